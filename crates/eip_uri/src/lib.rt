@@ -1,0 +1,6 @@
+// Endpoint URIs.
+#![tactic(auto)]
+
+pub mod uri;
+
+pub use uri::{After, Exist, Uri};
