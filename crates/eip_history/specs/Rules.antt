@@ -1,0 +1,193 @@
+-- Where each entry may come.
+use Rattle.std.specs.Prelude.{ℕ, ◌≡◌, ◌+◌, ◌<◌, ◌≤◌, ◌==◌, ◌&&◌, ◌||◌, not, nat_le, nat_lt, min, bytes_eq, Bool, true, false, cond, List, [], ◌∷◌, ◌++◌, Option, Some, None, IsTrue, is_some, is_none, length, filter, filter_map, find, MatchBool, ◌⊎◌, option_map, HoldsAt, Contains}
+use Rattle.eip_ledger.specs.declared.entry.Entry.{Entry}
+use Rattle.eip_ledger.specs.declared.entry.Kind.{Kind}
+use Rattle.eip_ledger.specs.declared.entry.Kind.TheVariants.{Pull, Accept, Refuse, SourceEnd, SourceFault, Start, Take, Answer, Tick, Force, Starve, Return}
+use Rattle.eip_frames.specs.declared.answer.Answer.{Answer as Reply}
+use Rattle.eip_frames.specs.declared.answer.Answer.TheVariants as reply
+use Rattle.eip_frames.specs.declared.request.Request.{Request}
+use Rattle.eip_frames.specs.declared.request.Request.TheVariants.{Send, Process, Test, Offer, Call, Spawn, Join, Arrive, Idem, Wait, Log, Finish}
+use Rattle.eip_exchange.specs.declared.end.Ended.{Ended as Finished}
+use Rattle.eip_exchange.specs.declared.end.End.{End}
+use Rattle.eip_exchange.specs.declared.end.End.TheVariants as end
+use Rattle.eip_exchange.specs.declared.message.Message.{Message}
+use Rattle.eip_frames.specs.declared.request.At.{At}
+use Rattle.eip_exchange.specs.declared.birth.Birth.{Birth}
+use Rattle.eip_ledger.specs.declared.place.Place.{Place}
+use Rattle.eip_ledger.specs.declared.place.Place.TheVariants as place_is
+use Rattle.eip_frames.specs.Fits.{fits, is_outside}
+use Rattle.eip_history.specs.Plan.{Plan, Added, Gives, Faults}
+use Rattle.eip_frames.specs.Fate.{Fate, AsksNext, Ends, Strays}
+use Rattle.eip_history.specs.Own.{Past, numbers_below, own, clock, numbered, source_state, SourceState, Idle, Out, Done, is_done, turns}
+use Rattle.eip_history.specs.Groups.{Group, Arrival, is_for, arrived, cause_at, folded_of, due_of, is_forced}
+use Rattle.eip_history.specs.Births.{Asked, births, groups, asked, story, next_number, arrival_of, fate}
+use Rattle.eip_history.specs.Place.{ended, joined, place, place_of, ready_numbers, waiting, busy, is_startable, hands, is_some_first}
+
+-- an answer with the request that it answers
+pub record Served : Type 0 where
+  pub worker : ℕ
+  pub asked : Asked
+  pub answer : Reply
+
+abbrev pub served_by : ℕ → Option Asked → Reply → List Served
+served_by w (Some k) a = record { worker = w; asked = k; answer = a } ∷ []
+served_by w None a = []
+
+abbrev pub served_in : Plan → Past → ℕ → Kind → List Served
+served_in s past w (Answer x a) = served_by w (asked s past x) a
+served_in s past w _ = []
+
+-- all answers with their requests, the oldest first: log, calls, commits and keys are read from it
+unfoldable pub served : Plan → Past → List Served
+served s [] = []
+served s (e ∷ past) = served s past ++ served_in s past e.worker e.kind
+
+pub record Claim : Type 0 where
+  pub number : ℕ
+  pub repository : List ℕ
+  pub key : List ℕ
+
+abbrev pub claim_for : ℕ → Request → Reply → Option Claim
+claim_for x (Idem r k eager remove) reply.Fresh = Some (record { number = x; repository = r; key = k })
+claim_for x _ _ = None
+
+abbrev pub claim_of : Served → Option Claim
+claim_of v = claim_for v.asked.birth.number v.asked.request v.answer
+
+abbrev pub claims : Plan → Past → List Claim
+claims s past = filter_map claim_of (served s past)
+
+abbrev pub keeps_end : End → Bool
+keeps_end end.Completed = true
+keeps_end _ = false
+
+abbrev pub keeps : Option Finished → Bool
+keeps None = true
+keeps (Some f) = keeps_end f.end
+
+abbrev pub is_claim_of : Plan → Past → List ℕ → List ℕ → Claim → Bool
+is_claim_of s past r k c = (bytes_eq c.repository r && bytes_eq c.key k) && keeps (ended s past c.number)
+
+abbrev pub claimer : Option Claim → Option ℕ
+claimer (Some c) = Some c.number
+claimer None = None
+
+-- who holds a key
+unfoldable pub holder_of : Plan → Past → List ℕ → List ℕ → Option ℕ
+holder_of s past r k = claimer (find (is_claim_of s past r k) (claims s past))
+
+abbrev pub message_so_far : Plan → Option Group → Option Message
+message_so_far s (Some g) = folded_of s g
+message_so_far s None = None
+
+-- what the strategy says of an arrival
+abbrev pub added_at : Plan → Past → ℕ → List ℕ → Message → Added
+added_at s past a key m = (s.group a).add (message_so_far s (find (is_for a key) (groups s past))) m
+
+abbrev pub is_fault : Added → Bool
+is_fault (Faults f) = true
+is_fault (Gives m) = false
+
+-- the group of an arrival, with it
+abbrev pub group_at : Plan → Past → Asked → ℕ → List ℕ → Message → Group
+group_at s past k a key m = arrived 1 (groups s past) a key (arrival_of past k m)
+
+abbrev pub next : Plan → Past → ℕ
+next s past = length (births s past) + 1
+
+-- what an answer must say
+abbrev pub Content : Plan → Past → Asked → Request → Reply → Type 0
+Content s past k (Offer q discard m) (reply.Queued n) = (n ≡ next s past) × (length (waiting s past q) < (s.queue q).size)
+Content s past k (Offer q discard m) (reply.Full l) = (l ≡ length (waiting s past q)) × ((s.queue q).size ≤ l)
+Content s past k (Offer q discard m) reply.Dropped = (s.queue q).size ≤ length (waiting s past q)
+Content s past k (Spawn seeds) (reply.Born first count) = first ≡ next s past
+Content s past k (Join first count) (reply.Joined parts) = joined s past first count ≡ Some parts
+Content s past k (Arrive a key m) (reply.Arrived n) =
+    (is_fault (added_at s past a key m) ≡ false) × ((group_at s past k a key m).number ≡ n) × (cause_at s (group_at s past k a key m) (arrival_of past k m) ≡ None)
+Content s past k (Arrive a key m) (reply.Closed g c n) =
+    (is_fault (added_at s past a key m) ≡ false) × ((group_at s past k a key m).number ≡ g) × (cause_at s (group_at s past k a key m) (arrival_of past k m) ≡ Some c) × (n ≡ next s past)
+Content s past k (Arrive a key m) (reply.Unfit f) = added_at s past a key m ≡ Faults f
+Content s past k (Idem r key eager remove) reply.Fresh = holder_of s past r key ≡ None
+Content s past k (Idem r key eager remove) (reply.Duplicate h) = holder_of s past r key ≡ Some h
+Content s past k (Wait t) (reply.Slept d) = d ≡ min (clock past + t) 18446744073709551615
+Content s past k _ _ = Unit {0}
+
+abbrev pub IsBelow : Plan → ℕ → Past → Type 0
+IsBelow s limit past = turns past + hands s past < limit
+
+-- who may answer: outside the holder, inner a Ready exchange below the limit
+abbrev pub MayAct : Plan → ℕ → Past → ℕ → ℕ → Bool → Type 0
+MayAct s limit past w x true = place s past x ≡ Some (place_is.InHand w)
+MayAct s limit past w x false = (place s past x ≡ Some place_is.Ready) × IsBelow s limit past
+
+pub record MayAnswer (s : Plan) (limit : ℕ) (past : Past) (w x : ℕ) (a : Reply) : Type 0 where
+  pub asks : Asked
+  pub asked_is : asked s past x ≡ Some asks
+  pub fitting : fits asks.request a ≡ true
+  pub act : MayAct s limit past w x (is_outside asks.request)
+  pub content : Content s past asks asks.request a
+
+abbrev pub outside_asked : Option Asked → Bool
+outside_asked (Some k) = is_outside k.request
+outside_asked None = false
+
+-- the sources that aren't finished, and the queues that are startable
+unfoldable pub unfinished : Plan → Past → List ℕ
+unfinished s past = numbers_below (λ t. s.is_source t && not (is_done (source_state t past))) s.routes
+
+unfoldable pub startable : Plan → Past → List ℕ
+startable s past = numbers_below (λ q. s.is_queue q && is_startable s past q) s.routes
+
+-- nobody may act: no exchange Ready, no hand out, no queue startable, every source finished
+pub record IsQuiet (s : Plan) (past : Past) : Type 0 where
+  pub none_ready : ready_numbers s past ≡ []
+  pub no_hand : hands s past ≡ 0
+  pub none_startable : startable s past ≡ []
+  pub sources_done : unfinished s past ≡ []
+
+abbrev pub retry_due : Place → Option ℕ
+retry_due (place_is.Retry d) = Some d
+retry_due _ = None
+
+abbrev pub or_least : ℕ → Option ℕ → Option ℕ
+or_least x None = Some x
+or_least x (Some y) = Some (min x y)
+
+abbrev pub least : List ℕ → Option ℕ
+least [] = None
+least (x ∷ xs) = or_least x (least xs)
+
+-- the moments at which somebody is due
+unfoldable pub dues : Plan → Past → List ℕ
+dues s past = filter_map (λ (b : Birth). retry_due (place_of s past b)) (births s past) ++ filter_map (due_of s) (groups s past)
+
+abbrev pub first : List ℕ → Option ℕ
+first [] = None
+first (x ∷ xs) = Some x
+
+abbrev pub any_group : (Group → Bool) → List Group → Bool
+any_group p [] = false
+any_group p (g ∷ gs) = p g || any_group p gs
+
+abbrev pub IsSource : Plan → ℕ → Type 0
+IsSource s t = (t < s.routes) × (s.is_source t ≡ true)
+
+-- the rule of an entry of worker w behind a past
+abbrev pub May : Plan → ℕ → Past → ℕ → Kind → Type 0
+May s limit past w (Pull t) = (IsSource s t) × (source_state t past ≡ Idle) × IsBelow s limit past
+May s limit past w (Accept t item m) = (IsSource s t) × (source_state t past ≡ Out w) × (m.properties ≡ [])
+May s limit past w (Refuse t item cause) = (IsSource s t) × (source_state t past ≡ Out w)
+May s limit past w (SourceEnd t) = (IsSource s t) × (source_state t past ≡ Out w)
+May s limit past w (SourceFault t) = (IsSource s t) × (source_state t past ≡ Out w)
+May s limit past w (Start q x) = (first (waiting s past q) ≡ Some x) × (busy s past q < (s.queue q).consumers) × IsBelow s limit past
+May s limit past w (Take x) = (place s past x ≡ Some place_is.Ready) × (outside_asked (asked s past x) ≡ true) × IsBelow s limit past
+May s limit past w (Answer x a) = MayAnswer s limit past w x a
+May s limit past w (Tick t) = IsQuiet s past × IsBelow s limit past × (least (dues s past) ≡ Some t)
+May s limit past w Force = IsQuiet s past × IsBelow s limit past × (least (dues s past) ≡ None) × (any_group (is_forced s) (groups s past) ≡ true)
+May s limit past w (Starve x) = (place s past x ≡ Some place_is.Ready) ⊎ (place s past x ≡ Some (place_is.InHand w))
+May s limit past w (Return x) = (w ≡ 0) × ((v : ℕ) × (place s past x ≡ Some (place_is.InHand v)))
+
+-- each entry meets its rule on the prefix before it
+unfoldable pub IsLegal : Plan → ℕ → ℕ → Past → Type 0
+IsLegal s workers limit [] = Unit {0}
+IsLegal s workers limit (e ∷ past) = IsLegal s workers limit past × (e.worker ≤ workers) × May s limit past e.worker e.kind
