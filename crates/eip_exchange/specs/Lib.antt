@@ -1,2 +1,4 @@
 pub mod Pairs
+pub mod Headers
+pub mod Keys
 pub mod Ends

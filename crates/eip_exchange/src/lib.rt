@@ -3,8 +3,15 @@
 
 pub mod birth;
 pub mod end;
+pub mod headers;
 pub mod message;
+pub mod name;
+pub mod properties;
+#[cfg(test)]
+mod tests;
 
 pub use birth::{Birth, Care, Origin, Work};
 pub use end::{End, Ended, Ending, Fault};
-pub use message::{Headers, Message, Properties};
+pub use headers::{HeaderFault, Headers};
+pub use message::Message;
+pub use properties::Properties;

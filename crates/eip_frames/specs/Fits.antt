@@ -1,5 +1,5 @@
 -- Which answers fit a request, and which requests are made of the outside.
-use Rattle.std.specs.Prelude.{ℕ, Bool, true, false, ◌==◌, not, length}
+use Rattle.std.specs.Prelude.{Bool, true, false, ◌==◌, not, length}
 use Rattle.eip_text.specs.Names.{is_name}
 use Rattle.eip_uri.specs.declared.uri.Exist.{Exist}
 use Rattle.eip_uri.specs.declared.uri.Exist.TheVariants as exist

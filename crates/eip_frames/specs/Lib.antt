@@ -1,2 +1,3 @@
 pub mod Fits
 pub mod Fate
+pub mod Targets

@@ -1,47 +1,24 @@
 -- The clock never goes back: who is due, is due no sooner than now.
-use Rattle.std.proofs.Common.{◌≡◌, ◌≢◌, ℕ, zero, suc, ◌+◌, ◌-◌, ◌*◌, ◌<◌, ◌≤◌, Bool, true, false, ◌==◌, ◌||◌, ◌&&◌, not, nat_lt, min, List, [], ◌∷◌, ◌++◌, length, filter, filter_map, map, Option, Some, None, is_some, refl, sym, ap, subst, ◌∙◌, arith, rules, eq-eqb, cond, append_assoc, length-append, inl, inr, IsTrue}
+use Rattle.std.proofs.Common.{◌≡◌, ℕ, zero, suc, ◌+◌, ◌≤◌, Bool, true, false, ◌==◌, min, List, [], ◌∷◌, ◌++◌, Option, Some, None, refl, subst, arith, cond, inl, inr}
 use Rattle.std.specs.List.{slice_get}
-use Rattle.std.specs.List.{cons_option as list_cons}
-use Rattle.std.proofs.lemmas.Bool.{cases_eq, ne_eqb, cases_Bool, eqb-true, lt-ltb, ltb-true, ltb-false, le-ltb}
-use Rattle.std.proofs.lemmas.List.{append-nil, length-map}
-use Rattle.eip_ledger.specs.declared.entry.Entry.{Entry}
-use Rattle.eip_exchange.specs.declared.message.Message.{Message}
-use Rattle.eip_frames.specs.declared.request.Seed.{Seed}
+use Rattle.std.proofs.lemmas.Bool.{cases_Bool, ltb-true, cases_lt, le-leb}
+use Rattle.std.proofs.Math.Nat.{le-min, min-le_right}
 use Rattle.eip_exchange.specs.declared.birth.Birth.{Birth}
-use Rattle.eip_exchange.specs.declared.end.End.{End}
-use Rattle.eip_exchange.specs.declared.birth.Origin.{Origin}
-use Rattle.eip_exchange.specs.declared.birth.Origin.TheVariants as from
 use Rattle.eip_frames.specs.declared.answer.Answer.{Answer as Reply}
 use Rattle.eip_frames.specs.declared.answer.Answer.TheVariants as reply
 use Rattle.eip_frames.specs.declared.request.Request.{Request}
 use Rattle.eip_frames.specs.declared.request.Request.TheVariants as request
 use Rattle.eip_frames.specs.declared.answer.Completion.{Completion}
-use Rattle.eip_ledger.specs.declared.place.Place.{Place}
-use Rattle.eip_ledger.specs.declared.place.Place.TheVariants as place_is
-use Rattle.eip_ledger.specs.declared.entry.Kind.{Kind}
-use Rattle.eip_ledger.specs.declared.entry.Kind.TheVariants.{Pull, Accept, Refuse, SourceEnd, SourceFault, Start, Take, Answer, Tick, Force, Starve, Return}
-use Rattle.eip_history.specs.Plan.{Plan}
-use Rattle.eip_frames.specs.Fate.{Fate, AsksNext, Ends, Strays}
-use Rattle.eip_history.specs.Own.{Past, own, concerns, numbered, numbers_below, last_answer, started, taker, answers, starved, clock, ticked}
-use Rattle.eip_history.specs.Groups.{Group, due_of, is_forced}
-use Rattle.eip_history.specs.Births.{Asked, Story, story, births, groups, fate, fate_by, asked_by, asked_of, made_at, made, made_by, made_for, grouped_by, grouped_for, part_births, group_births}
-use Rattle.eip_history.specs.Place.{ended, end_at, end_of, joined, cons_option, all_ended, pause_of, Pause, Sleeps, Joins, Runs, paused, in_hand, queued, place_by, place_of, numbers_at, count_at, ready_numbers, waiting, hands, pulls_out, is_ready, is_held, is_in, is_ended, is_busy, busy, is_born_into, is_startable, number_of, at_place}
-use Rattle.eip_history.specs.Rules.{IsLegal, May, IsQuiet, dues, least, or_least, retry_due, startable, unfinished, any_group}
-use Rattle.eip_history.specs.Stop.{is_over, unended, will_close, no_numbers}
-use Rattle.eip_history.specs.Laws.{PlanLaws, IsQueue}
-use Rattle.eip_history.proofs.Told.{births-numbered}
-use Rattle.eip_history.proofs.Unborn.{numbered-within}
-use Rattle.eip_history.proofs.Parts.{AreParts, parts-of, is_part_of, numbered-number}
-use Rattle.std.proofs.Common.{◌⊎◌}
-use Rattle.std.proofs.Math.Nat.{min-eq_left, min_comm, le-min, min-le_right}
-use Rattle.std.proofs.lemmas.Bool.{cases_lt, le-leb, leb-true}
 use Rattle.eip_frames.specs.declared.answer.Completion.TheVariants as by
-use Rattle.eip_history.specs.Groups.{Arrival, is_open, closed_by, is_due, is_at_most, put_group, arrived, is_for, last_at, after}
-use Rattle.eip_history.specs.Births.{group_birth, asked, arrival_of}
-use Rattle.eip_exchange.specs.Ends.{out_of_memory}
-use Rattle.eip_history.specs.Own.{or_answer}
-use Rattle.eip_history.specs.Rules.{MayAnswer, Content}
 use Rattle.eip_frames.specs.Fits.{fits}
+use Rattle.eip_ledger.specs.declared.entry.Kind.{Kind}
+use Rattle.eip_ledger.specs.declared.entry.Kind.TheVariants.{Answer, Tick, Force}
+use Rattle.eip_history.specs.Plan.{Plan}
+use Rattle.eip_history.specs.Own.{Past, own, concerns, last_answer, clock, or_answer}
+use Rattle.eip_history.specs.Groups.{Group, due_of, is_forced, Arrival, is_open, closed_by, is_due, put_group, arrived, is_for, last_at, after}
+use Rattle.eip_history.specs.Births.{Asked, Story, story, groups, grouped_by, grouped_for, asked, arrival_of}
+use Rattle.eip_history.specs.Place.{place_of}
+use Rattle.eip_history.specs.Rules.{IsLegal, May, dues, least, retry_due, MayAnswer, Content}
 use Rattle.eip_history.proofs.Told.{own-other, own-here}
 use Rattle.eip_history.proofs.Unborn.{legal-tail, legal-may, own-none}
 use Rattle.eip_history.proofs.Stuck.{Standing, InEnd, InQueue, Held, Asleep, Waits, Able, standing}
@@ -65,9 +42,12 @@ group-all P Q (g ∷ gs) h a = (h g a.0, group-all P Q gs h a.1)
 
 put-each : (P : Group → Type 0) (g : Group) (gs : List Group) → P g → EachGroup P gs → EachGroup P (put_group g gs)
 put-each P g [] p a = (p, tt)
-put-each P g (h ∷ gs) p a = elim (h.number == g.number) as (λ v. EachGroup P (cond v (g ∷ gs) (h ∷ put_group g gs))) [ true ↦ (p, a.1) | false ↦ (a.0, put-each P g gs p a.1) ]
+put-each P g (h ∷ gs) p a =
+    elim (h.number == g.number) as (λ v. EachGroup P (cond v (g ∷ gs) (h ∷ put_group g gs))) [ true ↦ (p, a.1) | false ↦ (a.0, put-each P g gs p a.1) ]
 
-closed-each : (P Q : Group → Type 0) (c : Completion) (p : Group → Bool) (gs : List Group) → ((g : Group) → p g ≡ true → Q (record g { closed = Some c })) → ((g : Group) → p g ≡ false → P g → Q g) → EachGroup P gs → EachGroup Q (closed_by c p gs)
+closed-each : (P Q : Group → Type 0) (c : Completion) (p : Group → Bool) (gs : List Group)
+    → ((g : Group) → p g ≡ true → Q (record g { closed = Some c })) → ((g : Group) → p g ≡ false → P g → Q g) → EachGroup P gs
+    → EachGroup Q (closed_by c p gs)
 closed-each P Q c p [] yes' no' a = tt
 closed-each P Q c p (g ∷ gs) yes' no' a =
     let rest = closed-each P Q c p gs yes' no' a.1 in
@@ -77,7 +57,7 @@ closed-each P Q c p (g ∷ gs) yes' no' a =
 abbrev pub Late : Plan → ℕ → Group → Type 0
 Late s now g = (d : ℕ) → due_of s g ≡ Some d → (now ≤ d) × (d ≤ most)
 
-last-push : (ps : List Arrival) (p : Arrival) → last_at (ps ++ p ∷ []) ≡ p.at
+pub last-push : (ps : List Arrival) (p : Arrival) → last_at (ps ++ p ∷ []) ≡ p.at
 last-push [] p = refl
 last-push (q ∷ []) p = refl
 last-push (q ∷ (r ∷ ps)) p = last-push (r ∷ ps) p
@@ -94,10 +74,12 @@ late-open : (s : Plan) (now : ℕ) (v : Bool) (at : ℕ) (o : Option ℕ) (d : �
 late-open s now true at o d l m h = after-late now at o d l m h
 late-open s now false at o d l m h = absurd (cc h)
 
-arrived-late : (s : Plan) (now n : ℕ) (gs : List Group) (a : ℕ) (key : List ℕ) (p : Arrival) (c : Option Completion) → now ≤ p.at → p.at ≤ most → Late s now (record (arrived n gs a key p) { closed = c })
+arrived-late : (s : Plan) (now n : ℕ) (gs : List Group) (a : ℕ) (key : List ℕ) (p : Arrival) (c : Option Completion) → now ≤ p.at → p.at ≤ most
+    → Late s now (record (arrived n gs a key p) { closed = c })
 arrived-late s now n [] a key p c l m = λ d h. late-open s now (is_open (record (arrived n [] a key p) { closed = c })) p.at (s.group a).timeout d l m h
 arrived-late s now n (g ∷ gs) a key p c l m = elim (cases_Bool (is_for a key g)) [
-  | inl t ↦ rw t (λ d h. let e = last-push g.parts p in let h' = rw e at h in late-open s now (is_open (record g { closed = c })) p.at (s.group g.aggregator).timeout d l m h')
+  | inl t ↦ rw t (λ d h. let e = last-push g.parts p in
+      let h' = rw e at h in late-open s now (is_open (record g { closed = c })) p.at (s.group g.aggregator).timeout d l m h')
   | inr f ↦ rw f (arrived-late s now (n + 1) gs a key p c l m)
 ]
 
@@ -108,14 +90,18 @@ arrived-late-open s now n (g ∷ gs) a key p l m = elim (cases_Bool (is_for a ke
   | inr f ↦ rw f (arrived-late-open s now (n + 1) gs a key p l m)
 ]
 
-late-for : (s : Plan) (t : Story) (past : Past) (k : Asked) (q : Request) (a : Reply) → clock past ≤ most → EachGroup (Late s (clock past)) t.groups → EachGroup (Late s (clock past)) (grouped_for t past k q a)
+late-for : (s : Plan) (t : Story) (past : Past) (k : Asked) (q : Request) (a : Reply) → clock past ≤ most → EachGroup (Late s (clock past)) t.groups
+    → EachGroup (Late s (clock past)) (grouped_for t past k q a)
 late-for s t past k (request.Offer q discard m) (reply.Queued n) l e = e
 late-for s t past k (request.Spawn seeds) (reply.Born first count) l e = e
-late-for s t past k (request.Arrive a key m) (reply.Arrived n) l e = put-each (Late s (clock past)) _ t.groups (arrived-late-open s (clock past) 1 t.groups a key (arrival_of past k m) (omega arith) l) e
-late-for s t past k (request.Arrive a key m) (reply.Closed g c n) l e = put-each (Late s (clock past)) _ t.groups (arrived-late s (clock past) 1 t.groups a key (arrival_of past k m) (Some c) (omega arith) l) e
+late-for s t past k (request.Arrive a key m) (reply.Arrived n) l e =
+    put-each (Late s (clock past)) _ t.groups (arrived-late-open s (clock past) 1 t.groups a key (arrival_of past k m) (omega arith) l) e
+late-for s t past k (request.Arrive a key m) (reply.Closed g c n) l e =
+    put-each (Late s (clock past)) _ t.groups (arrived-late s (clock past) 1 t.groups a key (arrival_of past k m) (Some c) (omega arith) l) e
 late-for s t past k _ _ l e = e
 
-late-by : (s : Plan) (t : Story) (past : Past) (o : Option Asked) (a : Reply) → clock past ≤ most → EachGroup (Late s (clock past)) t.groups → EachGroup (Late s (clock past)) (grouped_by t past o a)
+late-by : (s : Plan) (t : Story) (past : Past) (o : Option Asked) (a : Reply) → clock past ≤ most → EachGroup (Late s (clock past)) t.groups
+    → EachGroup (Late s (clock past)) (grouped_by t past o a)
 late-by s t past None a l e = e
 late-by s t past (Some k) a l e = late-for s t past k k.request a l e
 
@@ -149,7 +135,8 @@ slept-most s w limit (e ∷ past) y d legal h = by_test (concerns y e.kind) refl
         let b = min-le_right (clock past + q.0) most in
         omega (arith, b, c)
 
-    by_kind : (k : Kind) → May s limit past e.worker k → (last_answer (own y past) ≡ Some (reply.Slept d) → d ≤ most) → or_answer k (last_answer (own y past)) ≡ Some (reply.Slept d) → d ≤ most
+    by_kind : (k : Kind) → May s limit past e.worker k → (last_answer (own y past) ≡ Some (reply.Slept d) → d ≤ most)
+        → or_answer k (last_answer (own y past)) ≡ Some (reply.Slept d) → d ≤ most
     by_kind (Answer n a) may ih g = let born : a ≡ reply.Slept d = cc in answered n a may born
     by_kind _ may ih g = ih g
 
@@ -163,7 +150,8 @@ pub record IsLate (s : Plan) (past : Past) : Type 0 where
   pub groups_late : EachGroup (Late s (clock past)) (groups s past)
 
 -- who is due is due no sooner than now
-due-late : (s : Plan) (w limit : ℕ) (past : Past) (t : ℕ) → IsLegal s w limit past → IsLate s past → least (dues s past) ≡ Some t → (clock past ≤ t) × (t ≤ most)
+due-late : (s : Plan) (w limit : ℕ) (past : Past) (t : ℕ) → IsLegal s w limit past → IsLate s past → least (dues s past) ≡ Some t
+    → (clock past ≤ t) × (t ≤ most)
 due-late s w limit past t legal late h = elim (due-at s past t h) [
   | inl d ↦ by_standing d.1 d.3 (standing s past d.1)
   | inr d ↦ group-at (Late s (clock past)) (groups s past) d.0 d.1 late.groups_late d.2 t d.3
@@ -192,16 +180,23 @@ clock-tick v t past = refl
 
 late-tick : (s : Plan) (now t : ℕ) (gs : List Group) → EachGroup (Late s now) gs → EachGroup (Late s t) (closed_by by.Timeout (is_due s t) gs)
 late-tick s now t gs e = closed-each (Late s now) (Late s t) by.Timeout (is_due s t) gs (λ g y. closed-late s t by.Timeout g)
-    (λ g n h. λ d due. let x = h d due in let m = rw due at n in elim (cases_lt d t) [ inl l ↦ absurd (let k = le-leb d t (omega (arith, l)) in cc k) | inr l ↦ (l, x.1) ]) e
+    (λ g n h. λ d due. let x = h d due in
+    let m = rw due at n in elim (cases_lt d t) [ inl l ↦ absurd (let k = le-leb d t (omega (arith, l)) in cc k) | inr l ↦ (l, x.1) ]) e
 
-late-step : (s : Plan) (w limit v : ℕ) (k : Kind) (past : Past) → IsLegal s w limit ((record { worker = v; kind = k }) ∷ past) → IsLate s past → IsLate s ((record { worker = v; kind = k }) ∷ past)
+late-step : (s : Plan) (w limit v : ℕ) (k : Kind) (past : Past) → IsLegal s w limit ((record { worker = v; kind = k }) ∷ past) → IsLate s past
+    → IsLate s ((record { worker = v; kind = k }) ∷ past)
 unfolding clock story
 late-step s w limit v (Tick t) past legal late =
     let d = due-late s w limit past t (legal-tail s w limit _ past legal) late (legal-may s w limit _ past legal).2 in
     record { clock_most = d.1; groups_late = late-tick s (clock past) t (groups s past) late.groups_late }
 late-step s w limit v Force past legal late =
-    record { clock_most = late.clock_most; groups_late = closed-each (Late s (clock past)) (Late s (clock past)) by.Force (is_forced s) (groups s past) (λ g y. closed-late s (clock past) by.Force g) (λ g n h. h) late.groups_late }
-late-step s w limit v (Answer x a) past legal late = record { clock_most = late.clock_most; groups_late = late-by s (story s past) past (asked s past x) a late.clock_most late.groups_late }
+    record {
+      clock_most = late.clock_most;
+      groups_late = closed-each (Late s (clock past)) (Late s (clock past)) by.Force (is_forced s) (groups s past)
+          (λ g y. closed-late s (clock past) by.Force g) (λ g n h. h) late.groups_late;
+    }
+late-step s w limit v (Answer x a) past legal late =
+    record { clock_most = late.clock_most; groups_late = late-by s (story s past) past (asked s past x) a late.clock_most late.groups_late }
 late-step s w limit v _ past legal late = record { clock_most = late.clock_most; groups_late = late.groups_late }
 
 pub legal-late : (s : Plan) (w limit : ℕ) (past : Past) → IsLegal s w limit past → IsLate s past

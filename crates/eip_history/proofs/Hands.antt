@@ -1,46 +1,25 @@
 -- Who has a Take as newest entry is in hand, and how many parts are still to end.
-use Rattle.std.proofs.Common.{◌≡◌, ◌≢◌, ℕ, zero, suc, ◌+◌, ◌-◌, ◌*◌, ◌<◌, ◌≤◌, Bool, true, false, ◌==◌, ◌||◌, ◌&&◌, not, nat_lt, min, List, [], ◌∷◌, ◌++◌, length, filter, filter_map, map, Option, Some, None, is_some, refl, sym, ap, subst, ◌∙◌, arith, rules, eq-eqb, cond, append_assoc, length-append, inl, inr, IsTrue}
-use Rattle.std.specs.List.{slice_get}
-use Rattle.std.specs.List.{cons_option as list_cons}
-use Rattle.std.proofs.lemmas.Bool.{cases_eq, ne_eqb, cases_Bool, eqb-true, lt-ltb, ltb-true, ltb-false, le-ltb}
-use Rattle.std.proofs.lemmas.List.{append-nil, length-map}
-use Rattle.eip_ledger.specs.declared.entry.Entry.{Entry}
-use Rattle.eip_exchange.specs.declared.message.Message.{Message}
-use Rattle.eip_frames.specs.declared.request.Seed.{Seed}
+use Rattle.std.proofs.Common.{◌≡◌, ◌≢◌, ℕ, zero, suc, ◌+◌, ◌<◌, Bool, true, false, ◌==◌, not, List, [], ◌∷◌, Option, Some, None, is_some, refl, sym, ap, subst, ◌∙◌, arith}
+use Rattle.std.proofs.lemmas.Bool.{ne_eqb, eqb-true}
 use Rattle.eip_exchange.specs.declared.birth.Birth.{Birth}
-use Rattle.eip_exchange.specs.declared.end.End.{End}
 use Rattle.eip_exchange.specs.declared.birth.Origin.{Origin}
 use Rattle.eip_exchange.specs.declared.birth.Origin.TheVariants as from
-use Rattle.eip_frames.specs.declared.answer.Answer.{Answer as Reply}
-use Rattle.eip_frames.specs.declared.answer.Answer.TheVariants as reply
-use Rattle.eip_frames.specs.declared.request.Request.{Request}
-use Rattle.eip_frames.specs.declared.request.Request.TheVariants as request
-use Rattle.eip_frames.specs.declared.answer.Completion.{Completion}
+use Rattle.eip_exchange.specs.declared.end.Ended.{Ended as Finished}
+use Rattle.eip_frames.specs.Fate.{Fate, AsksNext, Ends, Strays}
 use Rattle.eip_ledger.specs.declared.place.Place.{Place}
 use Rattle.eip_ledger.specs.declared.place.Place.TheVariants as place_is
 use Rattle.eip_ledger.specs.declared.entry.Kind.{Kind}
-use Rattle.eip_ledger.specs.declared.entry.Kind.TheVariants.{Pull, Accept, Refuse, SourceEnd, SourceFault, Start, Take, Answer, Tick, Force, Starve, Return}
+use Rattle.eip_ledger.specs.declared.entry.Kind.TheVariants.{Take}
 use Rattle.eip_history.specs.Plan.{Plan}
-use Rattle.eip_frames.specs.Fate.{Fate, AsksNext, Ends, Strays}
-use Rattle.eip_history.specs.Own.{Past, own, concerns, numbered, numbers_below, last_answer, started, taker, answers, starved, clock, ticked}
-use Rattle.eip_history.specs.Groups.{Group, due_of, is_forced}
-use Rattle.eip_history.specs.Births.{Asked, Story, story, births, groups, fate, fate_by, asked_by, asked_of, made_at, made, made_by, made_for, grouped_by, grouped_for, part_births, group_births}
-use Rattle.eip_history.specs.Place.{ended, end_at, end_of, joined, cons_option, all_ended, pause_of, Pause, Sleeps, Joins, Runs, paused, in_hand, queued, place_by, place_of, numbers_at, count_at, ready_numbers, waiting, hands, pulls_out, is_ready, is_held, is_in, is_ended, is_busy, busy, is_born_into, is_startable, number_of, at_place}
-use Rattle.eip_history.specs.Rules.{IsLegal, May, IsQuiet, dues, least, or_least, retry_due, startable, unfinished, any_group}
-use Rattle.eip_history.specs.Stop.{is_over, unended, will_close, no_numbers}
-use Rattle.eip_history.specs.Laws.{PlanLaws, IsQueue}
-use Rattle.eip_history.proofs.Told.{births-numbered}
-use Rattle.eip_history.proofs.Unborn.{numbered-within}
-use Rattle.eip_history.proofs.Parts.{AreParts, parts-of, is_part_of, numbered-number}
-use Rattle.eip_exchange.specs.declared.end.Ended.{Ended as Finished}
-use Rattle.eip_history.specs.Own.{taken_by}
+use Rattle.eip_history.specs.Own.{Past, own, concerns, numbered, last_answer, started, taker, clock, taken_by}
+use Rattle.eip_history.specs.Births.{births, fate, fate_by}
+use Rattle.eip_history.specs.Place.{ended, end_of, joined, cons_option, all_ended, pause_of, paused, in_hand, queued, place_by, place_of}
+use Rattle.eip_history.specs.Rules.{IsLegal, May}
 use Rattle.eip_history.specs.Tables.{bit}
+use Rattle.eip_history.proofs.Parts.{numbered-number}
 use Rattle.eip_history.proofs.Told.{own-other, own-here}
-use Rattle.eip_history.proofs.Unborn.{legal-tail, legal-may, place-born, birth-stays, own-none, entry-born}
-use Rattle.eip_history.proofs.Places.{fate-other, ended-other}
-use Rattle.eip_history.proofs.Final.{end-place, ended-keeps}
+use Rattle.eip_history.proofs.Unborn.{legal-tail, legal-may, place-born, birth-stays, own-none}
 use Rattle.eip_history.proofs.Falls.{fate-take}
-use Rattle.eip_history.proofs.Stuck.{Standing, InEnd, InQueue, Held, Asleep, Waits, Able, standing}
 
 -- read from the own entries alone: it hasn't ended, and it has been started
 pub record IsLive (s : Plan) (b : Birth) (o : Past) : Type 0 where
@@ -58,17 +37,20 @@ ready-live : (s : Plan) (past : Past) (b : Birth) → place_of s past b ≡ plac
 unfolding place_of fate
 ready-live s past b h = by_fate (fate_by s b (own b.number past)) refl h
   where
-    by_fate : (f : Fate) → fate_by s b (own b.number past) ≡ f → place_by (clock past) (all_ended s past) b (own b.number past) f ≡ place_is.Ready → IsLive s b (own b.number past)
+    by_fate : (f : Fate) → fate_by s b (own b.number past) ≡ f → place_by (clock past) (all_ended s past) b (own b.number past) f ≡ place_is.Ready
+        → IsLive s b (own b.number past)
     by_fate (Ends e m) t g = absurd (cc g)
     by_fate (AsksNext q p) t g = record { no_end = rw t refl; out = queue-out b.origin (started (own b.number past)) _ g }
     by_fate Strays t g = record { no_end = rw t refl; out = queue-out b.origin (started (own b.number past)) _ g }
 
-pub taken-live : (s : Plan) (w limit : ℕ) (past : Past) (x v : ℕ) (b : Birth) → IsLegal s w limit past → b.number ≡ x → ((d : Birth) → numbered (births s past) x ≡ Some d → d ≡ b) → taker (own x past) ≡ Some v → IsLive s b (own x past)
+pub taken-live : (s : Plan) (w limit : ℕ) (past : Past) (x v : ℕ) (b : Birth) → IsLegal s w limit past → b.number ≡ x
+    → ((d : Birth) → numbered (births s past) x ≡ Some d → d ≡ b) → taker (own x past) ≡ Some v → IsLive s b (own x past)
 taken-live s w limit [] x v b legal n same h = absurd (let g = rw (own-none x) at h in cc g)
 taken-live s w limit (e ∷ past) x v b legal n same h =
     by_test (concerns x e.kind) refl (λ g. taken-live s w limit past x v b (legal-tail s w limit e past legal) n (λ d at. same d (birth-stays s e past x d at)) g)
   where
-    by_kind : (k : Kind) → May s limit past e.worker k → concerns x k ≡ true → taken_by e.worker k ≡ Some v → IsLive s b ((record { worker = e.worker; kind = k }) ∷ own x past)
+    by_kind : (k : Kind) → May s limit past e.worker k → concerns x k ≡ true → taken_by e.worker k ≡ Some v
+        → IsLive s b ((record { worker = e.worker; kind = k }) ∷ own x past)
     by_kind (Take y) may c g =
         let yx : y ≡ x = eqb-true y x c in
         let p = place-born s past y _ may.0 in
@@ -83,15 +65,17 @@ taken-live s w limit (e ∷ past) x v b legal n same h =
     by_test true c ih = rw (own-here x e past c) (by_kind e.kind (legal-may s w limit e past legal) c (rw (own-here x e past c) at h))
     by_test false c ih = rw (own-other x e past c) (ih (rw (own-other x e past c) at h))
 
--- who has a Take as newest entry is in hand: D8 and D10 agree
-pub taken-in-hand : (s : Plan) (w limit : ℕ) (past : Past) (x v : ℕ) (b : Birth) → IsLegal s w limit past → numbered (births s past) x ≡ Some b → taker (own b.number past) ≡ Some v → place_of s past b ≡ place_is.InHand v
+-- who has a Take as newest entry is in hand
+pub taken-in-hand : (s : Plan) (w limit : ℕ) (past : Past) (x v : ℕ) (b : Birth) → IsLegal s w limit past → numbered (births s past) x ≡ Some b
+    → taker (own b.number past) ≡ Some v → place_of s past b ≡ place_is.InHand v
 unfolding place_of fate
 taken-in-hand s w limit past x v b legal at t =
     let n = numbered-number s past x b at in
     let l = taken-live s w limit past b.number v b legal refl (λ d h. let g = rw n at h in cc) t in
     by_fate (fate_by s b (own b.number past)) refl l
   where
-    by_fate : (f : Fate) → fate_by s b (own b.number past) ≡ f → IsLive s b (own b.number past) → place_by (clock past) (all_ended s past) b (own b.number past) f ≡ place_is.InHand v
+    by_fate : (f : Fate) → fate_by s b (own b.number past) ≡ f → IsLive s b (own b.number past)
+        → place_by (clock past) (all_ended s past) b (own b.number past) f ≡ place_is.InHand v
     by_fate (Ends e m) u l = absurd (let g = l.no_end in let k = rw u at g in cc k)
     by_fate (AsksNext q p) u l = l.out _ ∙ ap (λ h. in_hand h (paused (clock past) (all_ended s past) (pause_of (last_answer (own b.number past))))) t
     by_fate Strays u l = l.out _ ∙ ap (λ h. in_hand h (paused (clock past) (all_ended s past) (pause_of (last_answer (own b.number past))))) t
@@ -110,11 +94,13 @@ all-ended-is s past first (suc k) = by_first (ended s past first) refl (all-ende
     by_rest (Some r) n h f = let z : 0 + n ≡ n = omega arith in rw z h
     by_rest None n h f = let z : 0 + n ≡ n = omega arith in rw z h
 
-    by_first : (o : Option Finished) → ended s past first ≡ o → is_some (joined s past (first + 1) k) ≡ (to_end s past (first + 1) k == 0) → is_some (cons_option o (joined s past (first + 1) k)) ≡ (bit (not (is_some o)) + to_end s past (first + 1) k == 0)
+    by_first : (o : Option Finished) → ended s past first ≡ o → is_some (joined s past (first + 1) k) ≡ (to_end s past (first + 1) k == 0)
+        → is_some (cons_option o (joined s past (first + 1) k)) ≡ (bit (not (is_some o)) + to_end s past (first + 1) k == 0)
     by_first None t ih = sym (ne_eqb (1 + to_end s past (first + 1) k) 0 (λ g. omega (arith, g)))
     by_first (Some f) t ih = by_rest (joined s past (first + 1) k) (to_end s past (first + 1) k) ih f
 
-pub to-end-same : (s : Plan) (past past' : Past) (first count : ℕ) → ((i : ℕ) → i < count → ended s past' (first + i) ≡ ended s past (first + i)) → to_end s past' first count ≡ to_end s past first count
+pub to-end-same : (s : Plan) (past past' : Past) (first count : ℕ) → ((i : ℕ) → i < count → ended s past' (first + i) ≡ ended s past (first + i))
+    → to_end s past' first count ≡ to_end s past first count
 to-end-same s past past' first zero h = refl
 to-end-same s past past' first (suc k) h =
     let z : first + 0 ≡ first = omega arith in
@@ -123,12 +109,14 @@ to-end-same s past past' first (suc k) h =
     omega (arith, here, there)
 
 -- where one part ends, one fewer is to end
-pub to-end-less : (s : Plan) (past past' : Past) (first count j : ℕ) → j < count → is_some (ended s past (first + j)) ≡ false → is_some (ended s past' (first + j)) ≡ true
+pub to-end-less : (s : Plan) (past past' : Past) (first count j : ℕ) → j < count → is_some (ended s past (first + j)) ≡ false
+    → is_some (ended s past' (first + j)) ≡ true
     → ((i : ℕ) → i < count → i ≢ j → ended s past' (first + i) ≡ ended s past (first + i)) → to_end s past' first count + 1 ≡ to_end s past first count
 to-end-less s past past' first zero j l was now h = absurd (omega (arith, l))
 to-end-less s past past' first (suc k) zero l was now h =
     let z : first + 0 ≡ first = omega arith in
-    let there = to-end-same s past past' (first + 1) k (λ i m. let e : first + suc i ≡ first + 1 + i = omega arith in rw e at (h (suc i) (omega (arith, m)) (omega arith))) in
+    let there = to-end-same s past past' (first + 1) k (λ i m. let e : first + suc i ≡ first + 1 + i = omega arith in
+    rw e at (h (suc i) (omega (arith, m)) (omega arith))) in
     let a = ap (λ v. bit (not v)) (rw z at was) in
     let b = ap (λ v. bit (not v)) (rw z at now) in
     omega (arith, there, a, b)
@@ -136,5 +124,7 @@ to-end-less s past past' first (suc k) (suc j) l was now h =
     let z : first + 0 ≡ first = omega arith in
     let e : first + suc j ≡ first + 1 + j = omega arith in
     let here = ap (λ o. bit (not (is_some o))) (rw z at (h 0 (omega arith) (omega arith))) in
-    let ih = to-end-less s past past' (first + 1) k j (omega (arith, l)) (rw e at was) (rw e at now) (λ i m ne. let e2 : first + suc i ≡ first + 1 + i = omega arith in rw e2 at (h (suc i) (omega (arith, m)) (omega (arith, ne)))) in
+    let ih = to-end-less s past past' (first + 1) k j (omega (arith, l)) (rw e at was) (rw e at now) (λ i m ne. let e2 : first + suc i
+    ≡ first + 1 + i = omega arith in
+    rw e2 at (h (suc i) (omega (arith, m)) (omega (arith, ne)))) in
     omega (arith, here, ih)

@@ -1,9 +1,9 @@
 -- Lemmas on lists alone: what one row's change does to a table.
-use Rattle.std.proofs.Common.{nat_lt, ◌≡◌, ◌≢◌, ℕ, zero, suc, ◌+◌, ◌<◌, ◌≤◌, Bool, true, false, ◌==◌, not, List, [], ◌∷◌, ◌++◌, length, set, filter, map, Option, Some, None, refl, sym, ap, subst, ◌∙◌, arith, rules, eq-eqb, cond, inl, inr}
+use Rattle.std.proofs.Common.{nat_lt, ◌≡◌, ◌≢◌, ℕ, zero, suc, ◌+◌, ◌<◌, ◌≤◌, Bool, true, false, List, [], ◌∷◌, ◌++◌, length, set, filter, map, Some, refl, sym, ap, subst, ◌∙◌, arith, eq-eqb, cond, inl, inr}
 use Rattle.std.specs.List.{slice_get}
 use Rattle.std.proofs.lemmas.List.{map-append}
 use Rattle.std.proofs.lemmas.List.Elements.{filter-append}
-use Rattle.std.proofs.lemmas.Bool.{cases_eq, ne_eqb, lt-ltb, ltb-true, cases_Bool}
+use Rattle.std.proofs.lemmas.Bool.{ne_eqb, lt-ltb, ltb-true, cases_Bool}
 use Rattle.eip_exchange.specs.declared.birth.Birth.{Birth}
 use Rattle.eip_history.specs.Tables.{Related, AreNumberedFrom, bit, without, put_in}
 
@@ -13,7 +13,8 @@ related-all R S [] (y ∷ ys) h r = r
 related-all R S (x ∷ xs) [] h r = r
 related-all R S (x ∷ xs) (y ∷ ys) h r = (h x y r.0, related-all R S xs ys h r.1)
 
-pub related-push : {A B : Type 0} (R : A → B → Type 0) (xs : List A) (ys : List B) (x : A) (y : B) → Related R xs ys → R x y → Related R (xs ++ x ∷ []) (ys ++ y ∷ [])
+pub related-push : {A B : Type 0} (R : A → B → Type 0) (xs : List A) (ys : List B) (x : A) (y : B) → Related R xs ys → R x y
+    → Related R (xs ++ x ∷ []) (ys ++ y ∷ [])
 related-push R [] [] x y r h = (h, tt)
 related-push R [] (z ∷ ys) x y r h = absurd r
 related-push R (z ∷ xs) [] x y r h = absurd r
@@ -25,7 +26,8 @@ related-length R [] (z ∷ ys) r = absurd r
 related-length R (z ∷ xs) [] r = absurd r
 related-length R (z ∷ xs) (w ∷ ys) r = ap suc (related-length R xs ys r.1)
 
-pub related-at : {A B : Type 0} (R : A → B → Type 0) (xs : List A) (ys : List B) (i : ℕ) (x : A) (y : B) → Related R xs ys → slice_get xs i ≡ Some x → slice_get ys i ≡ Some y → R x y
+pub related-at : {A B : Type 0} (R : A → B → Type 0) (xs : List A) (ys : List B) (i : ℕ) (x : A) (y : B) → Related R xs ys → slice_get xs i ≡ Some x
+    → slice_get ys i ≡ Some y → R x y
 related-at R [] ys i x y r p q = absurd (cc p)
 related-at R (z ∷ xs) [] i x y r p q = absurd r
 related-at R (z ∷ xs) (w ∷ ys) zero x y r p q =
@@ -50,7 +52,8 @@ pub related-set : {B : Type 0} (R S : Birth → B → Type 0) (n : ℕ) (bs : Li
 related-set R S n [] [] i r ns other here rel = tt
 related-set R S n [] (q ∷ rs) i r ns other here rel = absurd rel
 related-set R S n (b ∷ bs) [] i r ns other here rel = absurd rel
-related-set R S n (b ∷ bs) (q ∷ rs) zero r ns other here rel = (here b refl, related-above R S n (n + 1) bs rs (omega arith) ns.1 (λ d p ne. other d p (omega arith)) rel.1)
+related-set R S n (b ∷ bs) (q ∷ rs) zero r ns other here rel =
+    (here b refl, related-above R S n (n + 1) bs rs (omega arith) ns.1 (λ d p ne. other d p (omega arith)) rel.1)
 related-set R S n (b ∷ bs) (q ∷ rs) (suc i) r ns other here rel =
     (other b q (omega (arith, ns.0)) rel.0, related-set R S (n + 1) bs rs i r ns.1 (λ d p ne. other d p (omega arith)) here rel.1)
 
@@ -71,7 +74,8 @@ numbered-at n (c ∷ bs) zero b ns p =
 numbered-at n (c ∷ bs) (suc i) b ns p = omega (arith, numbered-at (n + 1) bs i b ns.1 p)
 
 -- a test that changes at no birth of the list keeps the same ones
-pub same-above : (p q : Birth → Bool) (n m : ℕ) (bs : List Birth) → n < m → AreNumberedFrom m bs → ((b : Birth) → b.number ≢ n → p b ≡ q b) → filter p bs ≡ filter q bs
+pub same-above : (p q : Birth → Bool) (n m : ℕ) (bs : List Birth) → n < m → AreNumberedFrom m bs → ((b : Birth) → b.number ≢ n → p b ≡ q b)
+    → filter p bs ≡ filter q bs
 same-above p q n m [] l ns other = refl
 same-above p q n m (b ∷ bs) l ns other =
     rw (other b (omega (arith, ns.0)), same-above p q n (m + 1) bs (omega arith) ns.1 other) refl
@@ -91,7 +95,8 @@ pub without-above : (p : Birth → Bool) (n m : ℕ) (bs : List Birth) → n < m
 without-above p n m [] l ns = refl
 without-above p n m (b ∷ bs) l ns =
     let ih = without-above p n (m + 1) bs (omega arith) ns.1 in
-    elim (p b) as (λ v. without n (map (λ (d : Birth). d.number) (cond v (b ∷ filter p bs) (filter p bs))) ≡ map (λ (d : Birth). d.number) (cond v (b ∷ filter p bs) (filter p bs))) [
+    elim (p b) as (λ v. without n (map (λ (d : Birth). d.number) (cond v (b ∷ filter p bs) (filter p bs)))
+    ≡ map (λ (d : Birth). d.number) (cond v (b ∷ filter p bs) (filter p bs))) [
       | true ↦ rw (ne_eqb b.number n (omega (arith, ns.0))) (ap (λ t. b.number ∷ t) ih)
       | false ↦ ih
     ]
@@ -105,14 +110,16 @@ numbers-leave p q n (b ∷ bs) zero ns other here =
     let rest = same-above p q n (n + 1) bs (omega arith) ns.1 (λ d ne. other d (omega arith)) in
     let gone = without-above p n (n + 1) bs (omega arith) ns.1 in
     let zero_more : n + 0 ≡ n = omega arith in
-    rw (here b refl, ← rest, zero_more) (elim (p b) as (λ v. map (λ (d : Birth). d.number) (filter p bs) ≡ without n (map (λ (d : Birth). d.number) (cond v (b ∷ filter p bs) (filter p bs)))) [
+    rw (here b refl, ← rest, zero_more) (elim (p b) as (λ v. map (λ (d : Birth). d.number) (filter p bs)
+    ≡ without n (map (λ (d : Birth). d.number) (cond v (b ∷ filter p bs) (filter p bs)))) [
       | true ↦ rw (eq-eqb b.number n ns.0) (sym gone)
       | false ↦ sym gone
     ])
 numbers-leave p q n (b ∷ bs) (suc i) ns other here =
     let ih = numbers-leave p q (n + 1) bs i ns.1 (λ d ne. other d (omega arith)) here in
     let e : n + suc i ≡ n + 1 + i = omega arith in
-    rw (← other b (omega (arith, ns.0)), e) (elim (p b) as (λ v. map (λ (d : Birth). d.number) (cond v (b ∷ filter q bs) (filter q bs)) ≡ without (n + 1 + i) (map (λ (d : Birth). d.number) (cond v (b ∷ filter p bs) (filter p bs)))) [
+    rw (← other b (omega (arith, ns.0)), e) (elim (p b) as (λ v. map (λ (d : Birth). d.number) (cond v (b ∷ filter q bs) (filter q bs))
+    ≡ without (n + 1 + i) (map (λ (d : Birth). d.number) (cond v (b ∷ filter p bs) (filter p bs)))) [
       | true ↦ rw (ne_eqb b.number (n + 1 + i) (omega (arith, ns.0))) (ap (λ t. b.number ∷ t) ih)
       | false ↦ ih
     ])
@@ -121,7 +128,8 @@ numbers-leave p q n (b ∷ bs) (suc i) ns other here =
 pub numbers-push : (p q : Birth → Bool) (bs : List Birth) (b : Birth) → filter q bs ≡ filter p bs → q b ≡ true
     → map (λ (d : Birth). d.number) (filter q (bs ++ b ∷ [])) ≡ map (λ (d : Birth). d.number) (filter p bs) ++ b.number ∷ []
 numbers-push p q bs b same here =
-    ap (map (λ (d : Birth). d.number)) (filter-append q bs (b ∷ [])) ∙ (map-append (λ (d : Birth). d.number) (filter q bs) (filter q (b ∷ [])) ∙ rw (here, same) refl)
+    ap (map (λ (d : Birth). d.number)) (filter-append q bs (b ∷ []))
+    ∙ (map-append (λ (d : Birth). d.number) (filter q bs) (filter q (b ∷ [])) ∙ rw (here, same) refl)
 
 -- one birth that passed may pass no longer: the rest stays
 pub shrink-at : (p q : Birth → Bool) (n : ℕ) (bs : List Birth) (i : ℕ) → AreNumberedFrom n bs
@@ -130,10 +138,16 @@ pub shrink-at : (p q : Birth → Bool) (n : ℕ) (bs : List Birth) (i : ℕ) →
 shrink-at p q n [] i ns other here = omega arith
 shrink-at p q n (b ∷ bs) zero ns other here =
     let same = ap length (same-above p q n (n + 1) bs (omega arith) ns.1 (λ d ne. other d (omega arith))) in
-    rw (here b refl) (elim (q b) as (λ v. length (cond v (b ∷ filter q bs) (filter q bs)) ≤ length (b ∷ filter p bs)) [ true ↦ omega (arith, same) | false ↦ omega (arith, same) ])
+    rw (here b refl) (elim (q b) as (λ v. length (cond v (b ∷ filter q bs) (filter q bs)) ≤ length (b ∷ filter p bs)) [
+      | true ↦ omega (arith, same)
+      | false ↦ omega (arith, same)
+    ])
 shrink-at p q n (b ∷ bs) (suc i) ns other here =
     let ih = shrink-at p q (n + 1) bs i ns.1 (λ d ne. other d (omega arith)) here in
-    rw (other b (omega (arith, ns.0))) (elim (q b) as (λ v. length (cond v (b ∷ filter q bs) (filter q bs)) ≤ length (cond v (b ∷ filter p bs) (filter p bs))) [ true ↦ omega (arith, ih) | false ↦ ih ])
+    rw (other b (omega (arith, ns.0))) (elim (q b) as (λ v. length (cond v (b ∷ filter q bs) (filter q bs)) ≤ length (cond v (b ∷ filter p bs) (filter p bs))) [
+      | true ↦ omega (arith, ih)
+      | false ↦ ih
+    ])
 
 -- one birth that passed passes no longer: one fewer
 pub fewer-at : (p q : Birth → Bool) (n : ℕ) (bs : List Birth) (i : ℕ) (c : Birth) → slice_get bs i ≡ Some c → AreNumberedFrom n bs
@@ -146,11 +160,16 @@ fewer-at p q n (b ∷ bs) zero c at ns other here =
     rw (h.0, h.1) (omega (arith, same))
 fewer-at p q n (b ∷ bs) (suc i) c at ns other here =
     let ih = fewer-at p q (n + 1) bs i c at ns.1 (λ d ne. other d (omega arith)) here in
-    rw (other b (omega (arith, ns.0))) (elim (q b) as (λ v. length (cond v (b ∷ filter q bs) (filter q bs)) < length (cond v (b ∷ filter p bs) (filter p bs))) [ true ↦ omega (arith, ih) | false ↦ ih ])
+    rw (other b (omega (arith, ns.0))) (elim (q b) as (λ v. length (cond v (b ∷ filter q bs) (filter q bs)) < length (cond v (b ∷ filter p bs) (filter p bs))) [
+      | true ↦ omega (arith, ih)
+      | false ↦ ih
+    ])
 
 pub filter-length : {A : Type 0} (p : A → Bool) (xs : List A) → length (filter p xs) ≤ length xs
 filter-length p [] = omega arith
-filter-length p (x ∷ xs) = let ih = filter-length p xs in elim (p x) as (λ v. length (cond v (x ∷ filter p xs) (filter p xs)) ≤ length (x ∷ xs)) [ true ↦ omega (arith, ih) | false ↦ omega (arith, ih) ]
+filter-length p (x ∷ xs) =
+    let ih = filter-length p xs in
+    elim (p x) as (λ v. length (cond v (x ∷ filter p xs) (filter p xs)) ≤ length (x ∷ xs)) [ true ↦ omega (arith, ih) | false ↦ omega (arith, ih) ]
 
 pub slice_get-some : {A : Type 0} (xs : List A) (i : ℕ) → i < length xs → (x : A) × (slice_get xs i ≡ Some x)
 slice_get-some [] i l = absurd (omega arith)
@@ -169,7 +188,8 @@ put-front : (p : Birth → Bool) (n m : ℕ) (bs : List Birth) → n < m → Are
 put-front p n m [] l ns = refl
 put-front p n m (b ∷ bs) l ns =
     let ih = put-front p n (m + 1) bs (omega arith) ns.1 in
-    elim (p b) as (λ v. put_in n (map (λ (d : Birth). d.number) (cond v (b ∷ filter p bs) (filter p bs))) ≡ n ∷ map (λ (d : Birth). d.number) (cond v (b ∷ filter p bs) (filter p bs))) [
+    elim (p b) as (λ v. put_in n (map (λ (d : Birth). d.number) (cond v (b ∷ filter p bs) (filter p bs)))
+    ≡ n ∷ map (λ (d : Birth). d.number) (cond v (b ∷ filter p bs) (filter p bs))) [
       | true ↦ rw (lt-true n b.number (omega (arith, ns.0))) refl
       | false ↦ ih
     ]
@@ -188,7 +208,8 @@ numbers-join p q n (b ∷ bs) (suc i) c at ns other here =
     let ih = numbers-join p q (n + 1) bs i c at ns.1 (λ d ne. other d (omega arith)) here in
     let e : n + suc i ≡ n + 1 + i = omega arith in
     let no : nat_lt (n + 1 + i) b.number ≡ false = lt-false (n + 1 + i) b.number (omega (arith, ns.0)) in
-    rw (← other b (omega (arith, ns.0)), e) (elim (p b) as (λ v. map (λ (d : Birth). d.number) (cond v (b ∷ filter q bs) (filter q bs)) ≡ put_in (n + 1 + i) (map (λ (d : Birth). d.number) (cond v (b ∷ filter p bs) (filter p bs)))) [
+    rw (← other b (omega (arith, ns.0)), e) (elim (p b) as (λ v. map (λ (d : Birth). d.number) (cond v (b ∷ filter q bs) (filter q bs))
+    ≡ put_in (n + 1 + i) (map (λ (d : Birth). d.number) (cond v (b ∷ filter p bs) (filter p bs)))) [
       | true ↦ rw no (ap (λ t. b.number ∷ t) ih)
       | false ↦ ih
     ])
@@ -202,9 +223,19 @@ count-at p q n (b ∷ bs) zero c at ns other =
     let e : b ≡ c = cc in
     let same = ap length (same-above p q n (n + 1) bs (omega arith) ns.1 (λ d ne. other d (omega arith))) in
     rw (← e) (elim (p b) as (λ v. length (cond (q b) (b ∷ filter q bs) (filter q bs)) + bit v ≡ length (cond v (b ∷ filter p bs) (filter p bs)) + bit (q b)) [
-      | true ↦ elim (q b) as (λ u. length (cond u (b ∷ filter q bs) (filter q bs)) + 1 ≡ length (b ∷ filter p bs) + bit u) [ true ↦ omega (arith, same) | false ↦ omega (arith, same) ]
-      | false ↦ elim (q b) as (λ u. length (cond u (b ∷ filter q bs) (filter q bs)) + 0 ≡ length (filter p bs) + bit u) [ true ↦ omega (arith, same) | false ↦ omega (arith, same) ]
+      | true ↦ elim (q b) as (λ u. length (cond u (b ∷ filter q bs) (filter q bs)) + 1 ≡ length (b ∷ filter p bs) + bit u) [
+        | true ↦ omega (arith, same)
+        | false ↦ omega (arith, same)
+      ]
+      | false ↦ elim (q b) as (λ u. length (cond u (b ∷ filter q bs) (filter q bs)) + 0 ≡ length (filter p bs) + bit u) [
+        | true ↦ omega (arith, same)
+        | false ↦ omega (arith, same)
+      ]
     ])
 count-at p q n (b ∷ bs) (suc i) c at ns other =
     let ih = count-at p q (n + 1) bs i c at ns.1 (λ d ne. other d (omega arith)) in
-    rw (other b (omega (arith, ns.0))) (elim (q b) as (λ v. length (cond v (b ∷ filter q bs) (filter q bs)) + bit (p c) ≡ length (cond v (b ∷ filter p bs) (filter p bs)) + bit (q c)) [ true ↦ omega (arith, ih) | false ↦ ih ])
+    rw (other b (omega (arith, ns.0))) (elim (q b) as (λ v. length (cond v (b ∷ filter q bs) (filter q bs)) + bit (p c)
+    ≡ length (cond v (b ∷ filter p bs) (filter p bs)) + bit (q c)) [
+      | true ↦ omega (arith, ih)
+      | false ↦ ih
+    ])

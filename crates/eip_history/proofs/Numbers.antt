@@ -1,46 +1,27 @@
 -- The numbers at a place behind one more entry.
-use Rattle.std.proofs.Common.{◌≡◌, ◌≢◌, ℕ, zero, suc, ◌+◌, ◌-◌, ◌<◌, ◌≤◌, Bool, true, false, ◌==◌, ◌||◌, ◌&&◌, not, nat_lt, min, List, [], ◌∷◌, ◌++◌, length, filter, filter_map, map, Option, Some, None, is_some, refl, sym, ap, subst, ◌∙◌, arith, rules, eq-eqb, cond, append_assoc, length-append, inl, inr, IsTrue}
+use Rattle.std.proofs.Common.{◌≡◌, ◌≢◌, ℕ, suc, ◌+◌, ◌<◌, ◌≤◌, Bool, true, false, ◌==◌, List, [], ◌∷◌, ◌++◌, length, filter, map, Some, refl, sym, ap, subst, ◌∙◌, arith, eq-eqb, cond, inl, inr}
 use Rattle.std.specs.List.{slice_get}
-use Rattle.std.specs.List.{cons_option as list_cons}
-use Rattle.std.proofs.lemmas.Bool.{cases_eq, ne_eqb, cases_Bool, eqb-true, lt-ltb, ltb-true, ltb-false, le-ltb}
-use Rattle.std.proofs.lemmas.List.{append-nil, length-map}
-use Rattle.eip_ledger.specs.declared.entry.Entry.{Entry}
-use Rattle.eip_exchange.specs.declared.message.Message.{Message}
-use Rattle.eip_frames.specs.declared.request.Seed.{Seed}
-use Rattle.eip_exchange.specs.declared.birth.Birth.{Birth}
-use Rattle.eip_exchange.specs.declared.end.End.{End}
-use Rattle.eip_exchange.specs.declared.birth.Origin.{Origin}
-use Rattle.eip_exchange.specs.declared.birth.Origin.TheVariants as from
-use Rattle.eip_frames.specs.declared.answer.Answer.{Answer as Reply}
-use Rattle.eip_frames.specs.declared.answer.Answer.TheVariants as reply
-use Rattle.eip_frames.specs.declared.request.Request.{Request}
-use Rattle.eip_frames.specs.declared.request.Request.TheVariants as request
-use Rattle.eip_frames.specs.declared.answer.Completion.{Completion}
-use Rattle.eip_ledger.specs.declared.place.Place.{Place}
-use Rattle.eip_ledger.specs.declared.place.Place.TheVariants as place_is
-use Rattle.eip_ledger.specs.declared.entry.Kind.{Kind}
-use Rattle.eip_ledger.specs.declared.entry.Kind.TheVariants.{Pull, Accept, Refuse, SourceEnd, SourceFault, Start, Take, Answer, Tick, Force, Starve, Return}
-use Rattle.eip_history.specs.Plan.{Plan}
-use Rattle.eip_frames.specs.Fate.{Fate, AsksNext, Ends, Strays}
-use Rattle.eip_history.specs.Own.{Past, own, concerns, numbered, numbers_below, last_answer, started, taker, answers, starved, clock, ticked}
-use Rattle.eip_history.specs.Groups.{Group, due_of, is_forced}
-use Rattle.eip_history.specs.Births.{Asked, Story, story, births, groups, fate, fate_by, asked_by, asked_of, made_at, made, made_by, made_for, grouped_by, grouped_for, part_births, group_births}
-use Rattle.eip_history.specs.Place.{ended, end_at, end_of, joined, cons_option, all_ended, pause_of, Pause, Sleeps, Joins, Runs, paused, in_hand, queued, place_by, place_of, numbers_at, count_at, ready_numbers, waiting, hands, pulls_out, is_ready, is_held, is_in, is_ended, is_busy, busy, is_born_into, is_startable, number_of, at_place}
-use Rattle.eip_history.specs.Rules.{IsLegal, May, IsQuiet, dues, least, or_least, retry_due, startable, unfinished, any_group}
-use Rattle.eip_history.specs.Stop.{is_over, unended, will_close, no_numbers}
-use Rattle.eip_history.specs.Laws.{PlanLaws, IsQueue}
-use Rattle.eip_history.proofs.Told.{births-numbered}
-use Rattle.eip_history.proofs.Unborn.{numbered-within}
-use Rattle.eip_history.proofs.Parts.{AreParts, parts-of, is_part_of, numbered-number}
+use Rattle.std.proofs.lemmas.Bool.{ne_eqb, cases_Bool, eqb-true}
 use Rattle.std.proofs.lemmas.List.{map-append}
 use Rattle.std.proofs.lemmas.List.Elements.{filter-append}
+use Rattle.eip_exchange.specs.declared.birth.Birth.{Birth}
+use Rattle.eip_frames.specs.Fate.{Fate, AsksNext, Ends, Strays}
+use Rattle.eip_ledger.specs.declared.entry.Entry.{Entry}
+use Rattle.eip_ledger.specs.declared.place.Place.{Place}
+use Rattle.eip_ledger.specs.declared.place.Place.TheVariants as place_is
+use Rattle.eip_ledger.specs.declared.entry.Kind.TheVariants.{Tick}
+use Rattle.eip_history.specs.Plan.{Plan}
+use Rattle.eip_history.specs.Own.{Past, own, concerns, numbered, clock, ticked}
+use Rattle.eip_history.specs.Births.{births, fate, fate_by, made_at}
+use Rattle.eip_history.specs.Place.{end_of, all_ended, queued, place_by, place_of, numbers_at, number_of}
+use Rattle.eip_history.specs.Rules.{IsLegal}
+use Rattle.eip_history.specs.Laws.{PlanLaws}
 use Rattle.eip_history.specs.Tables.{AreNumberedFrom, without, put_in}
-use Rattle.eip_history.specs.Births.{item_birth, next_number}
-use Rattle.eip_history.proofs.Lists.{filter-same, numbers-leave, numbers-join, same-at}
-use Rattle.eip_history.proofs.Told.{births-more, made-numbered, own-other, own-here}
-use Rattle.eip_history.proofs.Unborn.{legal-tail, legal-may, newborn-own, place-born, asked-born, entry-born}
-use Rattle.eip_history.proofs.Places.{place-other, place-end-other, EndsNone, ended-other, ended-same, fate-other, place-tick, woken}
-use Rattle.eip_history.proofs.Stuck.{Standing, InEnd, InQueue, Held, Asleep, Waits, Able, standing}
+use Rattle.eip_history.proofs.Told.{births-numbered, births-more, made-numbered}
+use Rattle.eip_history.proofs.Parts.{is_part_of, numbered-number}
+use Rattle.eip_history.proofs.Lists.{filter-same, numbers-leave, numbers-join}
+use Rattle.eip_history.proofs.Unborn.{legal-tail, newborn-own}
+use Rattle.eip_history.proofs.Places.{place-other, place-end-other, EndsNone, ended-other, ended-same, place-tick, woken}
 
 -- where a newborn stands
 abbrev pub newborn_place : Birth → Place
@@ -56,42 +37,54 @@ unfolding place_of fate
 newborn-at s laws past b h =
     ap (λ o. place_by (clock past) (all_ended s past) b o (fate_by s b o)) h ∙ newborn-by s laws (clock past) (all_ended s past) b (s.mean b []) refl
 
-newborn-filter : (s : Plan) (laws : PlanLaws s) (past : Past) (p : Place → Bool) (n m : ℕ) (bs : List Birth) → n < m → ((x : ℕ) → n < x → own x past ≡ []) → AreNumberedFrom m bs
+newborn-filter : (s : Plan) (laws : PlanLaws s) (past : Past) (p : Place → Bool) (n m : ℕ) (bs : List Birth) → n < m
+    → ((x : ℕ) → n < x → own x past ≡ []) → AreNumberedFrom m bs
     → filter (λ (b : Birth). p (place_of s past b)) bs ≡ filter (λ (b : Birth). p (newborn_place b)) bs
 newborn-filter s laws past p n m [] l h ns = refl
 newborn-filter s laws past p n m (b ∷ bs) l h ns =
     rw (newborn-at s laws past b (h b.number (omega (arith, ns.0, l))), newborn-filter s laws past p n (m + 1) bs (omega (arith, l)) h ns.1) refl
 
 -- the numbers at a place: those of the births before, by any test that tells their place behind the entry, and the newborn's
-pub numbers-after : (s : Plan) (laws : PlanLaws s) (w limit : ℕ) (e : Entry) (past : Past) → IsLegal s w limit (e ∷ past) → (p : Place → Bool) (q : Birth → Bool)
+pub numbers-after : (s : Plan) (laws : PlanLaws s) (w limit : ℕ) (e : Entry) (past : Past) → IsLegal s w limit (e ∷ past)
+    → (p : Place → Bool) (q : Birth → Bool)
     → filter (λ (b : Birth). p (place_of s (e ∷ past) b)) (births s past) ≡ filter q (births s past)
     → numbers_at s (e ∷ past) p ≡ map number_of (filter q (births s past)) ++ map number_of (filter (λ (b : Birth). p (newborn_place b)) (made_at s past e.kind))
 unfolding numbers_at
 numbers-after s laws w limit e past legal p q h =
     let r : Birth → Bool = λ b. p (place_of s (e ∷ past) b) in
-    let new = newborn-filter s laws (e ∷ past) p (length (births s past)) (length (births s past) + 1) (made_at s past e.kind) (omega arith) (λ x l. newborn-own s w limit e past x legal l) (made-numbered s past e.kind) in
+    let new = newborn-filter s laws (e ∷ past) p (length (births s past)) (length (births s past)
+    + 1) (made_at s past e.kind) (omega arith) (λ x l. newborn-own s w limit e past x legal l) (made-numbered s past e.kind) in
     ap (λ bs. map number_of (filter r bs)) (births-more s e past)
     ∙ (ap (map number_of) (filter-append r (births s past) (made_at s past e.kind))
     ∙ (map-append number_of (filter r (births s past)) (filter r (made_at s past e.kind))
-    ∙ (ap (λ xs. map number_of xs ++ map number_of (filter r (made_at s past e.kind))) h ∙ ap (λ xs. map number_of (filter q (births s past)) ++ map number_of xs) new)))
+    ∙ (ap (λ xs. map number_of xs ++ map number_of (filter r (made_at s past e.kind))) h
+    ∙ ap (λ xs. map number_of (filter q (births s past)) ++ map number_of xs) new)))
 
-pub numbers-at-is : (s : Plan) (past : Past) (p : Place → Bool) → map number_of (filter (λ (b : Birth). p (place_of s past b)) (births s past)) ≡ numbers_at s past p
+pub numbers-at-is : (s : Plan) (past : Past) (p : Place → Bool)
+    → map number_of (filter (λ (b : Birth). p (place_of s past b)) (births s past)) ≡ numbers_at s past p
 unfolding numbers_at
 numbers-at-is s past p = refl
 
 -- family 1: an entry of nobody and without a Tick (Pull, Accept, Refuse, SourceEnd, SourceFault, Force)
-pub numbers-quiet : (s : Plan) (laws : PlanLaws s) (w limit : ℕ) (e : Entry) (past : Past) → IsLegal s w limit (e ∷ past) → ((x : ℕ) → concerns x e.kind ≡ false) → ((n : ℕ) → ticked e.kind n ≡ n) → (p : Place → Bool)
+pub numbers-quiet : (s : Plan) (laws : PlanLaws s) (w limit : ℕ) (e : Entry) (past : Past) → IsLegal s w limit (e ∷ past)
+    → ((x : ℕ) → concerns x e.kind ≡ false) → ((n : ℕ) → ticked e.kind n ≡ n) → (p : Place → Bool)
     → numbers_at s (e ∷ past) p ≡ numbers_at s past p ++ map number_of (filter (λ (b : Birth). p (newborn_place b)) (made_at s past e.kind))
 numbers-quiet s laws w limit e past legal none t p =
-    numbers-after s laws w limit e past legal p (λ b. p (place_of s past b)) (filter-same _ _ (births s past) (λ b. ap p (place-other s w limit e past b (legal-tail s w limit e past legal) (λ x d at. ended-other s e past x d at (none x)) (none b.number) t)))
+    numbers-after s laws w limit e past legal p
+    (λ b. p (place_of s past b)) (filter-same _ _ (births s past)
+    (λ b. ap p (place-other s w limit e past b (legal-tail s w limit e past legal) (λ x d at. ended-other s e past x d at (none x)) (none b.number) t)))
     ∙ ap (λ xs. xs ++ map number_of (filter (λ (b : Birth). p (newborn_place b)) (made_at s past e.kind))) (numbers-at-is s past p)
 
 -- family 2: a Tick
-pub numbers-tick : (s : Plan) (laws : PlanLaws s) (w limit v t : ℕ) (past : Past) → IsLegal s w limit ((record { worker = v; kind = Tick t }) ∷ past) → clock past ≤ t → (p : Place → Bool)
-    → numbers_at s ((record { worker = v; kind = Tick t }) ∷ past) p ≡ map number_of (filter (λ (b : Birth). p (woken t (place_of s past b))) (births s past)) ++ map number_of (filter (λ (b : Birth). p (newborn_place b)) (made_at s past (Tick t)))
+pub numbers-tick : (s : Plan) (laws : PlanLaws s) (w limit v t : ℕ) (past : Past) → IsLegal s w limit ((record { worker = v; kind = Tick t }) ∷ past)
+    → clock past ≤ t → (p : Place → Bool)
+    → numbers_at s ((record { worker = v; kind = Tick t }) ∷ past) p
+    ≡ map number_of (filter (λ (b : Birth). p (woken t (place_of s past b))) (births s past))
+    ++ map number_of (filter (λ (b : Birth). p (newborn_place b)) (made_at s past (Tick t)))
 numbers-tick s laws w limit v t past legal l p =
     let e : Entry = record { worker = v; kind = Tick t } in
-    numbers-after s laws w limit e past legal p (λ b. p (woken t (place_of s past b))) (filter-same _ _ (births s past) (λ b. ap p (place-tick s w limit v t past b (legal-tail s w limit e past legal) l)))
+    numbers-after s laws w limit e past legal p
+    (λ b. p (woken t (place_of s past b))) (filter-same _ _ (births s past) (λ b. ap p (place-tick s w limit v t past b (legal-tail s w limit e past legal) l)))
 
 -- the fate of x ends behind the entry as it ended before
 ends-none-own : (s : Plan) (e : Entry) (past : Past) (x : ℕ) → ((y : ℕ) → y ≢ x → concerns y e.kind ≡ false)
@@ -102,7 +95,8 @@ ends-none-own s e past x only same y b at = elim (cases_Bool (y == x)) [
 ]
 
 -- family 3: an entry of x that ends nothing: only x's own place changes; x = i + 1 leaves the numbers, joins them, or stays
-pub numbers-own-leave : (s : Plan) (laws : PlanLaws s) (w limit : ℕ) (e : Entry) (past : Past) (i : ℕ) → IsLegal s w limit (e ∷ past) → ((y : ℕ) → y ≢ 1 + i → concerns y e.kind ≡ false) → ((n : ℕ) → ticked e.kind n ≡ n)
+pub numbers-own-leave : (s : Plan) (laws : PlanLaws s) (w limit : ℕ) (e : Entry) (past : Past) (i : ℕ) → IsLegal s w limit (e ∷ past)
+    → ((y : ℕ) → y ≢ 1 + i → concerns y e.kind ≡ false) → ((n : ℕ) → ticked e.kind n ≡ n)
     → EndsNone s e past → (p : Place → Bool) → ((b : Birth) → slice_get (births s past) i ≡ Some b → p (place_of s (e ∷ past) b) ≡ false)
     → numbers_at s (e ∷ past) p ≡ without (1 + i) (numbers_at s past p) ++ map number_of (filter (λ (b : Birth). p (newborn_place b)) (made_at s past e.kind))
 numbers-own-leave s laws w limit e past i legal only t none p here =
@@ -113,17 +107,20 @@ numbers-own-leave s laws w limit e past i legal only t none p here =
     ∙ ap (without (1 + i)) (numbers-at-is s past p))
 
 -- family 4: an entry of x that ends it: x leaves, and its parent may join or leave besides. q is the test between
-pub numbers-end : (s : Plan) (laws : PlanLaws s) (w limit : ℕ) (e : Entry) (past : Past) (i j : ℕ) (d c : Birth) → IsLegal s w limit (e ∷ past) → ((y : ℕ) → y ≢ 1 + i → concerns y e.kind ≡ false) → ((n : ℕ) → ticked e.kind n ≡ n)
+pub numbers-end : (s : Plan) (laws : PlanLaws s) (w limit : ℕ) (e : Entry) (past : Past) (i j : ℕ) (d c : Birth) → IsLegal s w limit (e ∷ past)
+    → ((y : ℕ) → y ≢ 1 + i → concerns y e.kind ≡ false) → ((n : ℕ) → ticked e.kind n ≡ n)
     → slice_get (births s past) i ≡ Some d → slice_get (births s past) j ≡ Some c → ((y : ℕ) → y ≢ 1 + j → is_part_of y d.origin ≡ false) → i ≢ j
     → (p : Place → Bool) → p (place_of s (e ∷ past) d) ≡ false → p (place_of s past c) ≡ false → p (place_of s (e ∷ past) c) ≡ true
-    → numbers_at s (e ∷ past) p ≡ put_in (1 + j) (without (1 + i) (numbers_at s past p)) ++ map number_of (filter (λ (b : Birth). p (newborn_place b)) (made_at s past e.kind))
+    → numbers_at s (e ∷ past) p
+    ≡ put_in (1 + j) (without (1 + i) (numbers_at s past p)) ++ map number_of (filter (λ (b : Birth). p (newborn_place b)) (made_at s past e.kind))
 numbers-end s laws w limit e past i j d c legal only t at_d at_c parent apart p gone was now =
     let r : Birth → Bool = λ b. p (place_of s past b) in
     let r' : Birth → Bool = λ b. p (place_of s (e ∷ past) b) in
     let mid : Birth → Bool = λ b. cond (b.number == (1 + j)) (r b) (r' b) in
     let tail = legal-tail s w limit e past legal in
     let ns = births-numbered s past in
-    let at_x : numbered (births s past) (1 + i) ≡ Some d = let e1 : 1 + i ≡ suc i = omega arith in subst (λ (n : ℕ). numbered (births s past) n ≡ Some d) (sym e1) at_d in
+    let at_x : numbered (births s past) (1 + i) ≡ Some d = let e1 : 1 + i ≡ suc i = omega arith in
+    subst (λ (n : ℕ). numbered (births s past) n ≡ Some d) (sym e1) at_d in
     let c_number : c.number ≡ 1 + j = let g : numbered (births s past) (suc j) ≡ Some c = at_c in omega (arith, numbered-number s past (suc j) c g) in
     let d_number : d.number ≡ 1 + i = let g : numbered (births s past) (suc i) ≡ Some d = at_d in omega (arith, numbered-number s past (suc i) d g) in
     let first_step : map number_of (filter mid (births s past)) ≡ without (1 + i) (map number_of (filter r (births s past))) =

@@ -1,40 +1,31 @@
 -- Where nobody may act, nothing waits.
-use Rattle.std.proofs.Common.{◌≡◌, ◌≢◌, ℕ, zero, suc, ◌+◌, ◌-◌, ◌<◌, ◌≤◌, Bool, true, false, ◌==◌, ◌||◌, ◌&&◌, not, nat_lt, min, List, [], ◌∷◌, ◌++◌, length, filter, filter_map, map, Option, Some, None, is_some, refl, sym, ap, subst, ◌∙◌, arith, rules, eq-eqb, cond, append_assoc, length-append, inl, inr, IsTrue}
+use Rattle.std.proofs.Common.{◌≡◌, ℕ, zero, suc, ◌+◌, ◌<◌, Bool, true, false, List, [], ◌∷◌, ◌++◌, length, Option, Some, None, is_some, refl, sym, ap, subst, ◌∙◌, arith, cond}
 use Rattle.std.specs.List.{slice_get}
-use Rattle.std.specs.List.{cons_option as list_cons}
-use Rattle.std.proofs.lemmas.Bool.{cases_eq, ne_eqb, cases_Bool, eqb-true, lt-ltb, ltb-true, ltb-false, le-ltb}
-use Rattle.std.proofs.lemmas.List.{append-nil, length-map}
-use Rattle.eip_ledger.specs.declared.entry.Entry.{Entry}
 use Rattle.eip_exchange.specs.declared.message.Message.{Message}
-use Rattle.eip_frames.specs.declared.request.Seed.{Seed}
 use Rattle.eip_exchange.specs.declared.birth.Birth.{Birth}
-use Rattle.eip_exchange.specs.declared.end.End.{End}
-use Rattle.eip_exchange.specs.declared.birth.Origin.{Origin}
+use Rattle.eip_exchange.specs.Ends.{out_of_memory}
 use Rattle.eip_exchange.specs.declared.birth.Origin.TheVariants as from
+use Rattle.eip_frames.specs.declared.request.Seed.{Seed}
 use Rattle.eip_frames.specs.declared.answer.Answer.{Answer as Reply}
 use Rattle.eip_frames.specs.declared.answer.Answer.TheVariants as reply
 use Rattle.eip_frames.specs.declared.request.Request.{Request}
 use Rattle.eip_frames.specs.declared.request.Request.TheVariants as request
 use Rattle.eip_frames.specs.declared.answer.Completion.{Completion}
-use Rattle.eip_ledger.specs.declared.place.Place.{Place}
-use Rattle.eip_ledger.specs.declared.place.Place.TheVariants as place_is
-use Rattle.eip_ledger.specs.declared.entry.Kind.{Kind}
-use Rattle.eip_ledger.specs.declared.entry.Kind.TheVariants.{Pull, Accept, Refuse, SourceEnd, SourceFault, Start, Take, Answer, Tick, Force, Starve, Return}
-use Rattle.eip_history.specs.Plan.{Plan}
 use Rattle.eip_frames.specs.Fate.{Fate, AsksNext, Ends, Strays}
-use Rattle.eip_history.specs.Own.{Past, own, concerns, numbered, numbers_below, last_answer, started, taker, answers, starved, clock, ticked}
-use Rattle.eip_history.specs.Groups.{Group, due_of, is_forced}
-use Rattle.eip_history.specs.Births.{Asked, Story, story, births, groups, fate, fate_by, asked_by, asked_of, made_at, made, made_by, made_for, grouped_by, grouped_for, part_births, group_births}
-use Rattle.eip_exchange.specs.Ends.{out_of_memory}
-use Rattle.eip_history.specs.Place.{ended, end_at, end_of, joined, cons_option, all_ended, pause_of, Pause, Sleeps, Joins, Runs, paused, in_hand, queued, place_by, place_of, numbers_at, count_at, ready_numbers, waiting, hands, pulls_out, is_ready, is_held, is_in, is_ended, is_busy, busy, is_born_into, is_startable, number_of, at_place}
-use Rattle.eip_history.specs.Rules.{IsLegal, May, IsQuiet, dues, least, or_least, retry_due, startable, unfinished, any_group}
-use Rattle.eip_history.specs.Stop.{is_over, unended, will_close, no_numbers}
+use Rattle.eip_ledger.specs.declared.entry.Kind.{Kind}
+use Rattle.eip_ledger.specs.declared.entry.Kind.TheVariants.{Accept, Answer, Tick, Force}
+use Rattle.eip_ledger.specs.declared.place.Place.TheVariants as place_is
+use Rattle.eip_history.specs.Plan.{Plan}
+use Rattle.eip_history.specs.Own.{Past, own, numbered, taker, answers, starved}
+use Rattle.eip_history.specs.Groups.{Group}
+use Rattle.eip_history.specs.Births.{Asked, Story, story, births, fate, asked_by, asked_of, made_at, made, made_by, made_for, part_births, group_births}
+use Rattle.eip_history.specs.Place.{ended, end_of, joined, place_of}
+use Rattle.eip_history.specs.Rules.{IsLegal}
 use Rattle.eip_history.specs.Laws.{PlanLaws, IsQueue}
-use Rattle.eip_history.proofs.Told.{births-numbered}
 use Rattle.eip_history.proofs.Unborn.{numbered-within}
-use Rattle.eip_history.proofs.Parts.{AreParts, parts-of, is_part_of, numbered-number}
+use Rattle.eip_history.proofs.Parts.{parts-of, is_part_of, numbered-number}
 use Rattle.eip_history.proofs.Places.{ended-is}
-use Rattle.eip_history.proofs.Stuck.{none-at, none-from, map-none, length-none, append-none, some-none-at, below-none, least-none, Standing, InEnd, InQueue, Held, Asleep, Waits, Able, standing}
+use Rattle.eip_history.proofs.Stuck.{Standing, InEnd, InQueue, Held, Asleep, Waits, Able, standing}
 
 -- nobody is Ready, in hand or asleep
 pub record AllRest (s : Plan) (past : Past) : Type 0 where
@@ -42,14 +33,17 @@ pub record AllRest (s : Plan) (past : Past) : Type 0 where
   pub no_hand : (x : ℕ) (b : Birth) (w : ℕ) → numbered (births s past) x ≡ Some b → taker (own b.number past) ≡ Some w → ⊥
   pub no_retry : (x : ℕ) (b : Birth) (d : ℕ) → numbered (births s past) x ≡ Some b → place_of s past b ≡ place_is.Retry d → ⊥
 
-joined-none : (s : Plan) (past : Past) (first count : ℕ) → is_some (joined s past first count) ≡ false → (i : ℕ) × (i < count) × (is_some (ended s past (first + i)) ≡ false)
+joined-none : (s : Plan) (past : Past) (first count : ℕ) → is_some (joined s past first count) ≡ false
+    → (i : ℕ) × (i < count) × (is_some (ended s past (first + i)) ≡ false)
 joined-none s past first zero h = absurd (cc h)
 joined-none s past first (suc k) h = by_first (ended s past first) refl (λ g. joined-none s past (first + 1) k g)
   where
     behind : (r : (i : ℕ) × (i < k) × (is_some (ended s past (first + 1 + i)) ≡ false)) → (i : ℕ) × (i < suc k) × (is_some (ended s past (first + i)) ≡ false)
     behind r = let e : first + suc r.0 ≡ first + 1 + r.0 = omega arith in (suc r.0, omega (arith, r.1), rw e r.2)
 
-    by_first : (o : Option _) → ended s past first ≡ o → (is_some (joined s past (first + 1) k) ≡ false → (i : ℕ) × (i < k) × (is_some (ended s past (first + 1 + i)) ≡ false)) → (i : ℕ) × (i < suc k) × (is_some (ended s past (first + i)) ≡ false)
+    by_first : (o : Option _) → ended s past first ≡ o
+        → (is_some (joined s past (first + 1) k) ≡ false → (i : ℕ) × (i < k) × (is_some (ended s past (first + 1 + i)) ≡ false))
+        → (i : ℕ) × (i < suc k) × (is_some (ended s past (first + i)) ≡ false)
     by_first None t ih = let z : first + 0 ≡ first = omega arith in (0, omega arith, rw (z, t) refl)
     by_first (Some f) t ih = by_rest (joined s past (first + 1) k) refl
       where
@@ -58,12 +52,15 @@ joined-none s past first (suc k) h = by_first (ended s past first) refl (λ g. j
         by_rest (Some l) u = absurd (let g = rw (t, u) at h in cc g)
 
 -- the greatest exchange that hasn't ended isn't Joining
-pub no-joining : (s : Plan) (w limit : ℕ) (past : Past) → IsLegal s w limit past → AllRest s past → (k x : ℕ) (b : Birth) → numbered (births s past) x ≡ Some b → length (births s past) < x + k → place_of s past b ≡ place_is.Joining → ⊥
+pub no-joining : (s : Plan) (w limit : ℕ) (past : Past) → IsLegal s w limit past → AllRest s past → (k x : ℕ) (b : Birth)
+    → numbered (births s past) x ≡ Some b → length (births s past) < x + k → place_of s past b ≡ place_is.Joining → ⊥
 no-joining s w limit past legal rest zero x b at l h = let n = numbered-within (births s past) x b at in omega (arith, l, n)
 no-joining s w limit past legal rest (suc k) x b at l h = by_standing (standing s past b) (λ y d g m j. no-joining s w limit past legal rest k y d g m j)
   where
-    part_stands : (first i : ℕ) (d : Birth) → b.number < first → numbered (births s past) (first + i) ≡ Some d → is_part_of b.number d.origin ≡ true → is_some (end_of (fate s past d)) ≡ false
-        → ((y : ℕ) (c : Birth) → numbered (births s past) y ≡ Some c → length (births s past) < y + k → place_of s past c ≡ place_is.Joining → ⊥) → Standing s past d → ⊥
+    part_stands : (first i : ℕ) (d : Birth) → b.number < first → numbered (births s past) (first + i) ≡ Some d → is_part_of b.number d.origin ≡ true
+        → is_some (end_of (fate s past d)) ≡ false
+        → ((y : ℕ) (c : Birth) → numbered (births s past) y ≡ Some c → length (births s past) < y + k → place_of s past c ≡ place_is.Joining → ⊥)
+        → Standing s past d → ⊥
     part_stands first i d lt g o u ih (InEnd e p t) = cc t
     part_stands first i d lt g o u ih (InQueue q r p) = let f = rw r at o in cc f
     part_stands first i d lt g o u ih (Held v y p) = rest.no_hand (first + i) d v g y
@@ -71,7 +68,8 @@ no-joining s w limit past legal rest (suc k) x b at l h = by_standing (standing 
     part_stands first i d lt g o u ih (Able p) = rest.no_ready (first + i) d g p
     part_stands first i d lt g o u ih (Waits f c la a p) = let n = numbered-number s past x b at in ih (first + i) d g (omega (arith, l, lt, n)) p
 
-    by_standing : Standing s past b → ((y : ℕ) (d : Birth) → numbered (births s past) y ≡ Some d → length (births s past) < y + k → place_of s past d ≡ place_is.Joining → ⊥) → ⊥
+    by_standing : Standing s past b
+        → ((y : ℕ) (d : Birth) → numbered (births s past) y ≡ Some d → length (births s past) < y + k → place_of s past d ≡ place_is.Joining → ⊥) → ⊥
     by_standing (InEnd e p t) ih = cc p
     by_standing (InQueue q r p) ih = cc p
     by_standing (Held v y p) ih = cc p
@@ -110,13 +108,15 @@ groups-each : (s : Plan) (n : ℕ) (c : Completion) (gs : List Group) → Each (
 groups-each s n c [] = tt
 groups-each s n c (g ∷ gs) = (λ q h. absurd (cc h), groups-each s (n + 1) c gs)
 
-each-for : (s : Plan) (t : Story) (past : Past) (k : Asked) (r : Request) (a : Reply) → ((q : ℕ) (d : Bool) (m : Message) → r ≡ request.Offer q d m → IsQueue s q) → Each (Queued s) (made_for s t past k r a)
+each-for : (s : Plan) (t : Story) (past : Past) (k : Asked) (r : Request) (a : Reply)
+    → ((q : ℕ) (d : Bool) (m : Message) → r ≡ request.Offer q d m → IsQueue s q) → Each (Queued s) (made_for s t past k r a)
 each-for s t past k (request.Offer q discard m) (reply.Queued n) o = (λ v h. let same : q ≡ v = cc in subst (IsQueue s) same (o q discard m refl), tt)
 each-for s t past k (request.Spawn seeds) (reply.Born first count) o = parts-each s _ k k.at.index seeds
 each-for s t past k (request.Arrive b key m) (reply.Closed g c n) o = (λ v h. absurd (cc h), tt)
 each-for s t past k _ _ o = tt
 
-asks-mean : (s : Plan) (laws : PlanLaws s) (past : Past) (b : Birth) (k : Asked) (q : ℕ) (d : Bool) (m : Message) → asked_by b (fate s past b) ≡ Some k → k.request ≡ request.Offer q d m → IsQueue s q
+asks-mean : (s : Plan) (laws : PlanLaws s) (past : Past) (b : Birth) (k : Asked) (q : ℕ) (d : Bool) (m : Message)
+    → asked_by b (fate s past b) ≡ Some k → k.request ≡ request.Offer q d m → IsQueue s q
 unfolding fate
 asks-mean s laws past b k q d m h r = by_test (starved (own b.number past)) refl h
   where
@@ -125,7 +125,8 @@ asks-mean s laws past b k q d m h r = by_test (starved (own b.number past)) refl
     by_mean (Ends e' m') e g = absurd (cc g)
     by_mean Strays e g = absurd (cc g)
 
-    by_test : (v : Bool) → starved (own b.number past) ≡ v → asked_by b (cond v (Ends out_of_memory b.message) (s.mean b (answers (own b.number past)))) ≡ Some k → IsQueue s q
+    by_test : (v : Bool) → starved (own b.number past) ≡ v
+        → asked_by b (cond v (Ends out_of_memory b.message) (s.mean b (answers (own b.number past)))) ≡ Some k → IsQueue s q
     by_test true t g = absurd (cc g)
     by_test false t g = by_mean (s.mean b (answers (own b.number past))) refl g
 
@@ -147,4 +148,5 @@ each-made s laws t past _ = tt
 pub queues-known : (s : Plan) (laws : PlanLaws s) (past : Past) → Each (Queued s) (births s past)
 unfolding story
 queues-known s laws [] = tt
-queues-known s laws (e ∷ past) = each-append (Queued s) (births s past) (made_at s past e.kind) (queues-known s laws past) (each-made s laws (story s past) past e.kind)
+queues-known s laws (e ∷ past) =
+    each-append (Queued s) (births s past) (made_at s past e.kind) (queues-known s laws past) (each-made s laws (story s past) past e.kind)

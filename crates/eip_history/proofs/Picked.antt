@@ -1,51 +1,29 @@
 -- One form for all tables that are read from the places.
-use Rattle.std.proofs.Common.{◌≡◌, ◌≢◌, ℕ, zero, suc, ◌+◌, ◌-◌, ◌*◌, ◌<◌, ◌≤◌, Bool, true, false, ◌==◌, ◌||◌, ◌&&◌, not, nat_lt, min, List, [], ◌∷◌, ◌++◌, length, filter, filter_map, map, Option, Some, None, is_some, refl, sym, ap, subst, ◌∙◌, arith, rules, eq-eqb, cond, append_assoc, length-append, inl, inr, IsTrue}
-use Rattle.std.specs.List.{slice_get}
-use Rattle.std.specs.List.{cons_option as list_cons}
-use Rattle.std.proofs.lemmas.Bool.{cases_eq, ne_eqb, cases_Bool, eqb-true, lt-ltb, ltb-true, ltb-false, le-ltb}
-use Rattle.std.proofs.lemmas.List.{append-nil, length-map}
-use Rattle.eip_ledger.specs.declared.entry.Entry.{Entry}
-use Rattle.eip_exchange.specs.declared.message.Message.{Message}
-use Rattle.eip_frames.specs.declared.request.Seed.{Seed}
-use Rattle.eip_exchange.specs.declared.birth.Birth.{Birth}
-use Rattle.eip_exchange.specs.declared.end.End.{End}
-use Rattle.eip_exchange.specs.declared.birth.Origin.{Origin}
-use Rattle.eip_exchange.specs.declared.birth.Origin.TheVariants as from
-use Rattle.eip_frames.specs.declared.answer.Answer.{Answer as Reply}
-use Rattle.eip_frames.specs.declared.answer.Answer.TheVariants as reply
-use Rattle.eip_frames.specs.declared.request.Request.{Request}
-use Rattle.eip_frames.specs.declared.request.Request.TheVariants as request
-use Rattle.eip_frames.specs.declared.answer.Completion.{Completion}
-use Rattle.eip_ledger.specs.declared.place.Place.{Place}
-use Rattle.eip_ledger.specs.declared.place.Place.TheVariants as place_is
-use Rattle.eip_ledger.specs.declared.entry.Kind.{Kind}
-use Rattle.eip_ledger.specs.declared.entry.Kind.TheVariants.{Pull, Accept, Refuse, SourceEnd, SourceFault, Start, Take, Answer, Tick, Force, Starve, Return}
-use Rattle.eip_history.specs.Plan.{Plan}
-use Rattle.eip_frames.specs.Fate.{Fate, AsksNext, Ends, Strays}
-use Rattle.eip_history.specs.Own.{Past, own, concerns, numbered, numbers_below, last_answer, started, taker, answers, starved, clock, ticked}
-use Rattle.eip_history.specs.Groups.{Group, due_of, is_forced}
-use Rattle.eip_history.specs.Births.{Asked, Story, story, births, groups, fate, fate_by, asked_by, asked_of, made_at, made, made_by, made_for, grouped_by, grouped_for, part_births, group_births}
-use Rattle.eip_history.specs.Place.{ended, end_at, end_of, joined, cons_option, all_ended, pause_of, Pause, Sleeps, Joins, Runs, paused, in_hand, queued, place_by, place_of, numbers_at, count_at, ready_numbers, waiting, hands, pulls_out, is_ready, is_held, is_in, is_ended, is_busy, busy, is_born_into, is_startable, number_of, at_place}
-use Rattle.eip_history.specs.Rules.{IsLegal, May, IsQuiet, dues, least, or_least, retry_due, startable, unfinished, any_group}
-use Rattle.eip_history.specs.Stop.{is_over, unended, will_close, no_numbers}
-use Rattle.eip_history.specs.Laws.{PlanLaws, IsQueue}
-use Rattle.eip_history.proofs.Told.{births-numbered}
-use Rattle.eip_history.proofs.Unborn.{numbered-within}
-use Rattle.eip_history.proofs.Parts.{AreParts, parts-of, is_part_of, numbered-number}
+use Rattle.std.proofs.Common.{◌≡◌, ℕ, ◌+◌, ◌<◌, ◌≤◌, false, List, [], ◌∷◌, ◌++◌, length, filter_map, Option, refl, ap, ◌∙◌, arith}
 use Rattle.std.specs.List.{cons_option as list_cons}
 use Rattle.std.proofs.lemmas.List.Elements.{filter_map-append}
-use Rattle.eip_history.specs.Place.{picked}
+use Rattle.eip_exchange.specs.declared.birth.Birth.{Birth}
+use Rattle.eip_ledger.specs.declared.entry.Entry.{Entry}
+use Rattle.eip_ledger.specs.declared.place.Place.{Place}
+use Rattle.eip_ledger.specs.declared.entry.Kind.TheVariants.{Tick}
+use Rattle.eip_history.specs.Plan.{Plan}
+use Rattle.eip_history.specs.Own.{Past, own, concerns, clock, ticked}
+use Rattle.eip_history.specs.Births.{births, made_at}
+use Rattle.eip_history.specs.Place.{place_of, picked}
+use Rattle.eip_history.specs.Rules.{IsLegal}
+use Rattle.eip_history.specs.Laws.{PlanLaws}
 use Rattle.eip_history.specs.Tables.{AreNumberedFrom}
 use Rattle.eip_history.proofs.Told.{births-more, made-numbered}
 use Rattle.eip_history.proofs.Unborn.{legal-tail, newborn-own}
-use Rattle.eip_history.proofs.Places.{place-other, EndsNone, ended-other, place-tick, woken}
+use Rattle.eip_history.proofs.Places.{place-other, ended-other, place-tick, woken}
 use Rattle.eip_history.proofs.Numbers.{newborn-at, newborn_place}
 
 pub filter_map-same : {A B : Type 0} (f g : A → Option B) (xs : List A) → ((x : A) → f x ≡ g x) → filter_map f xs ≡ filter_map g xs
 filter_map-same f g [] h = refl
 filter_map-same f g (x ∷ xs) h = ap (λ o. list_cons o (filter_map f xs)) (h x) ∙ ap (list_cons (g x)) (filter_map-same f g xs h)
 
-newborn-picked : {A : Type 0} (s : Plan) (laws : PlanLaws s) (past : Past) (pick : Birth → Place → Option A) (n m : ℕ) (bs : List Birth) → n < m → ((x : ℕ) → n < x → own x past ≡ []) → AreNumberedFrom m bs
+newborn-picked : {A : Type 0} (s : Plan) (laws : PlanLaws s) (past : Past) (pick : Birth → Place → Option A) (n m : ℕ) (bs : List Birth) → n < m
+    → ((x : ℕ) → n < x → own x past ≡ []) → AreNumberedFrom m bs
     → filter_map (λ (b : Birth). pick b (place_of s past b)) bs ≡ filter_map (λ (b : Birth). pick b (newborn_place b)) bs
 newborn-picked s laws past pick n m [] l h ns = refl
 newborn-picked s laws past pick n m (b ∷ bs) l h ns =
@@ -54,27 +32,34 @@ newborn-picked s laws past pick n m (b ∷ bs) l h ns =
     ap (λ p. list_cons (pick b p) (filter_map (λ (d : Birth). pick d (place_of s past d)) bs)) e ∙ ap (list_cons (pick b (newborn_place b))) ih
 
 -- behind an entry: what the births before give by their places now, and what the newborn give
-pub picked-after : {A : Type 0} (s : Plan) (laws : PlanLaws s) (w limit : ℕ) (e : Entry) (past : Past) → IsLegal s w limit (e ∷ past) → (pick : Birth → Place → Option A)
-    → picked s (e ∷ past) pick ≡ filter_map (λ (b : Birth). pick b (place_of s (e ∷ past) b)) (births s past) ++ filter_map (λ (b : Birth). pick b (newborn_place b)) (made_at s past e.kind)
+pub picked-after : {A : Type 0} (s : Plan) (laws : PlanLaws s) (w limit : ℕ) (e : Entry) (past : Past) → IsLegal s w limit (e ∷ past)
+    → (pick : Birth → Place → Option A)
+    → picked s (e ∷ past) pick ≡ filter_map (λ (b : Birth). pick b (place_of s (e ∷ past) b)) (births s past)
+    ++ filter_map (λ (b : Birth). pick b (newborn_place b)) (made_at s past e.kind)
 unfolding picked
 picked-after s laws w limit e past legal pick =
-    let new = newborn-picked s laws (e ∷ past) pick (length (births s past)) (length (births s past) + 1) (made_at s past e.kind) (omega arith) (λ x l. newborn-own s w limit e past x legal l) (made-numbered s past e.kind) in
+    let new = newborn-picked s laws (e ∷ past) pick (length (births s past)) (length (births s past)
+    + 1) (made_at s past e.kind) (omega arith) (λ x l. newborn-own s w limit e past x legal l) (made-numbered s past e.kind) in
     ap (filter_map (λ (b : Birth). pick b (place_of s (e ∷ past) b))) (births-more s e past)
     ∙ (filter_map-append (λ (b : Birth). pick b (place_of s (e ∷ past) b)) (births s past) (made_at s past e.kind)
     ∙ ap (λ xs. filter_map (λ (b : Birth). pick b (place_of s (e ∷ past) b)) (births s past) ++ xs) new)
 
 -- an entry of nobody, without a Tick
-pub picked-quiet : {A : Type 0} (s : Plan) (laws : PlanLaws s) (w limit : ℕ) (e : Entry) (past : Past) → IsLegal s w limit (e ∷ past) → ((x : ℕ) → concerns x e.kind ≡ false) → ((n : ℕ) → ticked e.kind n ≡ n) → (pick : Birth → Place → Option A)
+pub picked-quiet : {A : Type 0} (s : Plan) (laws : PlanLaws s) (w limit : ℕ) (e : Entry) (past : Past) → IsLegal s w limit (e ∷ past)
+    → ((x : ℕ) → concerns x e.kind ≡ false) → ((n : ℕ) → ticked e.kind n ≡ n) → (pick : Birth → Place → Option A)
     → picked s (e ∷ past) pick ≡ picked s past pick ++ filter_map (λ (b : Birth). pick b (newborn_place b)) (made_at s past e.kind)
 unfolding picked
 picked-quiet s laws w limit e past legal none t pick =
     picked-after s laws w limit e past legal pick
     ∙ ap (λ xs. xs ++ filter_map (λ (b : Birth). pick b (newborn_place b)) (made_at s past e.kind))
-    (filter_map-same _ _ (births s past) (λ b. ap (pick b) (place-other s w limit e past b (legal-tail s w limit e past legal) (λ x d at. ended-other s e past x d at (none x)) (none b.number) t)))
+    (filter_map-same _ _ (births s past)
+    (λ b. ap (pick b) (place-other s w limit e past b (legal-tail s w limit e past legal) (λ x d at. ended-other s e past x d at (none x)) (none b.number) t)))
 
 -- a Tick
-pub picked-tick : {A : Type 0} (s : Plan) (laws : PlanLaws s) (w limit v t : ℕ) (past : Past) → IsLegal s w limit ((record { worker = v; kind = Tick t }) ∷ past) → clock past ≤ t → (pick : Birth → Place → Option A)
-    → picked s ((record { worker = v; kind = Tick t }) ∷ past) pick ≡ picked s past (λ b p. pick b (woken t p)) ++ filter_map (λ (b : Birth). pick b (newborn_place b)) (made_at s past (Tick t))
+pub picked-tick : {A : Type 0} (s : Plan) (laws : PlanLaws s) (w limit v t : ℕ) (past : Past)
+    → IsLegal s w limit ((record { worker = v; kind = Tick t }) ∷ past) → clock past ≤ t → (pick : Birth → Place → Option A)
+    → picked s ((record { worker = v; kind = Tick t }) ∷ past) pick
+    ≡ picked s past (λ b p. pick b (woken t p)) ++ filter_map (λ (b : Birth). pick b (newborn_place b)) (made_at s past (Tick t))
 unfolding picked
 picked-tick s laws w limit v t past legal l pick =
     picked-after s laws w limit _ past legal pick

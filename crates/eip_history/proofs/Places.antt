@@ -1,28 +1,24 @@
 -- How one entry changes the places.
-use Rattle.std.proofs.Common.{◌≡◌, ◌≢◌, ℕ, zero, suc, ◌+◌, ◌-◌, ◌<◌, ◌≤◌, Bool, true, false, ◌==◌, ◌||◌, not, nat_lt, List, [], ◌∷◌, ◌++◌, length, filter, map, Option, Some, None, is_some, refl, sym, ap, subst, ◌∙◌, arith, rules, eq-eqb, cond, append_assoc, length-append, inl, inr, IsTrue}
-use Rattle.std.specs.List.{slice_get}
-use Rattle.std.proofs.lemmas.Bool.{cases_eq, ne_eqb, cases_Bool, eqb-true, lt-ltb, ltb-true, ltb-false, le-ltb}
-use Rattle.std.proofs.lemmas.List.{append-nil}
-use Rattle.eip_ledger.specs.declared.entry.Entry.{Entry}
+use Rattle.std.proofs.Common.{◌≡◌, ◌≢◌, ℕ, zero, suc, ◌+◌, ◌<◌, ◌≤◌, Bool, true, false, nat_lt, ◌∷◌, Option, Some, None, is_some, refl, sym, ap, ◌∙◌, arith, cond}
+use Rattle.std.proofs.lemmas.Bool.{ltb-false, le-ltb}
 use Rattle.eip_exchange.specs.declared.birth.Birth.{Birth}
 use Rattle.eip_exchange.specs.declared.birth.Origin.{Origin}
 use Rattle.eip_exchange.specs.declared.birth.Origin.TheVariants as from
 use Rattle.eip_frames.specs.declared.answer.Answer.{Answer as Reply}
 use Rattle.eip_frames.specs.declared.answer.Answer.TheVariants as reply
-use Rattle.eip_exchange.specs.declared.end.Ended.{Ended as Finished}
+use Rattle.eip_frames.specs.Fate.{Fate, AsksNext, Ends, Strays}
+use Rattle.eip_ledger.specs.declared.entry.Entry.{Entry}
 use Rattle.eip_ledger.specs.declared.place.Place.{Place}
 use Rattle.eip_ledger.specs.declared.place.Place.TheVariants as place_is
-use Rattle.eip_ledger.specs.declared.entry.Kind.{Kind}
-use Rattle.eip_ledger.specs.declared.entry.Kind.TheVariants.{Pull, Accept, Refuse, SourceEnd, SourceFault, Start, Take, Answer, Tick, Force, Starve, Return}
+use Rattle.eip_ledger.specs.declared.entry.Kind.TheVariants.{Tick}
 use Rattle.eip_history.specs.Plan.{Plan}
-use Rattle.eip_frames.specs.Fate.{Fate, AsksNext, Ends, Strays}
-use Rattle.eip_history.specs.Own.{Past, own, concerns, numbered, last_answer, started, taker, answers, starved, clock, ticked}
+use Rattle.eip_history.specs.Own.{Past, own, concerns, numbered, last_answer, started, taker, clock, ticked}
 use Rattle.eip_history.specs.Births.{births, fate, fate_by}
 use Rattle.eip_history.specs.Place.{ended, end_at, end_of, joined, cons_option, all_ended, pause_of, Pause, Sleeps, Joins, Runs, paused, in_hand, queued, place_by, place_of}
-use Rattle.eip_history.specs.Rules.{IsLegal, May}
-use Rattle.eip_history.proofs.Told.{own-other, own-here, births-more, made-numbered, births-numbered}
-use Rattle.eip_history.proofs.Unborn.{legal-tail, legal-may, birth-stays, unborn-own, entry-born, numbered-within}
-use Rattle.eip_history.proofs.Parts.{AreParts, parts-of, is_part_of, numbered-number}
+use Rattle.eip_history.specs.Rules.{IsLegal}
+use Rattle.eip_history.proofs.Told.{own-other}
+use Rattle.eip_history.proofs.Unborn.{birth-stays}
+use Rattle.eip_history.proofs.Parts.{parts-of, is_part_of, numbered-number}
 
 pub fate-other : (s : Plan) (e : Entry) (past : Past) (b : Birth) → concerns b.number e.kind ≡ false → fate s (e ∷ past) b ≡ fate s past b
 unfolding fate
@@ -37,15 +33,18 @@ abbrev pub EndsNone : Plan → Entry → Past → Type 0
 EndsNone s e past = (x : ℕ) (b : Birth) → numbered (births s past) x ≡ Some b → ended s (e ∷ past) x ≡ ended s past x
 
 -- where the fate ends no more than before, the end is the same
-pub ended-same : (s : Plan) (e : Entry) (past : Past) (x : ℕ) (b : Birth) → numbered (births s past) x ≡ Some b → end_of (fate s (e ∷ past) b) ≡ end_of (fate s past b) → ended s (e ∷ past) x ≡ ended s past x
+pub ended-same : (s : Plan) (e : Entry) (past : Past) (x : ℕ) (b : Birth) → numbered (births s past) x ≡ Some b
+    → end_of (fate s (e ∷ past) b) ≡ end_of (fate s past b) → ended s (e ∷ past) x ≡ ended s past x
 ended-same s e past x b h same = ended-is s (e ∷ past) x b (birth-stays s e past x b h) ∙ (same ∙ sym (ended-is s past x b h))
 
-pub ended-other : (s : Plan) (e : Entry) (past : Past) (x : ℕ) (b : Birth) → numbered (births s past) x ≡ Some b → concerns x e.kind ≡ false → ended s (e ∷ past) x ≡ ended s past x
+pub ended-other : (s : Plan) (e : Entry) (past : Past) (x : ℕ) (b : Birth) → numbered (births s past) x ≡ Some b → concerns x e.kind ≡ false
+    → ended s (e ∷ past) x ≡ ended s past x
 ended-other s e past x b h c =
     let n = numbered-number s past x b h in
     ended-same s e past x b h (ap end_of (fate-other s e past b (rw n c)))
 
-joined-same : (s : Plan) (past past' : Past) (first count : ℕ) → ((i : ℕ) → i < count → ended s past' (first + i) ≡ ended s past (first + i)) → joined s past' first count ≡ joined s past first count
+joined-same : (s : Plan) (past past' : Past) (first count : ℕ) → ((i : ℕ) → i < count → ended s past' (first + i) ≡ ended s past (first + i))
+    → joined s past' first count ≡ joined s past first count
 joined-same s past past' first zero h = refl
 joined-same s past past' first (suc k) h =
     let z : first + 0 ≡ first = omega arith in
@@ -53,13 +52,15 @@ joined-same s past past' first (suc k) h =
     let there = joined-same s past past' (first + 1) k (λ i l. let e : first + suc i ≡ first + 1 + i = omega arith in rw e at (h (suc i) (omega (arith, l)))) in
     ap (λ o. cons_option o (joined s past' (first + 1) k)) here ∙ ap (cons_option (ended s past first)) there
 
-paused-same : (now : ℕ) (all all' : ℕ → ℕ → Bool) (o : Option Reply) → ((f c : ℕ) → o ≡ Some (reply.Born f c) → all' f c ≡ all f c) → paused now all' (pause_of o) ≡ paused now all (pause_of o)
+paused-same : (now : ℕ) (all all' : ℕ → ℕ → Bool) (o : Option Reply) → ((f c : ℕ) → o ≡ Some (reply.Born f c) → all' f c ≡ all f c)
+    → paused now all' (pause_of o) ≡ paused now all (pause_of o)
 paused-same now all all' (Some (reply.Born f c)) h = ap (λ v. cond v place_is.Ready place_is.Joining) (h f c refl)
 paused-same now all all' (Some (reply.Slept d)) h = refl
 paused-same now all all' (Some _) h = refl
 paused-same now all all' None h = refl
 
-place-by-same : (now : ℕ) (all all' : ℕ → ℕ → Bool) (b : Birth) (o : Past) (f : Fate) → ((x c : ℕ) → last_answer o ≡ Some (reply.Born x c) → all' x c ≡ all x c) → place_by now all' b o f ≡ place_by now all b o f
+place-by-same : (now : ℕ) (all all' : ℕ → ℕ → Bool) (b : Birth) (o : Past) (f : Fate)
+    → ((x c : ℕ) → last_answer o ≡ Some (reply.Born x c) → all' x c ≡ all x c) → place_by now all' b o f ≡ place_by now all b o f
 place-by-same now all all' b o (Ends e m) h = refl
 place-by-same now all all' b o (AsksNext q p) h = ap (λ v. queued b.origin (started o) (in_hand (taker o) v)) (paused-same now all all' (last_answer o) h)
 place-by-same now all all' b o Strays h = ap (λ v. queued b.origin (started o) (in_hand (taker o) v)) (paused-same now all all' (last_answer o) h)
@@ -97,7 +98,8 @@ place-end-other s w limit e past x d b legal at only ne apart t =
     place-same s e past b (only b.number ne) (clock-same e past t) (λ f k h.
     let p = parts-of s w limit past b.number f k legal h in
     ap is_some (joined-same s past (e ∷ past) f k (λ i l. let r = p.part i l in
-    ended-other s e past (f + i) r.0 r.1 (only (f + i) (λ same. let g = rw same at r.1 in let u : r.0 ≡ d = cc in let y : is_part_of b.number d.origin ≡ true = rw (← u) r.2 in cc)))))
+    ended-other s e past (f + i) r.0 r.1 (only (f + i) (λ same. let g = rw same at r.1 in
+    let u : r.0 ≡ d = cc in let y : is_part_of b.number d.origin ≡ true = rw (← u) r.2 in cc)))))
 
 -- what a Tick makes of a place
 abbrev pub woken : ℕ → Place → Place
@@ -108,7 +110,8 @@ woken-cond : (t : ℕ) (v : Bool) → cond v place_is.Ready place_is.Joining ≡
 woken-cond t true = refl
 woken-cond t false = refl
 
-woken-sleeps : (now t d : ℕ) → now ≤ t → (v : Bool) → nat_lt now d ≡ v → cond (nat_lt t d) (place_is.Retry d) place_is.Ready ≡ woken t (cond v (place_is.Retry d) place_is.Ready)
+woken-sleeps : (now t d : ℕ) → now ≤ t → (v : Bool) → nat_lt now d ≡ v
+    → cond (nat_lt t d) (place_is.Retry d) place_is.Ready ≡ woken t (cond v (place_is.Retry d) place_is.Ready)
 woken-sleeps now t d l true h = refl
 woken-sleeps now t d l false h =
     let le : d ≤ t = omega (arith, ltb-false now d h, l) in
@@ -132,8 +135,12 @@ woken-queue t (from.Group g) v p = refl
 
 woken-by : (now t : ℕ) (all : ℕ → ℕ → Bool) (b : Birth) (o : Past) (f : Fate) → now ≤ t → place_by t all b o f ≡ woken t (place_by now all b o f)
 woken-by now t all b o (Ends e m) l = refl
-woken-by now t all b o (AsksNext q p) l = ap (λ v. queued b.origin (started o) (in_hand (taker o) v)) (woken-pause now t all (pause_of (last_answer o)) l) ∙ (ap (queued b.origin (started o)) (woken-hand t (taker o) _) ∙ woken-queue t b.origin (started o) _)
-woken-by now t all b o Strays l = ap (λ v. queued b.origin (started o) (in_hand (taker o) v)) (woken-pause now t all (pause_of (last_answer o)) l) ∙ (ap (queued b.origin (started o)) (woken-hand t (taker o) _) ∙ woken-queue t b.origin (started o) _)
+woken-by now t all b o (AsksNext q p) l =
+    ap (λ v. queued b.origin (started o) (in_hand (taker o) v)) (woken-pause now t all (pause_of (last_answer o)) l)
+    ∙ (ap (queued b.origin (started o)) (woken-hand t (taker o) _) ∙ woken-queue t b.origin (started o) _)
+woken-by now t all b o Strays l =
+    ap (λ v. queued b.origin (started o) (in_hand (taker o) v)) (woken-pause now t all (pause_of (last_answer o)) l)
+    ∙ (ap (queued b.origin (started o)) (woken-hand t (taker o) _) ∙ woken-queue t b.origin (started o) _)
 
 -- a Tick wakes who is due by then, and moves nobody else
 pub place-tick : (s : Plan) (w limit : ℕ) (v t : ℕ) (past : Past) (b : Birth) → IsLegal s w limit past → clock past ≤ t

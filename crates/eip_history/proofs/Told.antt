@@ -1,9 +1,6 @@
 -- What one more entry does to births and to own entries.
-use Rattle.std.proofs.Common.{◌≡◌, ◌≢◌, ℕ, zero, suc, ◌+◌, ◌-◌, ◌<◌, ◌≤◌, Bool, true, false, ◌==◌, ◌||◌, not, List, [], ◌∷◌, ◌++◌, length, filter, map, Option, Some, None, refl, sym, ap, subst, ◌∙◌, arith, rules, eq-eqb, cond, append_assoc, length-append, inl, inr, IsTrue}
+use Rattle.std.proofs.Common.{◌≡◌, ℕ, suc, ◌+◌, true, false, List, [], ◌∷◌, ◌++◌, length, Option, Some, None, refl, sym, ap, ◌∙◌, arith, append_assoc}
 use Rattle.std.proofs.lemmas.List.{append-nil}
-use Rattle.std.proofs.lemmas.Bool.{cases_eq, ne_eqb, cases_Bool}
-use Rattle.std.specs.List.{slice_get}
-use Rattle.eip_ledger.specs.declared.entry.Entry.{Entry}
 use Rattle.eip_exchange.specs.declared.birth.Birth.{Birth}
 use Rattle.eip_frames.specs.declared.request.Seed.{Seed}
 use Rattle.eip_frames.specs.declared.answer.Answer.{Answer as Reply}
@@ -11,14 +8,14 @@ use Rattle.eip_frames.specs.declared.answer.Answer.TheVariants as reply
 use Rattle.eip_frames.specs.declared.request.Request.{Request}
 use Rattle.eip_frames.specs.declared.request.Request.TheVariants.{Offer, Spawn, Arrive}
 use Rattle.eip_frames.specs.declared.answer.Completion.{Completion}
+use Rattle.eip_ledger.specs.declared.entry.Entry.{Entry}
 use Rattle.eip_ledger.specs.declared.entry.Kind.{Kind}
-use Rattle.eip_ledger.specs.declared.entry.Kind.TheVariants.{Pull, Accept, Refuse, SourceEnd, SourceFault, Start, Take, Answer, Tick, Force, Starve, Return}
+use Rattle.eip_ledger.specs.declared.entry.Kind.TheVariants.{Accept, Answer, Tick, Force}
 use Rattle.eip_history.specs.Plan.{Plan}
 use Rattle.eip_history.specs.Own.{Past, own, concerns, numbered}
 use Rattle.eip_history.specs.Groups.{Group}
 use Rattle.eip_history.specs.Births.{Asked, Story, story, births, made_at, made, made_by, made_for, asked_of, part_births, group_births, next_number}
 use Rattle.eip_history.specs.Tables.{AreNumberedFrom}
-use Rattle.eip_history.proofs.Lists.{numbered-push}
 
 pub own-other : (x : ℕ) (e : Entry) (past : Past) → concerns x e.kind ≡ false → own x (e ∷ past) ≡ own x past
 unfolding own
@@ -79,5 +76,8 @@ births-numbered s (e ∷ past) =
 pub births-prefix : (s : Plan) (behind past : Past) → (more : List Birth) × (births s (behind ++ past) ≡ births s past ++ more)
 births-prefix s [] past = ([], sym (append-nil (births s past)))
 births-prefix s (e ∷ behind) past =
-    let r = births-prefix s behind past in
-    (r.0 ++ made_at s (behind ++ past) e.kind, births-more s e (behind ++ past) ∙ (ap (λ bs. bs ++ made_at s (behind ++ past) e.kind) r.1 ∙ append_assoc (births s past) r.0 (made_at s (behind ++ past) e.kind)))
+    let r = births-prefix s behind past in (
+      r.0 ++ made_at s (behind ++ past) e.kind,
+      births-more s e (behind ++ past)
+          ∙ (ap (λ bs. bs ++ made_at s (behind ++ past) e.kind) r.1 ∙ append_assoc (births s past) r.0 (made_at s (behind ++ past) e.kind)),
+    )

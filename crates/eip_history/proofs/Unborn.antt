@@ -1,25 +1,21 @@
 -- Legal pasts are silent about numbers that aren't born.
-use Rattle.std.proofs.Common.{◌≡◌, ◌≢◌, ℕ, zero, suc, ◌+◌, ◌-◌, ◌<◌, ◌≤◌, Bool, true, false, ◌==◌, ◌||◌, not, List, [], ◌∷◌, ◌++◌, length, filter, map, Option, Some, None, refl, sym, ap, subst, ◌∙◌, arith, rules, eq-eqb, cond, append_assoc, length-append, inl, inr, IsTrue}
+use Rattle.std.proofs.Common.{◌≡◌, ℕ, zero, suc, ◌+◌, ◌<◌, ◌≤◌, Bool, true, false, List, [], ◌∷◌, ◌++◌, length, filter, map, Option, Some, None, refl, ap, subst, ◌∙◌, arith, cond, length-append, inl, inr}
 use Rattle.std.specs.Prelude.{option_map}
 use Rattle.std.specs.List.{slice_get}
-use Rattle.std.proofs.lemmas.Option.{slice_get_within, slice_get_past}
-use Rattle.std.proofs.lemmas.Bool.{cases_eq, ne_eqb, cases_Bool, eqb-true}
-use Rattle.eip_ledger.specs.declared.entry.Entry.{Entry}
+use Rattle.std.proofs.lemmas.Option.{slice_get_within}
+use Rattle.std.proofs.lemmas.Bool.{cases_Bool, eqb-true}
 use Rattle.eip_exchange.specs.declared.birth.Birth.{Birth}
-use Rattle.eip_frames.specs.declared.answer.Answer.{Answer as Reply}
+use Rattle.eip_ledger.specs.declared.entry.Entry.{Entry}
 use Rattle.eip_ledger.specs.declared.place.Place.{Place}
-use Rattle.eip_ledger.specs.declared.place.Place.TheVariants as place_is
 use Rattle.eip_ledger.specs.declared.entry.Kind.{Kind}
-use Rattle.eip_ledger.specs.declared.entry.Kind.TheVariants.{Pull, Accept, Refuse, SourceEnd, SourceFault, Start, Take, Answer, Tick, Force, Starve, Return}
+use Rattle.eip_ledger.specs.declared.entry.Kind.TheVariants.{Start, Take, Answer, Starve, Return}
 use Rattle.eip_history.specs.Plan.{Plan}
-use Rattle.eip_frames.specs.Fate.{Fate, AsksNext, Ends, Strays}
 use Rattle.eip_history.specs.Own.{Past, own, concerns, numbered}
-use Rattle.eip_history.specs.Births.{Asked, births, asked, asked_of, asked_by, fate}
-use Rattle.eip_history.specs.Place.{place, place_of, numbers_at, is_in, number_of, waiting}
-use Rattle.eip_history.specs.Rules.{IsLegal, May, MayAnswer, first}
-use Rattle.eip_history.specs.Births.{made_at}
+use Rattle.eip_history.specs.Births.{Asked, births, asked, asked_of, asked_by, fate, made_at}
+use Rattle.eip_history.specs.Place.{place, place_of, numbers_at, is_in, number_of}
+use Rattle.eip_history.specs.Rules.{IsLegal, May, first}
 use Rattle.eip_history.specs.Tables.{AreNumberedFrom}
-use Rattle.eip_history.proofs.Told.{own-other, births-more, made-numbered, births-numbered}
+use Rattle.eip_history.proofs.Told.{own-other, births-more, births-numbered}
 
 pub legal-tail : (s : Plan) (w limit : ℕ) (e : Entry) (past : Past) → IsLegal s w limit (e ∷ past) → IsLegal s w limit past
 unfolding IsLegal
@@ -34,14 +30,17 @@ option-some f None y h = absurd (cc h)
 option-some f (Some x) y h = (x, refl, cc)
 
 -- a number with a place is that of a birth
-pub place-born : (s : Plan) (past : Past) (x : ℕ) (p : Place) → place s past x ≡ Some p → (b : Birth) × (numbered (births s past) x ≡ Some b) × (place_of s past b ≡ p)
+pub place-born : (s : Plan) (past : Past) (x : ℕ) (p : Place) → place s past x ≡ Some p
+    → (b : Birth) × (numbered (births s past) x ≡ Some b) × (place_of s past b ≡ p)
 unfolding place
 place-born s past x p h = option-some (place_of s past) (numbered (births s past) x) p h
 
-pub asked-born : (s : Plan) (past : Past) (x : ℕ) (k : Asked) → asked s past x ≡ Some k → (b : Birth) × (numbered (births s past) x ≡ Some b) × (asked_by b (fate s past b) ≡ Some k)
+pub asked-born : (s : Plan) (past : Past) (x : ℕ) (k : Asked) → asked s past x ≡ Some k
+    → (b : Birth) × (numbered (births s past) x ≡ Some b) × (asked_by b (fate s past b) ≡ Some k)
 asked-born s past x k h = from_option (numbered (births s past) x) refl h
   where
-    from_option : (o : Option Birth) → numbered (births s past) x ≡ o → asked_of s past o ≡ Some k → (b : Birth) × (numbered (births s past) x ≡ Some b) × (asked_by b (fate s past b) ≡ Some k)
+    from_option : (o : Option Birth) → numbered (births s past) x ≡ o → asked_of s past o ≡ Some k
+        → (b : Birth) × (numbered (births s past) x ≡ Some b) × (asked_by b (fate s past b) ≡ Some k)
     from_option None e q = absurd (cc q)
     from_option (Some b) e q = (b, e, q)
 
@@ -57,7 +56,8 @@ first-at p n (b ∷ bs) x ns e = by_test (first-at p (n + 1) bs x ns.1) (p b) re
     by_test ih false t f = let r = ih f in (suc r.0, r.1, r.2, omega (arith, r.3), r.4)
 
 -- the first of the numbers at some place
-pub first-placed : (s : Plan) (past : Past) (p : Place → Bool) (x : ℕ) → first (numbers_at s past p) ≡ Some x → (b : Birth) × (numbered (births s past) x ≡ Some b) × (p (place_of s past b) ≡ true)
+pub first-placed : (s : Plan) (past : Past) (p : Place → Bool) (x : ℕ) → first (numbers_at s past p) ≡ Some x
+    → (b : Birth) × (numbered (births s past) x ≡ Some b) × (p (place_of s past b) ≡ true)
 unfolding numbers_at
 first-placed s past p x e =
     let r = first-at (λ (b : Birth). p (place_of s past b)) 1 (births s past) x (births-numbered s past) e in
@@ -69,7 +69,8 @@ numbered-within xs zero y h = omega arith
 numbered-within xs (suc i) y h = omega (arith, slice_get_within xs i y h)
 
 -- who has an entry is born
-pub entry-born : (s : Plan) (limit : ℕ) (past : Past) (w x : ℕ) (k : Kind) → May s limit past w k → concerns x k ≡ true → (b : Birth) × (numbered (births s past) x ≡ Some b)
+pub entry-born : (s : Plan) (limit : ℕ) (past : Past) (w x : ℕ) (k : Kind) → May s limit past w k → concerns x k ≡ true
+    → (b : Birth) × (numbered (births s past) x ≡ Some b)
 entry-born s limit past w x (Start q n) may c = let e : n ≡ x = eqb-true n x c in let r = first-placed s past (is_in q) n may.0 in (r.0, rw (← e) r.1)
 entry-born s limit past w x (Take n) may c = let e : n ≡ x = eqb-true n x c in let r = place-born s past n _ may.0 in (r.0, rw (← e) r.1)
 entry-born s limit past w x (Answer n a) may c = let e : n ≡ x = eqb-true n x c in let r = asked-born s past n _ may.asked_is in (r.0, rw (← e) r.1)
@@ -86,7 +87,8 @@ pub births-grow : (s : Plan) (e : Entry) (past : Past) → length (births s past
 births-grow s e past = rw (births-more s e past) (omega (arith, length-append (births s past) (made_at s past e.kind)))
 
 -- a number that wasn't born before an entry has none behind it either
-silent-step : (s : Plan) (limit : ℕ) (e : Entry) (past : Past) (x : ℕ) → May s limit past e.worker e.kind → length (births s past) < x → concerns x e.kind ≡ false
+silent-step : (s : Plan) (limit : ℕ) (e : Entry) (past : Past) (x : ℕ) → May s limit past e.worker e.kind → length (births s past) < x
+    → concerns x e.kind ≡ false
 silent-step s limit e past x may l = elim (cases_Bool (concerns x e.kind)) [
   | inl c ↦ (let r = entry-born s limit past e.worker x e.kind may c in let n = numbered-within (births s past) x r.0 r.1 in absurd (omega (arith, n, l)))
   | inr f ↦ f

@@ -1,46 +1,24 @@
 -- Where nobody may act, nothing waits.
-use Rattle.std.proofs.Common.{◌≡◌, ◌≢◌, ℕ, zero, suc, ◌+◌, ◌-◌, ◌<◌, ◌≤◌, Bool, true, false, ◌==◌, ◌||◌, ◌&&◌, not, nat_lt, min, List, [], ◌∷◌, ◌++◌, length, filter, filter_map, map, Option, Some, None, is_some, refl, sym, ap, subst, ◌∙◌, arith, rules, eq-eqb, cond, append_assoc, length-append, inl, inr, IsTrue}
-use Rattle.std.specs.List.{slice_get}
+use Rattle.std.proofs.Common.{◌≡◌, ℕ, zero, suc, ◌<◌, Bool, true, false, ◌==◌, ◌&&◌, not, nat_lt, List, [], ◌∷◌, length, filter, filter_map, Option, Some, None, refl, ap, arith, eq-eqb}
 use Rattle.std.specs.List.{cons_option as list_cons}
-use Rattle.std.proofs.lemmas.Bool.{cases_eq, ne_eqb, cases_Bool, eqb-true, lt-ltb, ltb-true, ltb-false, le-ltb}
-use Rattle.std.proofs.lemmas.List.{append-nil, length-map}
-use Rattle.eip_ledger.specs.declared.entry.Entry.{Entry}
-use Rattle.eip_exchange.specs.declared.message.Message.{Message}
-use Rattle.eip_frames.specs.declared.request.Seed.{Seed}
+use Rattle.std.proofs.lemmas.Bool.{and_right, or_parts, lt-ltb}
 use Rattle.eip_exchange.specs.declared.birth.Birth.{Birth}
-use Rattle.eip_exchange.specs.declared.end.End.{End}
-use Rattle.eip_exchange.specs.declared.birth.Origin.{Origin}
 use Rattle.eip_exchange.specs.declared.birth.Origin.TheVariants as from
-use Rattle.eip_frames.specs.declared.answer.Answer.{Answer as Reply}
-use Rattle.eip_frames.specs.declared.answer.Answer.TheVariants as reply
-use Rattle.eip_frames.specs.declared.request.Request.{Request}
-use Rattle.eip_frames.specs.declared.request.Request.TheVariants as request
-use Rattle.eip_frames.specs.declared.answer.Completion.{Completion}
 use Rattle.eip_ledger.specs.declared.place.Place.{Place}
 use Rattle.eip_ledger.specs.declared.place.Place.TheVariants as place_is
-use Rattle.eip_ledger.specs.declared.entry.Kind.{Kind}
-use Rattle.eip_ledger.specs.declared.entry.Kind.TheVariants.{Pull, Accept, Refuse, SourceEnd, SourceFault, Start, Take, Answer, Tick, Force, Starve, Return}
 use Rattle.eip_history.specs.Plan.{Plan}
-use Rattle.eip_frames.specs.Fate.{Fate, AsksNext, Ends, Strays}
-use Rattle.eip_history.specs.Own.{Past, own, concerns, numbered, numbers_below, last_answer, started, taker, answers, starved, clock, ticked}
+use Rattle.eip_history.specs.Own.{Past, numbered}
 use Rattle.eip_history.specs.Groups.{Group, due_of, is_forced}
-use Rattle.eip_history.specs.Births.{Asked, Story, story, births, groups, fate, fate_by, asked_by, asked_of, made_at, made, made_by, made_for, grouped_by, grouped_for, part_births, group_births}
-use Rattle.eip_history.specs.Place.{ended, end_at, end_of, joined, cons_option, all_ended, pause_of, Pause, paused, in_hand, queued, place_by, place_of, numbers_at, count_at, ready_numbers, waiting, hands, pulls_out, is_ready, is_held, is_in, is_ended, is_busy, busy, is_born_into, is_startable, number_of, at_place}
-use Rattle.eip_history.specs.Rules.{IsLegal, May, IsQuiet, dues, least, or_least, retry_due, startable, unfinished, any_group}
-use Rattle.eip_history.specs.Stop.{is_over, unended, will_close, no_numbers}
-use Rattle.eip_history.specs.Laws.{PlanLaws, IsQueue}
-use Rattle.eip_history.proofs.Told.{births-numbered}
-use Rattle.eip_history.proofs.Unborn.{numbered-within}
-use Rattle.eip_history.proofs.Parts.{AreParts, parts-of, is_part_of, numbered-number}
-use Rattle.std.specs.List.{cons_option as list_cons}
-use Rattle.eip_history.specs.Own.{SourceState, Idle, Out, Done, source_state, is_out, is_done, turns}
-use Rattle.eip_history.specs.Place.{is_some_first, takes_out, is_taken}
-use Rattle.eip_history.specs.Rules.{first, IsBelow}
-use Rattle.eip_history.specs.Stop.{stop_of, first_fault, with_fault, held_or_drained, open_groups}
+use Rattle.eip_history.specs.Births.{births, groups}
+use Rattle.eip_history.specs.Place.{place_of, numbers_at, count_at, ready_numbers, waiting, hands, is_ready, is_in, is_ended, is_busy, busy, is_born_into, is_startable, number_of, at_place, is_some_first, takes_out, is_taken}
+use Rattle.eip_history.specs.Rules.{IsLegal, IsQuiet, dues, least, retry_due, startable, unfinished, any_group, first}
+use Rattle.eip_history.specs.Stop.{is_over, unended, will_close}
+use Rattle.eip_history.specs.Laws.{PlanLaws}
 use Rattle.eip_history.proofs.Stuck.{none-at, none-from, map-none, length-none, append-none, some-none-at, below-none, least-none, Standing, InEnd, InQueue, Held, Asleep, Waits, Able, standing}
-use Rattle.eip_history.proofs.Over.{AllRest, no-joining, Each, each-at, Queued, queues-known}
+use Rattle.eip_history.proofs.Over.{AllRest, no-joining, each-at, Queued, queues-known}
 
-pub placed-none : (s : Plan) (past : Past) (p : Place → Bool) (x : ℕ) (b : Birth) → numbers_at s past p ≡ [] → numbered (births s past) x ≡ Some b → p (place_of s past b) ≡ false
+pub placed-none : (s : Plan) (past : Past) (p : Place → Bool) (x : ℕ) (b : Birth) → numbers_at s past p ≡ [] → numbered (births s past) x ≡ Some b
+    → p (place_of s past b) ≡ false
 unfolding numbers_at
 placed-none s past p zero b e h = absurd (cc h)
 placed-none s past p (suc i) b e h = none-at (λ (c : Birth). p (place_of s past c)) (births s past) i b (map-none number_of (at_place s past p) e) h
@@ -53,7 +31,9 @@ taken-none s past (suc i) b e h = none-at (is_taken past) (births s past) i b (l
 due-none : (s : Plan) (past : Past) (x : ℕ) (b : Birth) → dues s past ≡ [] → numbered (births s past) x ≡ Some b → retry_due (place_of s past b) ≡ None
 unfolding dues
 due-none s past zero b e h = absurd (cc h)
-due-none s past (suc i) b e h = some-none-at (λ (c : Birth). retry_due (place_of s past c)) (births s past) i b (append-none (filter_map (λ (c : Birth). retry_due (place_of s past c)) (births s past)) (filter_map (due_of s) (groups s past)) e).0 h
+due-none s past (suc i) b e h =
+    some-none-at (λ (c : Birth). retry_due (place_of s past c)) (births s past) i b (append-none (filter_map
+    (λ (c : Birth). retry_due (place_of s past c)) (births s past)) (filter_map (due_of s) (groups s past)) e).0 h
 
 all-rest : (s : Plan) (past : Past) → IsQuiet s past → least (dues s past) ≡ None → AllRest s past
 all-rest s past quiet none = record {
@@ -62,10 +42,6 @@ all-rest s past quiet none = record {
   no_retry = λ x b d h p. let f = due-none s past x b (least-none (dues s past) none) h in let g = rw p at f in cc g;
 }
 
-and-false : (v : Bool) → (v && false) ≡ false
-and-false true = refl
-and-false false = refl
-
 queue-not-busy : (q r : ℕ) → (r == q) && (not (r == q) && true) ≡ false
 queue-not-busy q r = by_test (r == q)
   where
@@ -73,11 +49,12 @@ queue-not-busy q r = by_test (r == q)
     by_test true = refl
     by_test false = refl
 
-not-busy : (s : Plan) (w limit : ℕ) (past : Past) (q x : ℕ) (b : Birth) → IsLegal s w limit past → AllRest s past → numbered (births s past) x ≡ Some b → is_busy q b (place_of s past b) ≡ false
+not-busy : (s : Plan) (w limit : ℕ) (past : Past) (q x : ℕ) (b : Birth) → IsLegal s w limit past → AllRest s past
+    → numbered (births s past) x ≡ Some b → is_busy q b (place_of s past b) ≡ false
 not-busy s w limit past q x b legal rest at = by_standing (standing s past b)
   where
     by_standing : Standing s past b → is_busy q b (place_of s past b) ≡ false
-    by_standing (InEnd e p t) = rw p (and-false (is_born_into q b.origin))
+    by_standing (InEnd e p t) = rw p (and_right (is_born_into q b.origin) false refl)
     by_standing (InQueue r o p) = rw (p, o) (queue-not-busy q r)
     by_standing (Held v y p) = absurd (rest.no_hand x b v at y)
     by_standing (Asleep d sl lt_now p) = absurd (rest.no_retry x b d at p)
@@ -104,8 +81,10 @@ no-queue s laws w limit past q zero b legal quiet rest at o p = cc at
 no-queue s laws w limit past q (suc i) b legal quiet rest at o p =
     let known = each-at (Queued s) (births s past) i b (queues-known s laws past) at q o in
     let st = startable-at s past q quiet.none_startable known.0 in
-    let waits : is_some_first (waiting s past q) ≡ true = some-first (waiting s past q) (λ e. let f = placed-none s past (is_in q) (suc i) b e at in let g = rw (p, eq-eqb q q refl) at f in cc g) in
-    let free : nat_lt (busy s past q) (s.queue q).consumers ≡ true = lt-ltb (busy s past q) (s.queue q).consumers (omega (arith, busy-none s w limit past q legal rest, laws.consumers q)) in
+    let waits : is_some_first (waiting s past q) ≡ true = some-first (waiting s past q) (λ e. let f = placed-none s past (is_in q) (suc i) b e at in
+    let g = rw (p, eq-eqb q q refl) at f in cc g) in
+    let free : nat_lt (busy s past q) (s.queue q).consumers
+    ≡ true = lt-ltb (busy s past q) (s.queue q).consumers (omega (arith, busy-none s w limit past q legal rest, laws.consumers q)) in
     let g = rw (known.1, waits, free) at st in cc g
 
 ended-all : (s : Plan) (laws : PlanLaws s) (w limit : ℕ) (past : Past) (x : ℕ) (b : Birth) → IsLegal s w limit past → IsQuiet s past → AllRest s past
@@ -132,15 +111,11 @@ none-cons {A} {B} f x xs e = by_value (f x) refl e
     by_value (Some z) t g = absurd (cc g)
     by_value None t g = (t, g)
 
-or-false : (v u : Bool) → (v || u) ≡ false → (v ≡ false) × (u ≡ false)
-or-false true u h = absurd (cc h)
-or-false false u h = (refl, h)
-
 none-close : (s : Plan) (gs : List Group) → filter_map (due_of s) gs ≡ [] → any_group (is_forced s) gs ≡ false → any_group (will_close s) gs ≡ false
 none-close s [] e f = refl
 none-close s (g ∷ gs) e f =
     let d = none-cons (due_of s) g gs e in
-    let o = or-false (is_forced s g) (any_group (is_forced s) gs) f in
+    let o = or_parts (is_forced s g) (any_group (is_forced s) gs) f in
     rw (d.0, o.0) (none-close s gs d.1 o.1)
 
 dues-groups : (s : Plan) (past : Past) → dues s past ≡ [] → filter_map (due_of s) (groups s past) ≡ []
@@ -148,7 +123,8 @@ unfolding dues
 dues-groups s past e = (append-none (filter_map (λ (c : Birth). retry_due (place_of s past c)) (births s past)) (filter_map (due_of s) (groups s past)) e).1
 
 -- where nobody may act, nothing waits
-pub nothing-waits : (s : Plan) (laws : PlanLaws s) (w limit : ℕ) (past : Past) → IsLegal s w limit past → IsQuiet s past → least (dues s past) ≡ None → any_group (is_forced s) (groups s past) ≡ false → is_over s past ≡ true
+pub nothing-waits : (s : Plan) (laws : PlanLaws s) (w limit : ℕ) (past : Past) → IsLegal s w limit past → IsQuiet s past → least (dues s past) ≡ None
+    → any_group (is_forced s) (groups s past) ≡ false → is_over s past ≡ true
 unfolding is_over
 nothing-waits s laws w limit past legal quiet none force =
     let rest = all-rest s past quiet none in
@@ -165,7 +141,8 @@ pub data Acts (s : Plan) (limit : ℕ) (past : Past) : Type 0 where
   Forces : IsQuiet s past → least (dues s past) ≡ None → any_group (is_forced s) (groups s past) ≡ true → Acts s limit past
 
 -- no state is stuck
-pub not-stuck : (s : Plan) (laws : PlanLaws s) (w limit : ℕ) (past : Past) → IsLegal s w limit past → hands s past ≡ 0 → is_over s past ≡ false → Acts s limit past
+pub not-stuck : (s : Plan) (laws : PlanLaws s) (w limit : ℕ) (past : Past) → IsLegal s w limit past → hands s past ≡ 0 → is_over s past ≡ false
+    → Acts s limit past
 not-stuck s laws w limit past legal home e = by_ready (ready_numbers s past) refl
   where
     by_force : IsQuiet s past → least (dues s past) ≡ None → (v : Bool) → any_group (is_forced s) (groups s past) ≡ v → Acts s limit past

@@ -1,43 +1,45 @@
 -- A small history, computed.
-use Rattle.std.specs.Prelude.{◌≡◌, ℕ, zero, suc, ◌+◌, ◌==◌, Bool, true, false, cond, List, [], ◌∷◌, ◌++◌, map, length, codes, reverse, slice_get, Option, Some, None, refl, decimal}
+use Rattle.std.specs.Prelude.{◌≡◌, ℕ, zero, suc, ◌==◌, true, false, List, [], ◌∷◌, ◌++◌, map, length, codes, reverse, Some, None, refl}
 use Rattle.eip_exchange.specs.declared.message.Message.{Message}
 use Rattle.eip_exchange.specs.declared.birth.Birth.{Birth}
-use Rattle.eip_ledger.specs.declared.entry.Entry.{Entry}
-use Rattle.eip_ledger.specs.declared.entry.Kind.{Kind}
-use Rattle.eip_ledger.specs.declared.entry.Kind.TheVariants as kind
-use Rattle.eip_frames.specs.declared.answer.Answer.{Answer as Reply}
-use Rattle.eip_frames.specs.declared.answer.Answer.TheVariants as reply
-use Rattle.eip_frames.specs.declared.request.Request.{Request}
-use Rattle.eip_frames.specs.declared.request.Request.TheVariants as request
-use Rattle.eip_frames.specs.declared.answer.Completion.TheVariants as by
 use Rattle.eip_exchange.specs.declared.end.End.TheVariants.{Completed}
 use Rattle.eip_exchange.specs.declared.birth.Work.{Work}
 use Rattle.eip_exchange.specs.declared.birth.Work.TheVariants.{Block, To}
 use Rattle.eip_exchange.specs.declared.birth.Care.TheVariants.{Full}
-use Rattle.eip_frames.specs.declared.request.Seed.{Seed}
 use Rattle.eip_exchange.specs.declared.end.Ended.{Ended}
+use Rattle.eip_frames.specs.declared.request.Request.{Request}
+use Rattle.eip_frames.specs.declared.request.Request.TheVariants as request
+use Rattle.eip_frames.specs.declared.request.Seed.{Seed}
+use Rattle.eip_frames.specs.Fate.{Fate, AsksNext, Ends, Strays}
+use Rattle.eip_frames.specs.declared.answer.Answer.TheVariants as reply
+use Rattle.eip_frames.specs.declared.answer.Completion.TheVariants as by
+use Rattle.eip_ledger.specs.declared.entry.Entry.{Entry}
+use Rattle.eip_ledger.specs.declared.entry.Kind.{Kind}
+use Rattle.eip_ledger.specs.declared.entry.Kind.TheVariants as kind
 use Rattle.eip_ledger.specs.declared.place.Stop.TheVariants.{Drained}
 use Rattle.eip_ledger.specs.declared.place.Place.{Place}
 use Rattle.eip_ledger.specs.declared.place.Place.TheVariants as place_is
-use Rattle.eip_history.specs.Plan.{Plan, Added, Gives, Faults}
-use Rattle.eip_frames.specs.Fate.{Fate, AsksNext, Ends, Strays}
+use Rattle.eip_history.specs.Plan.{Plan, Gives}
 use Rattle.eip_history.specs.Own.{Past, own, source_state, clock, turns}
 use Rattle.eip_history.specs.Groups.{Group}
 use Rattle.eip_history.specs.Births.{story, fate, births, groups}
-use Rattle.eip_history.specs.Place.{takes_out, place_of, ended, numbers_at, count_at, busy, pulls_out, waiting, ready_numbers, hands, number_of, is_startable}
-use Rattle.eip_history.specs.Rules.{unfinished, startable, served, holder_of, dues, least, claims, Claim}
-use Rattle.eip_history.specs.Stop.{first_fault, is_over, stop_of, actor, Actor, TheExchange, TheClock, Nobody, TheQueue}
-use Rattle.eip_history.specs.Texts.{given, book_lines}
+use Rattle.eip_history.specs.Place.{takes_out, place_of, ended, numbers_at, count_at, busy, pulls_out, number_of}
+use Rattle.eip_history.specs.Rules.{unfinished, startable, served, holder_of, dues, least}
+use Rattle.eip_history.specs.Stop.{first_fault, is_over, stop_of, actor, TheClock}
 
+-- a message with this body alone
 abbrev pub plain : List ℕ → Message
 plain b = record { body = b; headers = []; properties = [] }
 
+-- a part that runs block 5
 abbrev pub seed : List ℕ → Seed
 seed b = record { work = Block 5; care = Full; message = plain b }
 
+-- a completed end without commit
 abbrev pub finish : Message → Request
 finish m = request.Finish Completed m false
 
+-- what each block asks, in order
 abbrev pub script : ℕ → List Request
 script zero =
     request.Offer 1 false (plain (codes "q")) ∷ request.Spawn (seed (codes "a") ∷ seed (codes "b") ∷ []) ∷ request.Join 3 2 ∷ request.Wait 7
@@ -45,10 +47,12 @@ script zero =
 script (suc zero) = request.Arrive 9 (codes "k") (plain (codes "queued")) ∷ []
 script _ = []
 
+-- the block that an exchange runs
 abbrev pub block_number : Work → ℕ
 block_number (Block b) = b
 block_number (To t) = 0
 
+-- the request behind so many answers; behind the last comes the end
 abbrev pub asks_at : List Request → ℕ → Message → Fate
 asks_at (q ∷ qs) zero m = AsksNext q (record { route = 0; depth = 0; index = 0 })
 asks_at (q ∷ qs) (suc n) m = asks_at qs n m
@@ -56,6 +60,7 @@ asks_at [] zero m = AsksNext (finish m) (record { route = 0; depth = 0; index = 
 asks_at [] (suc zero) m = Ends Completed m
 asks_at [] (suc (suc n)) m = Strays
 
+-- one source, and one queue with room for two and one consumer; groups close at two parts or after 100 ticks
 abbrev pub small : Plan
 small = record {
   mean = λ b given. asks_at (script (block_number b.work)) (length given) b.message;
@@ -67,12 +72,15 @@ small = record {
   group = λ a. record { size = Some 2; timeout = Some 100; force = false; closes = λ n r m. false; add = λ old m. Gives m; route = 0 };
 }
 
+-- an entry of worker 0
 abbrev pub by_zero : Kind → Entry
 by_zero k = record { worker = 0; kind = k }
 
+-- a part that completed with this body
 abbrev pub done : List ℕ → Ended
 done b = record { end = Completed; message = plain b }
 
+-- an item is queued on, then split in two; one part has ended
 abbrev pub early : List Kind
 early =
     kind.Pull 0
@@ -82,6 +90,7 @@ early =
     ∷ kind.Answer 3 reply.Finished
     ∷ []
 
+-- the parts are joined, the item sleeps, the copy arrives at a group, and the source ends
 abbrev pub middle : List Kind
 middle =
     kind.Answer 4 reply.Finished
@@ -94,6 +103,7 @@ middle =
     ∷ kind.SourceEnd 0
     ∷ []
 
+-- the clock wakes the sleeper; it takes the key, closes the group and begins another, which times out
 abbrev pub late : List Kind
 late =
     kind.Tick 7
@@ -105,15 +115,19 @@ late =
     ∷ kind.Tick 107
     ∷ []
 
+-- a list of entries in order, as a past
 abbrev pub past_of : List Kind → Past
 past_of ks = reverse (map by_zero ks)
 
+-- their numbers
 abbrev pub numbers : List Birth → List ℕ
 numbers bs = map number_of bs
 
+-- where all exchanges stand
 abbrev pub places : Past → List Place
 places past = map (λ (b : Birth). place_of small past b) (births small past)
 
+-- the place of who completed
 abbrev pub ended_well : Place
 ended_well = place_is.Ended Completed
 

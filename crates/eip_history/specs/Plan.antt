@@ -6,14 +6,17 @@ use Rattle.eip_exchange.specs.declared.birth.Birth.{Birth}
 use Rattle.eip_frames.specs.declared.answer.Answer.{Answer as Reply}
 use Rattle.eip_frames.specs.Fate.{Fate}
 
+-- what an aggregator's strategy makes of the message so far and one more: a message, or a fault
 pub data Added : Type 0 where
   Gives : Message → Added
   Faults : Fault → Added
 
+-- how many copies may wait in a queue, and how many may be at work on it at one time
 pub record QueueRule : Type 0 where
   pub size : ℕ
   pub consumers : ℕ
 
+-- when an aggregator's group closes, how its message grows, and the route that its exchange runs in
 pub record GroupRule : Type 0 where
   pub size : Option ℕ
   pub timeout : Option ℕ
@@ -22,6 +25,7 @@ pub record GroupRule : Type 0 where
   pub add : Option Message → Message → Added
   pub route : ℕ
 
+-- the meaning of a birth after a list of answers, the routes by index, and what queues and aggregators ask for
 pub record Plan : Type 0 where
   pub mean : Birth → List Reply → Fate
   pub routes : ℕ

@@ -1,27 +1,24 @@
 -- Where each entry may come.
-use Rattle.std.specs.Prelude.{ℕ, ◌≡◌, ◌+◌, ◌<◌, ◌≤◌, ◌==◌, ◌&&◌, ◌||◌, not, nat_le, nat_lt, min, bytes_eq, Bool, true, false, cond, List, [], ◌∷◌, ◌++◌, Option, Some, None, IsTrue, is_some, is_none, length, filter, filter_map, find, MatchBool, ◌⊎◌, option_map, HoldsAt, Contains}
-use Rattle.eip_ledger.specs.declared.entry.Entry.{Entry}
-use Rattle.eip_ledger.specs.declared.entry.Kind.{Kind}
-use Rattle.eip_ledger.specs.declared.entry.Kind.TheVariants.{Pull, Accept, Refuse, SourceEnd, SourceFault, Start, Take, Answer, Tick, Force, Starve, Return}
+use Rattle.std.specs.Prelude.{ℕ, ◌≡◌, ◌+◌, ◌<◌, ◌≤◌, ◌&&◌, ◌||◌, not, min, bytes_eq, Bool, true, false, List, [], ◌∷◌, ◌++◌, Option, Some, None, length, filter_map, find, ◌⊎◌}
+use Rattle.eip_exchange.specs.declared.end.Ended.{Ended as Finished}
+use Rattle.eip_exchange.specs.declared.end.End.TheVariants as end
+use Rattle.eip_exchange.specs.declared.end.End.{End}
+use Rattle.eip_exchange.specs.declared.message.Message.{Message}
+use Rattle.eip_exchange.specs.declared.birth.Birth.{Birth}
 use Rattle.eip_frames.specs.declared.answer.Answer.{Answer as Reply}
 use Rattle.eip_frames.specs.declared.answer.Answer.TheVariants as reply
 use Rattle.eip_frames.specs.declared.request.Request.{Request}
-use Rattle.eip_frames.specs.declared.request.Request.TheVariants.{Send, Process, Test, Offer, Call, Spawn, Join, Arrive, Idem, Wait, Log, Finish}
-use Rattle.eip_exchange.specs.declared.end.Ended.{Ended as Finished}
-use Rattle.eip_exchange.specs.declared.end.End.{End}
-use Rattle.eip_exchange.specs.declared.end.End.TheVariants as end
-use Rattle.eip_exchange.specs.declared.message.Message.{Message}
-use Rattle.eip_frames.specs.declared.request.At.{At}
-use Rattle.eip_exchange.specs.declared.birth.Birth.{Birth}
+use Rattle.eip_frames.specs.declared.request.Request.TheVariants.{Offer, Spawn, Join, Arrive, Idem, Wait}
+use Rattle.eip_frames.specs.Fits.{fits, is_outside}
+use Rattle.eip_ledger.specs.declared.entry.Kind.{Kind}
+use Rattle.eip_ledger.specs.declared.entry.Kind.TheVariants.{Pull, Accept, Refuse, SourceEnd, SourceFault, Start, Take, Answer, Tick, Force, Starve, Return}
 use Rattle.eip_ledger.specs.declared.place.Place.{Place}
 use Rattle.eip_ledger.specs.declared.place.Place.TheVariants as place_is
-use Rattle.eip_frames.specs.Fits.{fits, is_outside}
 use Rattle.eip_history.specs.Plan.{Plan, Added, Gives, Faults}
-use Rattle.eip_frames.specs.Fate.{Fate, AsksNext, Ends, Strays}
-use Rattle.eip_history.specs.Own.{Past, numbers_below, own, clock, numbered, source_state, SourceState, Idle, Out, Done, is_done, turns}
-use Rattle.eip_history.specs.Groups.{Group, Arrival, is_for, arrived, cause_at, folded_of, due_of, is_forced}
-use Rattle.eip_history.specs.Births.{Asked, births, groups, asked, story, next_number, arrival_of, fate}
-use Rattle.eip_history.specs.Place.{ended, joined, place, place_of, ready_numbers, waiting, busy, is_startable, hands, is_some_first}
+use Rattle.eip_history.specs.Own.{Past, numbers_below, clock, source_state, Idle, Out, is_done, turns}
+use Rattle.eip_history.specs.Groups.{Group, is_for, arrived, cause_at, folded_of, due_of, is_forced}
+use Rattle.eip_history.specs.Births.{Asked, births, groups, asked, arrival_of}
+use Rattle.eip_history.specs.Place.{ended, joined, place, place_of, ready_numbers, waiting, busy, is_startable, hands}
 
 -- an answer with the request that it answers
 pub record Served : Type 0 where
@@ -29,10 +26,12 @@ pub record Served : Type 0 where
   pub asked : Asked
   pub answer : Reply
 
+-- an answer to nobody is none
 abbrev pub served_by : ℕ → Option Asked → Reply → List Served
 served_by w (Some k) a = record { worker = w; asked = k; answer = a } ∷ []
 served_by w None a = []
 
+-- the answer that an entry gives, with its request
 abbrev pub served_in : Plan → Past → ℕ → Kind → List Served
 served_in s past w (Answer x a) = served_by w (asked s past x) a
 served_in s past w _ = []
@@ -42,32 +41,40 @@ unfoldable pub served : Plan → Past → List Served
 served s [] = []
 served s (e ∷ past) = served s past ++ served_in s past e.worker e.kind
 
+-- an exchange's claim to a key of a repository
 pub record Claim : Type 0 where
   pub number : ℕ
   pub repository : List ℕ
   pub key : List ℕ
 
+-- a Fresh answer to an offered key is a claim
 abbrev pub claim_for : ℕ → Request → Reply → Option Claim
 claim_for x (Idem r k eager remove) reply.Fresh = Some (record { number = x; repository = r; key = k })
 claim_for x _ _ = None
 
+-- the claim that an answer makes
 abbrev pub claim_of : Served → Option Claim
 claim_of v = claim_for v.asked.birth.number v.asked.request v.answer
 
+-- all claims, the oldest first
 abbrev pub claims : Plan → Past → List Claim
 claims s past = filter_map claim_of (served s past)
 
+-- only who completes keeps its key
 abbrev pub keeps_end : End → Bool
 keeps_end end.Completed = true
 keeps_end _ = false
 
+-- who hasn't ended keeps its key too
 abbrev pub keeps : Option Finished → Bool
 keeps None = true
 keeps (Some f) = keeps_end f.end
 
+-- a claim to this key that is still kept
 abbrev pub is_claim_of : Plan → Past → List ℕ → List ℕ → Claim → Bool
 is_claim_of s past r k c = (bytes_eq c.repository r && bytes_eq c.key k) && keeps (ended s past c.number)
 
+-- whose claim it is
 abbrev pub claimer : Option Claim → Option ℕ
 claimer (Some c) = Some c.number
 claimer None = None
@@ -76,6 +83,7 @@ claimer None = None
 unfoldable pub holder_of : Plan → Past → List ℕ → List ℕ → Option ℕ
 holder_of s past r k = claimer (find (is_claim_of s past r k) (claims s past))
 
+-- the message of a group before one more arrival, or none
 abbrev pub message_so_far : Plan → Option Group → Option Message
 message_so_far s (Some g) = folded_of s g
 message_so_far s None = None
@@ -84,6 +92,7 @@ message_so_far s None = None
 abbrev pub added_at : Plan → Past → ℕ → List ℕ → Message → Added
 added_at s past a key m = (s.group a).add (message_so_far s (find (is_for a key) (groups s past))) m
 
+-- does the strategy fault
 abbrev pub is_fault : Added → Bool
 is_fault (Faults f) = true
 is_fault (Gives m) = false
@@ -92,6 +101,7 @@ is_fault (Gives m) = false
 abbrev pub group_at : Plan → Past → Asked → ℕ → List ℕ → Message → Group
 group_at s past k a key m = arrived 1 (groups s past) a key (arrival_of past k m)
 
+-- the number of the next birth
 abbrev pub next : Plan → Past → ℕ
 next s past = length (births s past) + 1
 
@@ -105,13 +115,15 @@ Content s past k (Join first count) (reply.Joined parts) = joined s past first c
 Content s past k (Arrive a key m) (reply.Arrived n) =
     (is_fault (added_at s past a key m) ≡ false) × ((group_at s past k a key m).number ≡ n) × (cause_at s (group_at s past k a key m) (arrival_of past k m) ≡ None)
 Content s past k (Arrive a key m) (reply.Closed g c n) =
-    (is_fault (added_at s past a key m) ≡ false) × ((group_at s past k a key m).number ≡ g) × (cause_at s (group_at s past k a key m) (arrival_of past k m) ≡ Some c) × (n ≡ next s past)
+    (is_fault (added_at s past a key m) ≡ false) × ((group_at s past k a key m).number
+    ≡ g) × (cause_at s (group_at s past k a key m) (arrival_of past k m) ≡ Some c) × (n ≡ next s past)
 Content s past k (Arrive a key m) (reply.Unfit f) = added_at s past a key m ≡ Faults f
 Content s past k (Idem r key eager remove) reply.Fresh = holder_of s past r key ≡ None
 Content s past k (Idem r key eager remove) (reply.Duplicate h) = holder_of s past r key ≡ Some h
 Content s past k (Wait t) (reply.Slept d) = d ≡ min (clock past + t) 18446744073709551615
 Content s past k _ _ = Unit {0}
 
+-- turns and hands leave room for one more
 abbrev pub IsBelow : Plan → ℕ → Past → Type 0
 IsBelow s limit past = turns past + hands s past < limit
 
@@ -120,6 +132,7 @@ abbrev pub MayAct : Plan → ℕ → Past → ℕ → ℕ → Bool → Type 0
 MayAct s limit past w x true = place s past x ≡ Some (place_is.InHand w)
 MayAct s limit past w x false = (place s past x ≡ Some place_is.Ready) × IsBelow s limit past
 
+-- the exchange asks a request, the answer fits it and says what it must, and the worker may give it
 pub record MayAnswer (s : Plan) (limit : ℕ) (past : Past) (w x : ℕ) (a : Reply) : Type 0 where
   pub asks : Asked
   pub asked_is : asked s past x ≡ Some asks
@@ -127,14 +140,16 @@ pub record MayAnswer (s : Plan) (limit : ℕ) (past : Past) (w x : ℕ) (a : Rep
   pub act : MayAct s limit past w x (is_outside asks.request)
   pub content : Content s past asks asks.request a
 
+-- is the request one of the outside
 abbrev pub outside_asked : Option Asked → Bool
 outside_asked (Some k) = is_outside k.request
 outside_asked None = false
 
--- the sources that aren't finished, and the queues that are startable
+-- the sources that may still give something
 unfoldable pub unfinished : Plan → Past → List ℕ
 unfinished s past = numbers_below (λ t. s.is_source t && not (is_done (source_state t past))) s.routes
 
+-- the queues that may start somebody
 unfoldable pub startable : Plan → Past → List ℕ
 startable s past = numbers_below (λ q. s.is_queue q && is_startable s past q) s.routes
 
@@ -145,14 +160,17 @@ pub record IsQuiet (s : Plan) (past : Past) : Type 0 where
   pub none_startable : startable s past ≡ []
   pub sources_done : unfinished s past ≡ []
 
+-- the moment until which it sleeps
 abbrev pub retry_due : Place → Option ℕ
 retry_due (place_is.Retry d) = Some d
 retry_due _ = None
 
+-- the lesser of a number and another, if there is one
 abbrev pub or_least : ℕ → Option ℕ → Option ℕ
 or_least x None = Some x
 or_least x (Some y) = Some (min x y)
 
+-- the least number
 abbrev pub least : List ℕ → Option ℕ
 least [] = None
 least (x ∷ xs) = or_least x (least xs)
@@ -161,14 +179,17 @@ least (x ∷ xs) = or_least x (least xs)
 unfoldable pub dues : Plan → Past → List ℕ
 dues s past = filter_map (λ (b : Birth). retry_due (place_of s past b)) (births s past) ++ filter_map (due_of s) (groups s past)
 
+-- the first of a list
 abbrev pub first : List ℕ → Option ℕ
 first [] = None
 first (x ∷ xs) = Some x
 
+-- does some group pass the test
 abbrev pub any_group : (Group → Bool) → List Group → Bool
 any_group p [] = false
 any_group p (g ∷ gs) = p g || any_group p gs
 
+-- a route of the set that reads from a source
 abbrev pub IsSource : Plan → ℕ → Type 0
 IsSource s t = (t < s.routes) × (s.is_source t ≡ true)
 

@@ -2,6 +2,7 @@
 use Rattle.std.specs.Prelude.{ℕ, Bool, true, false, ◌≡◌, ◌+◌, ◌==◌, not, nat_lt, List, [], ◌∷◌, filter, if◌then◌else◌}
 use Rattle.eip_exchange.specs.declared.birth.Birth.{Birth}
 
+-- two lists of one length whose elements are related in order
 abbrev pub Related : {A B : Type 0} → (A → B → Type 0) → List A → List B → Type 0
 Related R [] [] = Unit {0}
 Related R [] (y ∷ ys) = ⊥
@@ -18,6 +19,7 @@ abbrev pub bit : Bool → ℕ
 bit true = 1
 bit false = 0
 
+-- the numbers without one
 abbrev pub without : ℕ → List ℕ → List ℕ
 without x xs = filter (λ y. not (y == x)) xs
 

@@ -1,2 +1,10 @@
 pub mod Causes
+pub mod Counts
+pub mod Cuts
+pub mod Escapes
+pub mod Json
+pub mod JsonText
 pub mod Names
+pub mod Numbers
+pub mod Pieces
+pub mod formers

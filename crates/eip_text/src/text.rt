@@ -7,7 +7,7 @@ use std::marker::Model;
 use thiserror::Error;
 
 /// A text of UTF-8 (RFC 3629), which contracts see as the list of its bytes.
-#[derive(Drop)]
+#[derive(Debug, Drop)]
 pub struct Text {
     string: String,
 }

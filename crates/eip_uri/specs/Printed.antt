@@ -1,5 +1,5 @@
 -- The printed form of a URI: scheme, colon, rest, and the options that differ from their default, in byte order of the name.
-use Rattle.std.specs.Prelude.{ℕ, Bool, true, false, cond, ◌==◌, not, bytes_eq, codes, decimal, List, [], ◌∷◌, ◌++◌, Option, Some, None}
+use Rattle.std.specs.Prelude.{ℕ, Bool, true, false, ◌==◌, not, bytes_eq, codes, decimal, List, [], ◌∷◌, ◌++◌, Option, Some, None}
 use Rattle.eip_uri.specs.declared.uri.Uri.{Uri}
 use Rattle.eip_uri.specs.declared.uri.Uri.TheVariants as uri
 use Rattle.eip_uri.specs.declared.uri.After.{After}

@@ -1,6 +1,16 @@
 // Endpoint URIs.
 #![tactic(auto)]
 
+pub mod fault;
+mod laws;
+mod options;
+mod print;
+mod read;
+mod scheme;
+#[cfg(test)]
+mod tests;
 pub mod uri;
 
+pub use fault::UriFault;
+pub use laws::grammar_laws;
 pub use uri::{After, Exist, Uri};

@@ -1,0 +1,14 @@
+pub mod RowNumbers
+pub mod PutIn
+pub mod FirstSources
+pub mod RowPlaces
+pub mod RowSteps
+pub mod SourceEvents
+pub mod OwnEvents
+pub mod SourceCalls
+pub mod OwnCalls
+pub mod LookCalls
+pub mod InnerCalls
+pub mod StopCalls
+pub mod Bounds
+pub mod Empty

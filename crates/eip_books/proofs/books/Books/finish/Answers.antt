@@ -1,0 +1,51 @@
+use Rattle.std.proofs.Common.{rules, arith, ◌≡◌, ◌+◌, ◌-◌, ◌*◌, ◌<◌, ◌≤◌, ◌∷◌, ◌++◌, [], Some, None, length, reverse, sym, ap, ◌∙◌}
+use Rattle.std.specs.List.{slice_get}
+use Rattle.std.proofs.lemmas.List.{length-reverse}
+use Rattle.eip_ledger.specs.declared.place.Place.TheVariants.{Ready}
+use Rattle.std.proofs.Common.{false}
+use Rattle.eip_frames.specs.declared.request.Request.TheVariants as request
+use Rattle.eip_books.specs.Moves.{finished, finished_asked, finished_by, end_asked}
+use Rattle.eip_books.specs.Facts.{tables_of, BooksFacts}
+use Rattle.eip_books.proofs.Bounds.{within-limit, hands-are}
+use Rattle.eip_books.proofs.OwnCalls.{row-within, ready-some, stands-note, stands-finish, live-above}
+use Rattle.eip_books.proofs.LookCalls.{known-state, known-request, born-within, answer-within, answered-cursor, new-looked, answer-looked}
+use Rattle.eip_books.proofs.books.Books.finish.Goals as goal
+
+pub finish_asked-requires-clause-above : goal.finish_asked-requires-clause-above
+finish_asked-requires-clause-above c = (row-within (tables_of c.self.inside) c.args.number Ready c.self.invariant.stands (rw (← c.self.view_is) at c.requires.ready)).0
+
+pub finish_asked-requires-clause-within : goal.finish_asked-requires-clause-within
+finish_asked-requires-clause-within c = (row-within (tables_of c.self.inside) c.args.number Ready c.self.invariant.stands (rw (← c.self.view_is) at c.requires.ready)).1
+
+pub overflow_add-needed-2 : goal.overflow_add-needed-2
+overflow_add-needed-2 c = omega (arith, within-limit (tables_of c.self.inside) c.self.invariant.stands, c.self.invariant.limit)
+
+pub overflow_add-needed-3 : goal.overflow_add-needed-3
+overflow_add-needed-3 c = omega (arith, within-limit (tables_of c.self.inside) c.self.invariant.stands, c.self.invariant.limit)
+
+pub overflow_sub-self : goal.overflow_sub-self
+overflow_sub-self c =
+    let r = ready-some (tables_of c.self.inside) c.args.number c.self.invariant.stands (rw (← c.self.view_is) at c.requires.ready) in
+    live-above (tables_of c.self.inside) c.args.number r.0 c.self.invariant.stands (rw (← c.self.view_is) at c.requires.ready) r.1
+
+pub invariant_of-self-2 : goal.invariant_of-self-2
+invariant_of-self-2 c =
+    let r = ready-some (tables_of c.self.inside) c.args.number c.self.invariant.stands (rw (← c.self.view_is) at c.requires.ready) in
+    let asks = rw (← c.self.view_is) at c.requires.end.asks in
+    let k = known-state c.self.inside.rows.items (c.args.number - 1) r.0 (request.Finish c.requires.end.end c.requires.end.message false) r.1 asks in
+    let q = known-request c.self.inside.rows.items (c.args.number - 1) r.0 (request.Finish c.requires.end.end c.requires.end.message false) r.1 asks in
+    let ended : finished_asked r.0 ≡ finished c.requires.end.end r.0 = ap (λ o. finished_by (end_asked o) r.0) q in
+    let room = c.in_ok-make_room.ensures.journal in
+    record {
+      stands = rw (c.append_reserved.ensures.past, c.append_reserved.ensures.workers, c.append_reserved.ensures.turns, c.make_room.ensures.past, c.make_room.ensures.workers, c.make_room.ensures.turns, c.make_room.ensures.items, c.finish_asked.ensures.items r.0 r.1, c.remove.ensures.numbers, ended)
+          (stands-finish (tables_of c.self.inside) c.args.worker c.args.number c.self.invariant.stands (rw (← c.self.view_is) at c.requires.worker) k.0 r.0 (rw (← c.self.view_is) at c.requires.ready) r.1 c.requires.end.end c.requires.end.message k.1 (rw (← c.self.view_is) at c.requires.below));
+      limit = rw (c.append_reserved.ensures.turns, c.make_room.ensures.turns) c.self.invariant.limit;
+      few = c.self.invariant.few;
+      room_small = c.self.invariant.room_small;
+      room_journal = omega (arith, room);
+      room_rows = omega arith;
+      room_ready = omega arith;
+    }
+
+pub returns-clause-legal : goal.returns-clause-legal
+returns-clause-legal c = (invariant_of-self-2 c).stands.legal

@@ -1,0 +1,114 @@
+use Rattle.std.proofs.Common.{rules, arith, refl, subst, ⊎_elim, List, ◌≡◌, ◌+◌, ◌-◌, ◌*◌, ◌<◌, ◌≤◌, ◌∷◌, ◌++◌, [], Some, None, length, reverse, sym, ap, ◌∙◌}
+use Rattle.std.specs.List.{slice_get}
+use Rattle.std.proofs.lemmas.List.{length-reverse}
+use Rattle.std.proofs.lemmas.Option.{slice_get_read}
+use Rattle.eip_ledger.specs.declared.place.Place.TheVariants.{Ready}
+use Rattle.eip_ledger.specs.declared.entry.Entry.{Entry}
+use Rattle.eip_ledger.specs.declared.entry.Kind.{Kind}
+use Rattle.eip_ledger.specs.declared.entry.Kind.TheVariants as kind
+use Rattle.eip_books.specs.Moves.{begun}
+use Rattle.eip_books.specs.State.{known_of}
+use Rattle.eip_books.specs.Look.{HasCursor, LookedAt}
+use Rattle.eip_books.specs.Facts.{tables_of, BooksFacts}
+use Rattle.eip_books.proofs.Bounds.{within-limit, hands-are}
+use Rattle.eip_books.proofs.OwnCalls.{row-within, ready-some, stands-note, stands-finish, live-above}
+use Rattle.eip_books.proofs.LookCalls.{known-state, known-request, born-within, answer-within, answered-cursor, new-looked, answer-looked, known-now, known-asking, one-of-both, on-ok, answer-there}
+use Rattle.eip_books.proofs.books.Books.look.Goals as goal
+
+pub get-row-requires-clause-above : goal.get-row-requires-clause-above
+get-row-requires-clause-above c = (row-within (tables_of c.self.inside) c.args.number Ready c.self.invariant.stands (rw (← c.self.view_is) at c.requires)).0
+
+pub get-row-requires-clause-within : goal.get-row-requires-clause-within
+get-row-requires-clause-within c = (row-within (tables_of c.self.inside) c.args.number Ready c.self.invariant.stands (rw (← c.self.view_is) at c.requires)).1
+
+pub begin-requires-clause-above : goal.begin-requires-clause-above
+begin-requires-clause-above c = (row-within (tables_of c.self.inside) c.args.number Ready c.self.invariant.stands (rw (← c.self.view_is) at c.requires)).0
+
+pub begin-requires-clause-within : goal.begin-requires-clause-within
+begin-requires-clause-within c = (row-within (tables_of c.self.inside) c.args.number Ready c.self.invariant.stands (rw (← c.self.view_is) at c.requires)).1
+
+pub look-requires-clause-above : goal.look-requires-clause-above
+look-requires-clause-above c = (row-within (tables_of c.self.inside) c.args.number Ready c.self.invariant.stands (rw (← c.self.view_is) at c.requires)).0
+
+pub look-requires-clause-within : goal.look-requires-clause-within
+look-requires-clause-within c = (row-within (tables_of c.self.inside) c.args.number Ready c.self.invariant.stands (rw (← c.self.view_is) at c.requires)).1
+
+pub first_look-requires : goal.first_look-requires
+first_look-requires c = rw c.entries.ensures (born-within (tables_of c.self.inside) c.args.number c.get-row.result.now c.self.invariant.stands (rw (← c.self.view_is) at c.requires) c.get-row.ensures)
+
+pub invariant_of-self : goal.invariant_of-self
+invariant_of-self c =
+    record {
+      stands = rw (c.begin.ensures.items c.get-row.result.now c.get-row.ensures)
+          (new-looked (tables_of c.self.inside) c.args.number c.get-row.result.now c.self.invariant.stands (rw (← c.self.view_is) at c.requires) c.get-row.ensures c.in_ok-cursor-in-New.cursor c.in_ok-cursor-in-New.request c.in-New.is (rw c.entries.ensures at c.in_ok-cursor-in-New.ensures));
+      limit = c.self.invariant.limit;
+      few = c.self.invariant.few;
+      room_small = c.self.invariant.room_small;
+      room_journal = c.self.invariant.room_journal;
+      room_rows = omega (arith, c.begin.ensures.spare, c.self.invariant.room_rows);
+      room_ready = c.self.invariant.room_ready;
+    }
+
+pub bounds-entries-entry : goal.bounds-entries-entry
+bounds-entries-entry c = rw c.entries-in-Answered.ensures (answer-within (tables_of c.self.inside) c.args.number c.get-row.result.now c.self.invariant.stands (rw (← c.self.view_is) at c.requires) c.get-row.ensures c.in-Answered.entry c.in-Answered.is)
+
+pub look-requires-clause-cursor : goal.look-requires-clause-cursor
+look-requires-clause-cursor c = λ r at.
+    let row = c.get-row.ensures in
+    let same : c.get-row.result.now ≡ r = cc in
+    subst (HasCursor c.self.inside.set c.in-Answer.answer) same
+    (answered-cursor (tables_of c.self.inside) c.args.number c.get-row.result.now c.self.invariant.stands (rw (← c.self.view_is) at c.requires) c.get-row.ensures
+    c.in-Answered.entry c.index-entries-entry.result.worker c.in-Answer.number c.in-Answer.answer c.in-Answered.is (answer-there c.self.inside.journal.past c.in-Answered.entry c.entries-in-Answered.result.now c.index-entries-entry.result c.in-Answer.number c.in-Answer.answer c.entries-in-Answered.ensures
+    (answer-within (tables_of c.self.inside) c.args.number c.get-row.result.now c.self.invariant.stands (rw (← c.self.view_is) at c.requires) c.get-row.ensures c.in-Answered.entry c.in-Answered.is)
+    c.index-entries-entry.is c.in-Answer.is))
+
+pub invariant_of-self-in-Answer : goal.invariant_of-self-in-Answer
+invariant_of-self-in-Answer c =
+    record {
+      stands = ⊎_elim
+          (λ ok. let made = ok c.get-row.result.now c.get-row.ensures in
+          rw made.1 (answer-looked (tables_of c.self.inside) c.args.number c.get-row.result.now c.self.invariant.stands (rw (← c.self.view_is) at c.requires) c.get-row.ensures
+          c.in-Answered.entry c.index-entries-entry.result.worker c.in-Answer.number c.in-Answer.answer made.0 c.in-Answered.is (answer-there c.self.inside.journal.past c.in-Answered.entry c.entries-in-Answered.result.now c.index-entries-entry.result c.in-Answer.number c.in-Answer.answer c.entries-in-Answered.ensures
+          (answer-within (tables_of c.self.inside) c.args.number c.get-row.result.now c.self.invariant.stands (rw (← c.self.view_is) at c.requires) c.get-row.ensures c.in-Answered.entry c.in-Answered.is)
+          c.index-entries-entry.is c.in-Answer.is) made.2))
+          (λ err. rw err c.self.invariant.stands)
+          (one-of-both c.look.result _ _ c.look.ensures.ok c.look.ensures.err);
+      limit = c.self.invariant.limit;
+      few = c.self.invariant.few;
+      room_small = c.self.invariant.room_small;
+      room_journal = c.self.invariant.room_journal;
+      room_rows = omega (arith, c.look.ensures.spare, c.self.invariant.room_rows);
+      room_ready = c.self.invariant.room_ready;
+    }
+
+pub returns-in_ok-cursor-in-New-clause-known : goal.returns-in_ok-cursor-in-New-clause-known
+returns-in_ok-cursor-in-New-clause-known c = (
+  c.in_ok-cursor-in-New.request,
+  rw (c.begin.ensures.items c.get-row.result.now c.get-row.ensures)
+      (known-now c.self.inside.rows.items (c.args.number - 1) c.get-row.result.now (begun c.in_ok-cursor-in-New.cursor c.in_ok-cursor-in-New.request c.get-row.result.now) c.in_ok-cursor-in-New.request c.get-row.ensures refl),
+)
+
+pub returns-in-Answer-clause-known : goal.returns-in-Answer-clause-known
+returns-in-Answer-clause-known c =
+    on-ok c.look.result _ _
+    (λ ok. let made = ok c.get-row.result.now c.get-row.ensures in (
+      made.2.request,
+      rw made.1 (known-now c.self.inside.rows.items (c.args.number - 1) c.get-row.result.now made.0 made.2.request c.get-row.ensures (ap known_of made.2.row)),
+    ))
+    c.look.ensures.ok
+
+pub returns-in_default : goal.returns-in_default
+returns-in_default c =
+    let k = known-asking (tables_of c.self.inside) c.args.number c.get-row.result.now c.self.invariant.stands (rw (← c.self.view_is) at c.requires) c.get-row.ensures c.in_default.not-New c.in_default.not-Answered in
+    record {
+      none = record { same = record { set = refl; workers = refl; turns = refl }; past = refl };
+      legal = rw (← c.self.view_is) c.self.invariant.stands.legal;
+      room = refl;
+      known = (k.0, rw (← c.self.view_is) k.1);
+      err = tt;
+    }
+
+pub offset_bounds-entries-entry : goal.offset_bounds-entries-entry
+offset_bounds-entries-entry c =
+    let within = bounds-entries-entry c in
+    omega (arith, within, c.entries-in-Answered.type_inv.1)

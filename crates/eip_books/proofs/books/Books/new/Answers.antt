@@ -1,0 +1,14 @@
+use Rattle.std.proofs.Common.{rules, arith, ◌≡◌, ◌+◌, ◌-◌, ◌<◌, ◌≤◌, sym, refl}
+use Rattle.eip_books.proofs.Empty.{first-tables}
+use Rattle.eip_books.proofs.books.Books.new.Goals as goal
+
+pub invariant_of-result : goal.invariant_of-result
+invariant_of-result c = record {
+  stands = rw (c.new-2.ensures.past, c.new-2.ensures.workers, c.new-2.ensures.turns, c.new-3.ensures, c.new-4.ensures, c.new-5.ensures) (first-tables c.args.set c.args.workers c.args.turns c.in_ok-sources.sources c.in_ok-sources.ensures);
+  limit = rw c.new-2.ensures.turns c.requires.limit;
+  few = c.requires.few;
+  room_small = omega arith;
+  room_journal = omega arith;
+  room_rows = omega arith;
+  room_ready = omega arith;
+}

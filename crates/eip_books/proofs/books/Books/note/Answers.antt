@@ -1,0 +1,48 @@
+use Rattle.std.proofs.Common.{rules, arith, ◌≡◌, ◌+◌, ◌-◌, ◌*◌, ◌<◌, ◌≤◌, ◌∷◌, ◌++◌, [], Some, None, length, reverse, sym, ap, ◌∙◌}
+use Rattle.std.specs.List.{slice_get}
+use Rattle.std.proofs.lemmas.List.{length-reverse}
+use Rattle.eip_ledger.specs.declared.place.Place.TheVariants.{Ready}
+use Rattle.eip_frames.specs.declared.request.Request.TheVariants as request
+use Rattle.eip_books.specs.Facts.{tables_of, BooksFacts}
+use Rattle.eip_books.proofs.Bounds.{within-limit, hands-are}
+use Rattle.eip_books.proofs.OwnCalls.{row-within, ready-some, stands-note, stands-finish, live-above}
+use Rattle.eip_books.proofs.LookCalls.{known-state, known-request, born-within, answer-within, answered-cursor, new-looked, answer-looked}
+use Rattle.eip_books.proofs.books.Books.note.Goals as goal
+
+pub answer-request-requires-clause-above : goal.answer-request-requires-clause-above
+answer-request-requires-clause-above c = (row-within (tables_of c.self.inside) c.args.number Ready c.self.invariant.stands (rw (← c.self.view_is) at c.requires.ready)).0
+
+pub answer-request-requires-clause-within : goal.answer-request-requires-clause-within
+answer-request-requires-clause-within c = (row-within (tables_of c.self.inside) c.args.number Ready c.self.invariant.stands (rw (← c.self.view_is) at c.requires.ready)).1
+
+pub overflow_add-needed-2 : goal.overflow_add-needed-2
+overflow_add-needed-2 c = omega (arith, within-limit (tables_of c.self.inside) c.self.invariant.stands, c.self.invariant.limit)
+
+pub overflow_add-needed-3 : goal.overflow_add-needed-3
+overflow_add-needed-3 c = omega (arith, within-limit (tables_of c.self.inside) c.self.invariant.stands, c.self.invariant.limit)
+
+pub overflow_add-self : goal.overflow_add-self
+overflow_add-self c = omega (arith, within-limit (tables_of c.self.inside) c.self.invariant.stands, c.self.invariant.limit)
+
+pub invariant_of-self-2 : goal.invariant_of-self-2
+invariant_of-self-2 c =
+    let r = ready-some (tables_of c.self.inside) c.args.number c.self.invariant.stands (rw (← c.self.view_is) at c.requires.ready) in
+    let asks = rw (← c.self.view_is) at c.requires.line.asks in
+    let k = known-state c.self.inside.rows.items (c.args.number - 1) r.0 (request.Log c.requires.line.name c.requires.line.text) r.1 asks in
+    let q : c.answer-request.result ≡ Some (request.Log c.requires.line.name c.requires.line.text) =
+    c.answer-request.ensures.request r.0 r.1 ∙ known-request c.self.inside.rows.items (c.args.number - 1) r.0 (request.Log c.requires.line.name c.requires.line.text) r.1 asks in
+    let entry : length c.entries-entry.result.now ≡ length c.self.inside.journal.past = ap length c.entries-entry.ensures ∙ (length-reverse _ ∙ ap length c.make_room.ensures.past) in
+    let room = c.in_ok-make_room.ensures.journal in
+    record {
+      stands = rw (c.append_reserved.ensures.past, c.append_reserved.ensures.workers, c.append_reserved.ensures.turns, c.make_room.ensures.past, c.make_room.ensures.workers, c.make_room.ensures.turns, c.keep_line.ensures c.requires.line.name c.requires.line.text q, c.make_room.ensures.items, c.answer-request.ensures.items r.0 r.1, entry)
+          (stands-note (tables_of c.self.inside) c.args.worker c.args.number c.self.invariant.stands (rw (← c.self.view_is) at c.requires.worker) k.0 r.0 (rw (← c.self.view_is) at c.requires.ready) r.1 c.requires.line.name c.requires.line.text k.1 (rw (← c.self.view_is) at c.requires.below));
+      limit = rw (c.append_reserved.ensures.turns, c.make_room.ensures.turns) c.self.invariant.limit;
+      few = c.self.invariant.few;
+      room_small = c.self.invariant.room_small;
+      room_journal = omega (arith, room);
+      room_rows = omega (arith, c.answer-request.ensures.spare, c.self.invariant.room_rows);
+      room_ready = c.self.invariant.room_ready;
+    }
+
+pub returns-clause-legal : goal.returns-clause-legal
+returns-clause-legal c = (invariant_of-self-2 c).stands.legal

@@ -1,0 +1,14 @@
+use Rattle.std.proofs.Common.{rules, arith, ◌≡◌, ◌∙◌, sym, refl, ap, ◌<◌, ◌≤◌, length}
+use Rattle.eip_plan.specs.Plan.{plan_of}
+use Rattle.eip_books.specs.Facts.{tables_of}
+use Rattle.eip_books.proofs.StopCalls.{place-zero, unborn-beyond, shown-is}
+use Rattle.eip_books.proofs.books.Books.place.Goals as goal
+
+pub returns-then-number-eq0 : goal.returns-then-number-eq0
+returns-then-number-eq0 c = place-zero (plan_of c.args.self.now.set) c.args.self.now.journal.past c.args.number c.if-number-eq0.true
+
+pub returns-then-number-len : goal.returns-then-number-len
+returns-then-number-len c = rw (← c.self.view_is) (unborn-beyond (tables_of c.self.inside) c.self.invariant.stands c.args.number (let l = c.if-number-len.true in omega (arith, l, c.len.ensures)))
+
+pub returns : goal.returns
+returns c = rw (← c.self.view_is) (shown-is (tables_of c.self.inside) c.self.invariant.stands c.args.number c.get.result.now c.in_ok-place.place (let n = c.if-number-eq0.false in omega (arith, n)) (let l = c.if-number-len.false in omega (arith, l, c.len.ensures)) c.get.ensures (rw (← c.entries.ensures) c.in_ok-place.ensures))

@@ -1,0 +1,38 @@
+use Rattle.std.proofs.Common.{rules, arith, ◌≡◌, ◌+◌, ◌-◌, ◌<◌, ◌≤◌, ◌∷◌, ◌++◌, [], Some, None, length, reverse, sym, ap, ◌∙◌}
+use Rattle.std.specs.List.{slice_get}
+use Rattle.std.proofs.lemmas.List.{length-reverse}
+use Rattle.eip_ledger.specs.declared.place.Place.TheVariants.{Ready}
+use Rattle.eip_books.specs.Facts.{tables_of, BooksFacts}
+use Rattle.eip_books.proofs.Bounds.{within-limit}
+use Rattle.eip_books.proofs.OwnCalls.{row-within, ready-some, stands-note, stands-finish, stands-starve, live-above}
+use Rattle.eip_books.proofs.LookCalls.{known-state, known-request, born-within, answer-within, answered-cursor, new-looked, answer-looked}
+use Rattle.eip_books.proofs.books.Books.starve.Goals as goal
+
+pub close-requires-clause-above : goal.close-requires-clause-above
+close-requires-clause-above c = (row-within (tables_of c.self.inside) c.args.number Ready c.self.invariant.stands (rw (← c.self.view_is) at c.requires.ready)).0
+
+pub close-requires-clause-within : goal.close-requires-clause-within
+close-requires-clause-within c = (row-within (tables_of c.self.inside) c.args.number Ready c.self.invariant.stands (rw (← c.self.view_is) at c.requires.ready)).1
+
+pub overflow_sub-self : goal.overflow_sub-self
+overflow_sub-self c =
+    let r = ready-some (tables_of c.self.inside) c.args.number c.self.invariant.stands (rw (← c.self.view_is) at c.requires.ready) in
+    live-above (tables_of c.self.inside) c.args.number r.0 c.self.invariant.stands (rw (← c.self.view_is) at c.requires.ready) r.1
+
+pub invariant_of-self : goal.invariant_of-self
+invariant_of-self c =
+    let room = rw (← c.self.view_is) at c.requires.room in
+    let r = ready-some (tables_of c.self.inside) c.args.number c.self.invariant.stands (rw (← c.self.view_is) at c.requires.ready) in
+    record {
+      stands = rw (c.append_reserved.ensures.past, c.append_reserved.ensures.workers, c.append_reserved.ensures.turns, c.close.ensures.items r.0 r.1, c.remove.ensures.numbers)
+          (stands-starve (tables_of c.self.inside) c.args.worker c.args.number r.0 c.self.invariant.stands (rw (← c.self.view_is) at c.requires.worker) (rw (← c.self.view_is) at c.requires.ready) r.1);
+      limit = rw c.append_reserved.ensures.turns c.self.invariant.limit;
+      few = c.self.invariant.few;
+      room_small = omega (arith, room);
+      room_journal = omega (arith, room);
+      room_rows = omega (arith, room);
+      room_ready = omega (arith, room);
+    }
+
+pub returns-clause-legal : goal.returns-clause-legal
+returns-clause-legal c = (invariant_of-self c).stands.legal

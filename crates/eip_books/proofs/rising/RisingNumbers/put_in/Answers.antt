@@ -1,0 +1,13 @@
+use Rattle.std.proofs.Common.{rules, ◌≡◌, ◌<◌, ◌-◌, ◌∙◌, ap, sym, arith, true, Bool}
+use Rattle.std.specs.Prelude.{is_ok, vec_len, vec_capacity}
+use Rattle.std.proofs.lemmas.Grind.{common_steps}
+use Rattle.std.specs.List.{insert}
+use Rattle.eip_books.proofs.PutIn.{insert-place}
+use Rattle.eip_books.proofs.rising.RisingNumbers.put_in.Goals as goal
+
+pub returns-clause-numbers : goal.returns-clause-numbers
+returns-clause-numbers c =
+    let room = rw (← c.self.view_is) at c.requires in
+    let ok : is_ok c.insert.result ≡ true = grind (arith, common_steps, room, c.insert.ensures.full, c.insert.ensures.succeeds) in
+    let at = rw c.as_slice.ensures.value at c.place_of-at.ensures.place in
+    rw (c.insert.ensures.items, ok, ← c.self.view_is, ← at) (insert-place c.args.number c.self.inside.numbers.items)

@@ -1,0 +1,12 @@
+use Rattle.std.proofs.Common.{◌≡◌, ◌∙◌, ap, map, take, sym, subst, arith, length}
+use Rattle.std.proofs.lemmas.List.{take_all}
+use Rattle.std.proofs.lemmas.Grind.{common_steps}
+use Rattle.eip_plan.specs.Plan.{plan_of}
+use Rattle.eip_books.specs.Rows.{SourcesStand, first_row}
+use Rattle.eip_books.proofs.FirstSources.{first-stand}
+use Rattle.eip_books.proofs.sources.Sources.new.Goals as goal
+
+pub returns : goal.returns
+returns c =
+    let all : c.loop-route.states.items ≡ map first_row c.args.set.now.routes = grind (arith, common_steps, c.loop-route.invariant, c.items-route-items.ensures) in
+    rw all (first-stand c.args.set.now)

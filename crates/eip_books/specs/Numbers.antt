@@ -1,0 +1,26 @@
+-- Tables by number: what stands in the rows that pass a test.
+use Rattle.std.specs.Prelude.{ℕ, ◌+◌, Bool, true, false, cond, nat_lt, List, [], ◌∷◌, length, filter}
+
+-- the numbers of the rows that pass a test, where the first row has this number
+abbrev pub row_numbers : {R : Type 0} → (R → Bool) → ℕ → List R → List ℕ
+row_numbers p n [] = []
+row_numbers p n (r ∷ rs) = cond (p r) (n ∷ row_numbers p (n + 1) rs) (row_numbers p (n + 1) rs)
+
+-- how many rows pass a test
+abbrev pub row_count : {R : Type 0} → (R → Bool) → List R → ℕ
+row_count p rs = length (filter p rs)
+
+-- a table by number with the room that it has left
+pub record TableView (T : Type 0) : Type 0 where
+  pub items : List T
+  pub spare : ℕ
+
+-- numbers in rising order with the room that they have left
+pub record NumbersView : Type 0 where
+  pub numbers : List ℕ
+  pub spare : ℕ
+
+-- how many numbers stand before the first greater one
+abbrev pub place_in : ℕ → List ℕ → ℕ
+place_in x [] = 0
+place_in x (y ∷ ys) = cond (nat_lt x y) 0 (place_in x ys + 1)

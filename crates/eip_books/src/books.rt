@@ -1,0 +1,543 @@
+ghost use Rattle.std.specs.Prelude.{◌≡◌, ◌+◌, ◌-◌, ◌<◌, ◌≤◌, ◌∷◌, ◌++◌, [], List, ℕ, length, IfOk, OnOk, OnErr, Some, slice_get, IfSome, IfNone, IsTrue, ◌↔◌, ◌≢◌, ◌==◌, ◌&&◌, cond, None};
+ghost use Rattle.eip_ledger.specs.declared.entry.Kind.TheVariants.{Pull, Accept, Refuse, SourceEnd, SourceFault, Starve, Answer as Answered};
+ghost use Rattle.eip_history.specs.Births.{births, asked};
+ghost use Rattle.eip_history.specs.Own.{turns};
+ghost use Rattle.eip_ledger.specs.declared.place.Place.TheVariants.{Ready};
+ghost use Rattle.eip_history.specs.Place.{ready_numbers, place};
+ghost use Rattle.eip_history.specs.Rules.{May, first, IsBelow, outside_asked};
+ghost use Rattle.eip_history.specs.Stop.{or_else, with_fault, stop_of, is_over};
+ghost use Rattle.eip_ledger.specs.declared.place.Stop.TheVariants.{Drained, Spent};
+ghost use Rattle.eip_books.specs.declared.asking.Asked.TheVariants.{Unknown};
+ghost use Rattle.eip_history.specs.Texts.{notes};
+ghost use Rattle.eip_plan.specs.Plan.{plan_of};
+ghost use Rattle.eip_frames.specs.declared.answer.Answer.TheVariants.{Noted, Finished};
+ghost use Rattle.eip_frames.specs.declared.request.Request.{Request as ARequest};
+ghost use Rattle.eip_frames.specs.declared.request.Request.TheVariants.{Log};
+ghost use Rattle.eip_books.specs.Asking.{asked_kind, is_outside_kind, AsksLine, AsksEnd};
+ghost use Rattle.eip_books.specs.View.{plan, IsLegalRun, Adds, AddsNone, AddsAnswer, IsSame, IsKnown, IsIdleSource};
+ghost use Rattle.eip_books.specs.declared.books.Inner.TheVariants.{Did, Outside};
+ghost use Rattle.eip_books.specs.Places.{inner_of};
+
+use crate::asking::{Asked, asked_of};
+use crate::look::first_look;
+use crate::places::place_of;
+use crate::rising::RisingNumbers;
+use crate::row::{Row, SourceState, Stage, line_asked};
+use crate::rows::Rows;
+use crate::sources::Sources;
+use crate::table::Table;
+use eip_exchange::Message;
+use eip_frames::{Answer, Request};
+use eip_ledger::{Entry, Journal, Kind, Note, Place, Refused, Stop};
+use eip_route::RouteSet;
+use eip_text::{NoMemory, Text};
+use std::alloc::Global;
+use std::marker::Model;
+
+/// What came of a look at an exchange: its answer was made, or it waits for somebody outside.
+#[derive(Clone, Copy, Debug, PartialEq, Eq)]
+pub enum Inner {
+    Did,
+    Outside,
+}
+
+/// The journal of a run with the tables that stand for it.
+#[derive(Drop)]
+pub struct Books {
+    alloc: Global,
+    set: RouteSet,
+    journal: Journal,
+    rows: Rows,
+    ready: RisingNumbers,
+    sources: Sources,
+    turns: u64,
+    fault: Option<u32>,
+    notes: Table<Note>,
+    taken: u64,
+    pulled: u64,
+    live: u64,
+    room: u64,
+}
+
+impl Model for Books {
+    ghost use Rattle.std.specs.Prelude.{map};
+    ghost use Rattle.eip_frames.specs.declared.answer.Answer.TheVariants.{Noted, Finished};
+    ghost use Rattle.eip_frames.specs.declared.request.Request.{Request as ARequest};
+    ghost use Rattle.eip_frames.specs.declared.request.Request.TheVariants.{Log};
+    ghost use Rattle.eip_books.specs.Asking.{asked_kind, AsksLine, AsksEnd};
+    ghost use Rattle.eip_books.specs.View.{BooksView};
+
+    ghost Value = { BooksView };
+
+    ghost use Rattle.eip_books.specs.State.{known_of};
+
+    ghost view = { λ b. record { set = b.set; journal = b.journal; room = b.room; known = map known_of b.rows.items } };
+
+    ghost use Rattle.eip_books.specs.Facts.{BooksFacts};
+
+    ghost invariant = { BooksFacts };
+}
+
+/// The first of two faults, of which the second is there.
+fn first_fault(fault: Option<u32>, source: u32) -> Option<u32>
+    ensures { result ≡ or_else fault (Some source) }
+{
+    match fault {
+        Some(first) => Some(first),
+        None => Some(source),
+    }
+}
+
+/// The stop, or in its place the first source that failed.
+fn reported(fault: Option<u32>, stop: Stop) -> Stop
+    ensures { result ≡ with_fault fault stop }
+{
+    match fault {
+        Some(source) => Stop::SourceFault(source),
+        None => stop,
+    }
+}
+
+/// The stop of a run, if it is over or its turns are spent with no hand out.
+fn stop_by(over: bool, turns: u64, limit: u64, hands: u64, fault: Option<u32>) -> Option<Stop>
+    ensures { result ≡ cond over (Some (with_fault fault Drained)) (cond ((turns == limit) && (hands == 0)) (Some (with_fault fault Spent)) None) }
+{
+    if over {
+        return Some(reported(fault, Stop::Drained));
+    }
+    if turns == limit && hands == 0 {
+        return Some(reported(fault, Stop::Spent));
+    }
+    None
+}
+
+/// Room for one answer beside what is promised.
+fn make_room(journal: &mut Journal, notes: &mut Table<Note>, needed: u64) -> Result<(), NoMemory>
+    ensures journal { OnOk result (needed ≤ journal.new.spare) }
+    ensures notes { OnOk result (1 ≤ notes.new.spare) }
+    ensures less { journal.old.spare ≤ journal.new.spare }
+    ensures past { journal.new.past ≡ journal.old.past }
+    ensures workers { journal.new.workers ≡ journal.old.workers }
+    ensures turns { journal.new.turns ≡ journal.old.turns }
+    ensures items { notes.new.items ≡ notes.old.items }
+{
+    notes.reserve(1)?;
+    journal.reserve(needed as usize)?;
+    Ok(())
+}
+
+/// Keeps the line of the log that the exchange asked for, in room that was reserved.
+fn keep_line(notes: &mut Table<Note>, number: u64, request: Option<Request>)
+    requires { 1 ≤ notes.old.spare }
+    ensures { (name text : List ℕ) → request ≡ Some (Log name text) → notes.new.items ≡ notes.old.items ++ (record { number = number; name = name; text = text }) ∷ [] }
+{
+    if let Some((name, text)) = line_asked(request) {
+        notes.put_last(Note { number, name, text });
+    }
+}
+
+impl Books {
+    /// The books of a run that has no entry yet.
+    pub fn new(alloc: Global, set: RouteSet, workers: u32, turns: u32) -> Result<Books, NoMemory>
+        requires few { length set.routes ≤ 256 }
+        requires limit { turns ≤ 1000000 }
+        ensures set { IfOk result (λ b. b.set ≡ set) }
+        ensures workers { IfOk result (λ b. b.journal.workers ≡ workers) }
+        ensures turns { IfOk result (λ b. b.journal.turns ≡ turns) }
+        ensures past { IfOk result (λ b. b.journal.past ≡ []) }
+        ensures room { IfOk result (λ b. b.room ≡ 0) }
+        ensures known { IfOk result (λ b. b.known ≡ []) }
+    {
+        let sources = Sources::new(alloc, &set)?;
+        Ok(Books {
+            alloc,
+            set,
+            journal: Journal::new(alloc, workers, turns),
+            rows: Rows::new(alloc),
+            ready: RisingNumbers::new(alloc),
+            sources,
+            turns: 0,
+            fault: None,
+            notes: Table::new(alloc),
+            taken: 0,
+            pulled: 0,
+            live: 0,
+            room: 0,
+        })
+    }
+
+    /// The set whose run this is.
+    pub fn set(&self) -> &RouteSet
+        ensures { result.now ≡ self.now.set }
+    {
+        &self.set
+    }
+
+    /// The journal so far.
+    pub fn journal(&self) -> &Journal
+        ensures journal { result.now ≡ self.now.journal }
+        ensures legal { IsLegalRun self.now }
+    {
+        &self.journal
+    }
+
+    /// The journal, and nothing else, without memory.
+    pub fn into_journal(self) -> Journal
+        ensures { result ≡ self.journal }
+    {
+        let Books { journal, .. } = self;
+        journal
+    }
+
+    /// The source of a route is pulled.
+    pub fn pull(&mut self, worker: u32, source: u32)
+        requires worker { worker ≤ self.old.journal.workers }
+        requires may { May (plan self.old) self.old.journal.turns self.old.journal.past worker (Pull source) }
+        requires room { 1 ≤ self.old.room }
+        ensures adds { Adds self.old self.new worker (Pull source) }
+        ensures legal { IsLegalRun self.new }
+        ensures room { self.new.room + 1 ≡ self.old.room }
+        ensures known { self.new.known ≡ self.old.known }
+    {
+        self.journal.append_reserved(Entry {
+            worker,
+            kind: Kind::Pull(source),
+        });
+        self.sources.set(source, SourceState::Out(worker));
+        self.pulled += 1;
+        self.room -= 1;
+    }
+
+    /// The pulled source gave an item, which is a new exchange.
+    pub fn accept(&mut self, worker: u32, source: u32, item: Text, message: Message)
+        requires worker { worker ≤ self.old.journal.workers }
+        requires may { May (plan self.old) self.old.journal.turns self.old.journal.past worker (Accept source item message) }
+        ensures adds { Adds self.old self.new worker (Accept source item message) }
+        ensures legal { IsLegalRun self.new }
+        ensures room { self.new.room ≡ self.old.room }
+    {
+        let born = self.journal.entries().len();
+        self.journal.append_reserved(Entry {
+            worker,
+            kind: Kind::Accept {
+                source,
+                item,
+                message,
+            },
+        });
+        self.rows.put_last(Row::new(born));
+        let number = self.rows.len() as u64;
+        self.ready.put_last(number);
+        self.sources.set(source, SourceState::Idle);
+        self.turns += 1;
+        self.pulled -= 1;
+        self.live += 1;
+    }
+
+    /// The pulled source gave an item that is no exchange.
+    pub fn refuse(&mut self, worker: u32, source: u32, item: Text, cause: Refused)
+        requires worker { worker ≤ self.old.journal.workers }
+        requires may { May (plan self.old) self.old.journal.turns self.old.journal.past worker (Refuse source item cause) }
+        ensures adds { Adds self.old self.new worker (Refuse source item cause) }
+        ensures legal { IsLegalRun self.new }
+        ensures room { self.new.room ≡ self.old.room }
+        ensures known { self.new.known ≡ self.old.known }
+    {
+        self.journal.append_reserved(Entry {
+            worker,
+            kind: Kind::Refuse {
+                source,
+                item,
+                cause,
+            },
+        });
+        self.sources.set(source, SourceState::Idle);
+        self.turns += 1;
+        self.pulled -= 1;
+    }
+
+    /// The pulled source has no more.
+    pub fn source_end(&mut self, worker: u32, source: u32)
+        requires worker { worker ≤ self.old.journal.workers }
+        requires may { May (plan self.old) self.old.journal.turns self.old.journal.past worker (SourceEnd source) }
+        ensures adds { Adds self.old self.new worker (SourceEnd source) }
+        ensures legal { IsLegalRun self.new }
+        ensures room { self.new.room ≡ self.old.room }
+        ensures known { self.new.known ≡ self.old.known }
+    {
+        self.journal.append_reserved(Entry {
+            worker,
+            kind: Kind::SourceEnd(source),
+        });
+        self.sources.set(source, SourceState::Done);
+        self.pulled -= 1;
+    }
+
+    /// The pulled source failed and is pulled no more.
+    pub fn source_fault(&mut self, worker: u32, source: u32)
+        requires worker { worker ≤ self.old.journal.workers }
+        requires may { May (plan self.old) self.old.journal.turns self.old.journal.past worker (SourceFault source) }
+        ensures adds { Adds self.old self.new worker (SourceFault source) }
+        ensures legal { IsLegalRun self.new }
+        ensures room { self.new.room ≡ self.old.room }
+        ensures known { self.new.known ≡ self.old.known }
+    {
+        self.journal.append_reserved(Entry {
+            worker,
+            kind: Kind::SourceFault(source),
+        });
+        self.sources.set(source, SourceState::Done);
+        let first = first_fault(self.fault, source);
+        self.fault = first;
+        self.pulled -= 1;
+    }
+
+    /// Afterwards one pull or take, with what ends it, needs no memory.
+    pub fn reserve(&mut self) -> Result<(), NoMemory>
+        ensures ok { OnOk result (1 ≤ self.new.room) }
+        ensures none { AddsNone self.old self.new }
+        ensures legal { IsLegalRun self.new }
+        ensures room { self.old.room ≤ self.new.room }
+        ensures known { self.new.known ≡ self.old.known }
+    {
+        if self.room == 0 {
+            let hands = (self.pulled + self.taken) as usize;
+            self.journal.reserve(hands + 2)?;
+            self.rows.reserve(hands + 1)?;
+            self.ready.reserve(hands + 1)?;
+            self.room = 1;
+        }
+        Ok(())
+    }
+
+    /// Looks at what a Ready exchange asks. On `NoMemory` the books are as before.
+    fn look(&mut self, number: u64) -> Result<(), NoMemory>
+        requires { place (plan self.old) self.old.journal.past number ≡ Some Ready }
+        ensures none { AddsNone self.old self.new }
+        ensures legal { IsLegalRun self.new }
+        ensures room { self.new.room ≡ self.old.room }
+        ensures known { OnOk result (IsKnown self.new.known number) }
+        ensures err { OnErr result (self.new.known ≡ self.old.known) }
+    {
+        let row = self.rows.get(number);
+        match row.stage {
+            Stage::New => {
+                let (cursor, request) = first_look(
+                    self.alloc,
+                    &self.set,
+                    self.journal.entries(),
+                    number,
+                    row.born,
+                )?;
+                self.rows.begin(number, cursor, request);
+                Ok(())
+            }
+            Stage::Answered(entry) => match &self.journal.entries()[entry].kind {
+                Kind::Answer { answer, .. } => {
+                    self.rows.look(number, self.alloc, &self.set, answer)
+                }
+                _ => Err(NoMemory),
+            },
+            _ => Ok(()),
+        }
+    }
+
+    /// What a Ready exchange that was looked at asks for.
+    fn asked(&self, number: u64) -> Asked
+        requires ready { place (plan self.now) self.now.journal.past number ≡ Some Ready }
+        requires known { IsKnown self.now.known number }
+        ensures kind { (q : ARequest) → slice_get self.now.known (number - 1) ≡ Some (Some q) → result ≡ asked_kind q }
+        ensures outside { is_outside_kind result ≡ outside_asked (asked (plan self.now) self.now.journal.past number) }
+        ensures some { result ≢ Unknown }
+    {
+        asked_of(&self.rows.get(number).request)
+    }
+
+    /// The line of the log that the exchange asks for is written.
+    fn note(&mut self, worker: u32, number: u64) -> Result<(), NoMemory>
+        requires worker { worker ≤ self.old.journal.workers }
+        requires ready { place (plan self.old) self.old.journal.past number ≡ Some Ready }
+        requires below { IsBelow (plan self.old) self.old.journal.turns self.old.journal.past }
+        requires line { AsksLine self.old.known number }
+        ensures adds { OnOk result (Adds self.old self.new worker (Answered number Noted)) }
+        ensures err { OnErr result (IsSame self.old self.new) }
+        ensures legal { IsLegalRun self.new }
+        ensures room { self.new.room ≡ self.old.room }
+    {
+        let needed = 2 * self.room + self.pulled + self.taken + 1;
+        make_room(&mut self.journal, &mut self.notes, needed)?;
+        let entry = self.journal.entries().len();
+        let request = self.rows.answer(number, entry);
+        keep_line(&mut self.notes, number, request);
+        self.journal.append_reserved(Entry {
+            worker,
+            kind: Kind::Answer {
+                number,
+                answer: Answer::Noted,
+            },
+        });
+        self.turns += 1;
+        Ok(())
+    }
+
+    /// The exchange ends as it asks.
+    fn finish(&mut self, worker: u32, number: u64) -> Result<(), NoMemory>
+        requires worker { worker ≤ self.old.journal.workers }
+        requires ready { place (plan self.old) self.old.journal.past number ≡ Some Ready }
+        requires below { IsBelow (plan self.old) self.old.journal.turns self.old.journal.past }
+        requires end { AsksEnd self.old.known number }
+        ensures adds { OnOk result (Adds self.old self.new worker (Answered number Finished)) }
+        ensures err { OnErr result (IsSame self.old self.new) }
+        ensures legal { IsLegalRun self.new }
+        ensures room { self.new.room ≡ self.old.room }
+    {
+        let needed = 2 * self.room + self.pulled + self.taken + 1;
+        make_room(&mut self.journal, &mut self.notes, needed)?;
+        self.rows.finish_asked(number);
+        self.ready.remove(number);
+        self.journal.append_reserved(Entry {
+            worker,
+            kind: Kind::Answer {
+                number,
+                answer: Answer::Finished,
+            },
+        });
+        self.turns += 1;
+        self.live -= 1;
+        Ok(())
+    }
+
+    /// A Ready exchange is ended for want of memory.
+    pub fn starve(&mut self, worker: u32, number: u64)
+        requires worker { worker ≤ self.old.journal.workers }
+        requires ready { place (plan self.old) self.old.journal.past number ≡ Some Ready }
+        requires room { 1 ≤ self.old.room }
+        ensures adds { Adds self.old self.new worker (Starve number) }
+        ensures legal { IsLegalRun self.new }
+        ensures room { self.new.room + 1 ≡ self.old.room }
+    {
+        self.rows.close(number, Stage::Starved);
+        self.ready.remove(number);
+        self.journal.append_reserved(Entry {
+            worker,
+            kind: Kind::Starve(number),
+        });
+        self.live -= 1;
+        self.room -= 1;
+    }
+
+    /// Does what a Ready exchange asks for, where no one outside is needed. On `NoMemory` no entry is made.
+    pub fn inner(&mut self, worker: u32, number: u64) -> Result<Inner, NoMemory>
+        requires worker { worker ≤ self.old.journal.workers }
+        requires ready { place (plan self.old) self.old.journal.past number ≡ Some Ready }
+        requires below { IsBelow (plan self.old) self.old.journal.turns self.old.journal.past }
+        ensures did { IfOk result (λ i. i ≡ Did → AddsAnswer self.old self.new worker number) }
+        ensures outside { IfOk result (λ i. i ≡ Outside → AddsNone self.old self.new) }
+        ensures exact { IfOk result (λ i. i ≡ inner_of (outside_asked (asked (plan self.old) self.old.journal.past number))) }
+        ensures err { OnErr result (AddsNone self.old self.new) }
+        ensures legal { IsLegalRun self.new }
+        ensures room { self.new.room ≡ self.old.room }
+    {
+        self.look(number)?;
+        match self.asked(number) {
+            Asked::Line => {
+                self.note(worker, number)?;
+                Ok(Inner::Did)
+            }
+            Asked::End => {
+                self.finish(worker, number)?;
+                Ok(Inner::Did)
+            }
+            Asked::Outside | Asked::Unknown => Ok(Inner::Outside),
+        }
+    }
+
+    /// The first route whose source may be pulled but for the limit.
+    pub fn idle_source(&self) -> Option<u32>
+        ensures some { IfSome result (λ t. IsIdleSource (plan self.now) self.now.journal.past t) }
+        ensures least { IfSome result (λ t. (r : ℕ) → r < t → IsIdleSource (plan self.now) self.now.journal.past r → ⊥) }
+        ensures none { IfNone result ((r : ℕ) → IsIdleSource (plan self.now) self.now.journal.past r → ⊥) }
+        ensures legal { IsLegalRun self.now }
+    {
+        match self.sources.first_idle() {
+            Some(route) => Some(route as u32),
+            None => None,
+        }
+    }
+
+    /// Whether the turns taken and the hands out are below the limit.
+    pub fn is_below(&self) -> bool
+        ensures { IsTrue result ↔ IsBelow (plan self.now) self.now.journal.turns self.now.journal.past }
+    {
+        self.turns + self.pulled + self.taken < u64::from(self.journal.turns())
+    }
+
+    /// Whether nothing waits.
+    fn is_over(&self) -> bool
+        ensures { result ≡ is_over (plan self.now) self.now.journal.past }
+    {
+        if self.live == 0 {
+            self.sources.are_done()
+        } else {
+            false
+        }
+    }
+
+    /// Why the run stops here; None where it goes on.
+    pub fn stop(&self) -> Option<Stop>
+        ensures stop { result ≡ stop_of (plan self.now) self.now.journal.turns self.now.journal.past }
+        ensures legal { IsLegalRun self.now }
+    {
+        let over = self.is_over();
+        let limit = u64::from(self.journal.turns());
+        stop_by(
+            over,
+            self.turns,
+            limit,
+            self.pulled + self.taken,
+            self.fault,
+        )
+    }
+
+    /// Where an exchange stands; None for a number that is not born.
+    pub fn place(&self, alloc: Global, number: u64) -> Result<Option<Place>, NoMemory>
+        ensures { IfOk result (λ p. p ≡ place (plan self.now) self.now.journal.past number) }
+    {
+        if number == 0 {
+            return Ok(None);
+        }
+        if number > self.rows.len() as u64 {
+            return Ok(None);
+        }
+        let place = place_of(alloc, self.rows.get(number), self.journal.entries())?;
+        Ok(Some(place))
+    }
+
+    /// The least number of a Ready exchange.
+    pub fn ready(&self) -> Option<u64>
+        ensures { result ≡ first (ready_numbers (plan self.now) self.now.journal.past) }
+    {
+        self.ready.least()
+    }
+
+    /// The lines of the log, the oldest first.
+    pub fn notes(&self) -> &[Note]
+        ensures { result.now ≡ notes (plan self.now) self.now.journal.past }
+    {
+        self.notes.items()
+    }
+
+    /// How many exchanges there are.
+    pub fn total(&self) -> u64
+        ensures { result ≡ length (births (plan self.now) self.now.journal.past) }
+    {
+        self.rows.len() as u64
+    }
+
+    /// How many turns have been taken.
+    pub fn turns_taken(&self) -> u64
+        ensures { result ≡ turns self.now.journal.past }
+    {
+        self.turns
+    }
+}

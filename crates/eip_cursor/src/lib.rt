@@ -1,0 +1,8 @@
+// A cursor runs one exchange from one request to the next.
+#![tactic(auto)]
+
+mod cursor;
+mod run;
+mod steps;
+
+pub use cursor::{Cursor, Next};

@@ -1,0 +1,218 @@
+ghost use Rattle.std.specs.Prelude.{◌≡◌, ◌+◌, ◌<◌, ◌≤◌, [], ℕ, length, IfOk, OnOk, OnErr, Some, IfSome, IfNone, IsSome};
+ghost use Rattle.eip_ledger.specs.declared.entry.Kind.TheVariants.{Pull, Accept, Refuse, SourceEnd, SourceFault, Starve};
+ghost use Rattle.eip_ledger.specs.declared.place.Place.TheVariants.{Ready};
+ghost use Rattle.eip_history.specs.Own.{turns};
+ghost use Rattle.eip_history.specs.Births.{births, asked};
+ghost use Rattle.eip_history.specs.Place.{ready_numbers, place};
+ghost use Rattle.eip_history.specs.Rules.{May, first, IsBelow, outside_asked};
+ghost use Rattle.eip_history.specs.Stop.{stop_of};
+ghost use Rattle.eip_history.specs.Texts.{notes};
+ghost use Rattle.eip_books.specs.declared.books.Inner.TheVariants.{Did, Outside};
+ghost use Rattle.eip_books.specs.View.{plan, IsLegalRun, Adds, AddsNone, AddsAnswer};
+ghost use Rattle.eip_books.specs.Places.{inner_of};
+
+use eip_books::{Books, Inner};
+use eip_exchange::Message;
+use eip_ledger::{Journal, Note, Place, Refused, Stop};
+use eip_route::RouteSet;
+use eip_text::{NoMemory, Text};
+use std::alloc::Global;
+use std::marker::Model;
+
+/// The state of a run: a legal journal of its route set, and what is known of it.
+#[derive(Drop)]
+pub struct Hub {
+    books: Books,
+}
+
+impl Model for Hub {
+    ghost use Rattle.eip_books.specs.View.{BooksView};
+
+    ghost Value = { BooksView };
+
+    ghost view = { λ h. h.books };
+}
+
+impl Hub {
+    /// The hub of a run that has no entry yet, for workers with the numbers 0 to `workers` and at most `turns` turns.
+    pub fn new(alloc: Global, set: RouteSet, workers: u32, turns: u32) -> Result<Hub, NoMemory>
+        requires few { length set.routes ≤ 256 }
+        requires limit { turns ≤ 1000000 }
+        ensures set { IfOk result (λ h. h.set ≡ set) }
+        ensures workers { IfOk result (λ h. h.journal.workers ≡ workers) }
+        ensures turns { IfOk result (λ h. h.journal.turns ≡ turns) }
+        ensures past { IfOk result (λ h. h.journal.past ≡ []) }
+        ensures room { IfOk result (λ h. h.room ≡ 0) }
+    {
+        let books = Books::new(alloc, set, workers, turns)?;
+        Ok(Hub { books })
+    }
+
+    /// The set whose run this is.
+    pub fn set(&self) -> &RouteSet
+        ensures { result.now ≡ self.now.set }
+    {
+        self.books.set()
+    }
+
+    /// The journal so far.
+    pub fn journal(&self) -> &Journal
+        ensures journal { result.now ≡ self.now.journal }
+        ensures legal { IsLegalRun self.now }
+    {
+        self.books.journal()
+    }
+
+    /// The journal, and nothing else, without memory.
+    pub fn into_journal(self) -> Journal
+        ensures { result ≡ self.journal }
+    {
+        let Hub { books } = self;
+        books.into_journal()
+    }
+
+    /// Where an exchange stands; None exactly for a number that is not born.
+    pub fn place(&self, alloc: Global, number: u64) -> Result<Option<Place>, NoMemory>
+        ensures { IfOk result (λ p. p ≡ place (plan self.now) self.now.journal.past number) }
+    {
+        self.books.place(alloc, number)
+    }
+
+    /// The lines of the log, the oldest first.
+    pub fn notes(&self) -> &[Note]
+        ensures { result.now ≡ notes (plan self.now) self.now.journal.past }
+    {
+        self.books.notes()
+    }
+
+    /// How many exchanges there are.
+    pub fn total(&self) -> u64
+        ensures { result ≡ length (births (plan self.now) self.now.journal.past) }
+    {
+        self.books.total()
+    }
+
+    /// How many turns have been taken.
+    pub fn turns_taken(&self) -> u64
+        ensures { result ≡ turns self.now.journal.past }
+    {
+        self.books.turns_taken()
+    }
+
+    /// Why the run stops here; None exactly where it goes on.
+    pub fn stop(&self) -> Option<Stop>
+        ensures stop { result ≡ stop_of (plan self.now) self.now.journal.turns self.now.journal.past }
+        ensures legal { IsLegalRun self.now }
+    {
+        self.books.stop()
+    }
+
+    /// The least number of a Ready exchange.
+    pub fn ready(&self) -> Option<u64>
+        ensures { result ≡ first (ready_numbers (plan self.now) self.now.journal.past) }
+    {
+        self.books.ready()
+    }
+
+    /// Afterwards one `pull` or `starve` needs no memory, and neither does the call that ends such a pull.
+    pub fn reserve(&mut self) -> Result<(), NoMemory>
+        ensures ok { OnOk result (1 ≤ self.new.room) }
+        ensures none { AddsNone self.old self.new }
+        ensures legal { IsLegalRun self.new }
+        ensures room { self.old.room ≤ self.new.room }
+    {
+        self.books.reserve()
+    }
+
+    /// Pulls the first source, by route, that may be pulled. None exactly where no source may be pulled.
+    pub fn pull(&mut self, worker: u32) -> Option<u32>
+        requires worker { worker ≤ self.old.journal.workers }
+        requires room { 1 ≤ self.old.room }
+        ensures may { IfSome result (λ t. May (plan self.old) self.old.journal.turns self.old.journal.past worker (Pull t)) }
+        ensures adds { IfSome result (λ t. Adds self.old self.new worker (Pull t)) }
+        ensures room { IfSome result (λ _. self.new.room + 1 ≡ self.old.room) }
+        ensures least { IfSome result (λ t. (r : ℕ) → r < t → May (plan self.old) self.old.journal.turns self.old.journal.past worker (Pull r) → ⊥) }
+        ensures none { IfNone result (self.new ≡ self.old) }
+        ensures exact { IfNone result ((r : ℕ) → May (plan self.old) self.old.journal.turns self.old.journal.past worker (Pull r) → ⊥) }
+        ensures legal { IsLegalRun self.new }
+    {
+        let source = self.books.idle_source()?;
+        if self.books.is_below() {
+            self.books.pull(worker, source);
+            Some(source)
+        } else {
+            None
+        }
+    }
+
+    /// The pulled source gave an item, which is a new exchange.
+    pub fn accept(&mut self, worker: u32, source: u32, item: Text, message: Message)
+        requires worker { worker ≤ self.old.journal.workers }
+        requires may { May (plan self.old) self.old.journal.turns self.old.journal.past worker (Accept source item message) }
+        ensures adds { Adds self.old self.new worker (Accept source item message) }
+        ensures legal { IsLegalRun self.new }
+        ensures room { self.new.room ≡ self.old.room }
+    {
+        self.books.accept(worker, source, item, message);
+    }
+
+    /// The pulled source gave an item that is no exchange.
+    pub fn refuse(&mut self, worker: u32, source: u32, item: Text, cause: Refused)
+        requires worker { worker ≤ self.old.journal.workers }
+        requires may { May (plan self.old) self.old.journal.turns self.old.journal.past worker (Refuse source item cause) }
+        ensures adds { Adds self.old self.new worker (Refuse source item cause) }
+        ensures legal { IsLegalRun self.new }
+        ensures room { self.new.room ≡ self.old.room }
+    {
+        self.books.refuse(worker, source, item, cause);
+    }
+
+    /// The pulled source has no more.
+    pub fn source_end(&mut self, worker: u32, source: u32)
+        requires worker { worker ≤ self.old.journal.workers }
+        requires may { May (plan self.old) self.old.journal.turns self.old.journal.past worker (SourceEnd source) }
+        ensures adds { Adds self.old self.new worker (SourceEnd source) }
+        ensures legal { IsLegalRun self.new }
+        ensures room { self.new.room ≡ self.old.room }
+    {
+        self.books.source_end(worker, source);
+    }
+
+    /// The pulled source failed and is pulled no more.
+    pub fn source_fault(&mut self, worker: u32, source: u32)
+        requires worker { worker ≤ self.old.journal.workers }
+        requires may { May (plan self.old) self.old.journal.turns self.old.journal.past worker (SourceFault source) }
+        ensures adds { Adds self.old self.new worker (SourceFault source) }
+        ensures legal { IsLegalRun self.new }
+        ensures room { self.new.room ≡ self.old.room }
+    {
+        self.books.source_fault(worker, source);
+    }
+
+    /// Does what a Ready exchange asks for, where no one outside is needed. On `NoMemory` no entry is made.
+    pub fn inner(&mut self, worker: u32, number: u64) -> Result<Inner, NoMemory>
+        requires worker { worker ≤ self.old.journal.workers }
+        requires ready { place (plan self.old) self.old.journal.past number ≡ Some Ready }
+        requires below { IsBelow (plan self.old) self.old.journal.turns self.old.journal.past }
+        ensures did { IfOk result (λ i. i ≡ Did → AddsAnswer self.old self.new worker number) }
+        ensures outside { IfOk result (λ i. i ≡ Outside → AddsNone self.old self.new) }
+        ensures exact { IfOk result (λ i. i ≡ inner_of (outside_asked (asked (plan self.old) self.old.journal.past number))) }
+        ensures err { OnErr result (AddsNone self.old self.new) }
+        ensures legal { IsLegalRun self.new }
+        ensures room { self.new.room ≡ self.old.room }
+    {
+        self.books.inner(worker, number)
+    }
+
+    /// A Ready exchange is ended for want of memory.
+    pub fn starve(&mut self, worker: u32, number: u64)
+        requires worker { worker ≤ self.old.journal.workers }
+        requires ready { place (plan self.old) self.old.journal.past number ≡ Some Ready }
+        requires room { 1 ≤ self.old.room }
+        ensures adds { Adds self.old self.new worker (Starve number) }
+        ensures legal { IsLegalRun self.new }
+        ensures room { self.new.room + 1 ≡ self.old.room }
+    {
+        self.books.starve(worker, number);
+    }
+}

@@ -1,0 +1,7 @@
+// The hub: the state machine that every event of a run passes through. Each event adds one legal entry to the journal.
+#![tactic(auto)]
+
+pub mod hub;
+
+pub use eip_books::Inner;
+pub use hub::Hub;

@@ -1,0 +1,77 @@
+-- How a part of a route behaves, whatever steps it is made of: it asks something and goes on as the answer says, or it is through.
+use Rattle.std.proofs.Common.{◌≡◌, Bool, true, false, cond, List, [], ◌∷◌, refl, sym, subst}
+use Rattle.std.specs.Prelude.{Option, Some, None}
+use Rattle.std.proofs.Math.Path.{fun_ext}
+use Rattle.eip_exchange.specs.declared.message.Message.{Message}
+use Rattle.eip_exchange.specs.declared.end.End.{End}
+use Rattle.eip_exchange.specs.declared.end.End.TheVariants.{Failed}
+use Rattle.eip_exchange.specs.declared.end.Fault.{Fault}
+use Rattle.eip_uri.specs.declared.uri.Uri.{Uri}
+use Rattle.eip_uri.specs.declared.uri.Uri.TheVariants as uri
+use Rattle.eip_route.specs.declared.step.Step.{Step}
+use Rattle.eip_route.specs.declared.step.Step.TheVariants as step
+use Rattle.eip_frames.specs.Fits.{fits}
+use Rattle.eip_frames.specs.declared.request.At.{At}
+use Rattle.eip_frames.specs.declared.request.Request.{Request}
+use Rattle.eip_frames.specs.declared.answer.Answer.{Answer as Reply}
+use Rattle.eip_meaning.specs.Asked.{IsOfStep, Logs, Sends}
+use Rattle.eip_meaning.specs.Outcomes.{Outcome, Asks, Goes, Stops, Faults, Stray, Runner, followed, caught, fault_in, answered_by, ask}
+use Rattle.eip_meaning.specs.Meaning.{value_of, is_too_long, to_mean, one_try, caught_message, ends_failed, steps_mean}
+
+-- what a part gives on the answers to come; `faulty` says that it may fault
+pub data Script : (faulty : Bool) → (List Reply → Outcome) → Type 0 where
+  asks : {faulty : Bool} {R : List Reply → Outcome} (q : Request) (p : At) → IsOfStep q → R [] ≡ Asks q p
+      → ((a : Reply) (A : List Reply) → fits q a ≡ false → R (a ∷ A) ≡ Stray)
+      → ((a : Reply) → fits q a ≡ true → Script faulty (λ A. R (a ∷ A))) → Script faulty R
+  goes : {faulty : Bool} {R : List Reply → Outcome} (m : Message) → ((A : List Reply) → R A ≡ Goes m A) → Script faulty R
+  stops : {faulty : Bool} {R : List Reply → Outcome} (e : End) (m : Message) → ((A : List Reply) → R A ≡ Stops e m A) → Script faulty R
+  faults : {R : List Reply → Outcome} (f : Fault) → ((A : List Reply) → R A ≡ Faults f A) → Script true R
+
+-- a script of what gives the same
+script-along : {faulty : Bool} (R S : List Reply → Outcome) → ((A : List Reply) → S A ≡ R A) → Script faulty R → Script faulty S
+script-along {faulty} R S h s = subst (λ (F : List Reply → Outcome). Script faulty F) (sym (fun_ext h)) s
+
+-- one part behind another
+pub followed-script : {faulty : Bool} {R : List Reply → Outcome} (K : Runner) → Script faulty R → ((m : Message) → Script faulty (K m)) → Script faulty (λ A. followed (R A) K)
+followed-script K (asks q p i h n k) g = asks q p i (rw h refl) (λ a A e. rw (n a A e) refl) (λ a e. followed-script K (k a e) g)
+followed-script {faulty} {R} K (goes m h) g = script-along (K m) (λ A. followed (R A) K) (λ A. rw (h A) refl) (g m)
+followed-script K (stops e m h) g = stops e m (λ A. rw (h A) refl)
+followed-script K (faults f h) g = faults f (λ A. rw (h A) refl)
+
+-- a part with what treats its faults
+pub caught-script : {R : List Reply → Outcome} (K : Fault → List Reply → Outcome) → Script true R → ((f : Fault) → Script false (K f)) → Script false (λ A. caught (R A) K)
+caught-script K (asks q p i h n k) g = asks q p i (rw h refl) (λ a A e. rw (n a A e) refl) (λ a e. caught-script K (k a e) g)
+caught-script K (goes m h) g = goes m (λ A. rw (h A) refl)
+caught-script K (stops e m h) g = stops e m (λ A. rw (h A) refl)
+caught-script {R} K (faults f h) g = script-along (K f) (λ A. caught (R A) K) (λ A. rw (h A) refl) (g f)
+
+answered-script : (o : Option Fault) (K : Reply → List Reply → Outcome) (a : Reply) → Script true (K a) → Script true (λ A. answered_by o K a A)
+answered-script None K a s = s
+answered-script (Some f) K a s = faults f (λ A. refl)
+
+-- a request, and what follows its answers
+pub ask-script : (q : Request) (p : At) (K : Reply → List Reply → Outcome) → IsOfStep q → ((a : Reply) → Script true (K a)) → Script true (λ A. ask q p K A)
+ask-script q p K i g =
+    asks q p i refl (λ a A e. rw e refl)
+    (λ a e. script-along (λ A. answered_by (fault_in q a) K a A) (λ A. ask q p K (a ∷ A)) (λ A. rw e refl) (answered-script (fault_in q a) K a (g a)))
+
+unless-script : (b : Bool) (f : Fault) (m : Message) → Script true (λ A. cond b (Faults f A) (Goes m A))
+unless-script true f m = faults f (λ A. refl)
+unless-script false f m = goes m (λ A. refl)
+
+to-script : (p : At) (u : Uri) (m : Message) → Script true (to_mean p u m)
+to-script p (uri.Log name) m = ask-script _ p _ (Logs name m.body) (λ a. goes m (λ A. refl))
+to-script p (uri.Lane name) m = ask-script _ p _ (Sends name m) (λ a. goes m (λ A. refl))
+to-script p _ m = goes m (λ A. refl)
+
+try-script : (p : At) (s : Step) (m : Message) → Script true (one_try p s m)
+try-script p (step.SetBody e) m = unless-script (is_too_long (value_of e m)) _ _
+try-script p (step.To u) m = to-script p u m
+
+-- steps fault no more: what isn't handled stops the exchange
+pub steps-script : (p : At) (ss : List Step) (m : Message) → Script false (steps_mean p ss m)
+steps-script p [] m = goes m (λ A. refl)
+steps-script p (s ∷ ss) m =
+    followed-script (λ m' A'. steps_mean p ss m' A')
+    (caught-script (λ f A'. ends_failed f m A') (try-script p s m) (λ f. stops (Failed f) (caught_message m f) (λ A. refl)))
+    (λ m'. steps-script p ss m')

@@ -1,0 +1,5 @@
+pub mod Outcomes
+pub mod Meaning
+pub mod Asked
+pub mod Ending
+pub mod Example

@@ -1,0 +1,11 @@
+pub mod Refusals
+pub mod TemplateSteps
+pub mod Matching
+pub mod Conjunctions
+pub mod Spelled
+pub mod Again
+pub mod AgainAll
+pub mod Fits
+pub mod TestsFit
+pub mod Laws
+pub mod Rows

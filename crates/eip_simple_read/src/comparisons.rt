@@ -1,0 +1,102 @@
+ghost use Rattle.std.specs.Prelude.{◌≡◌, ◌<◌, ◌≤◌, ℕ, length, IfOk};
+ghost use Rattle.eip_text.specs.Causes.{Rises};
+ghost use Rattle.eip_simple_read.specs.Reading as spec;
+ghost use Rattle.eip_simple_read.specs.Reading.{GivesAt, StopsWithin, stop_failures};
+ghost use Rattle.eip_simple_read.specs.Patterns.{IsGoodPattern};
+ghost use Rattle.eip_simple_read.specs.Reading.{HasGoodPattern};
+
+use crate::fault::Stop;
+use crate::joints::{gap, spaced};
+use crate::operators::{Operator, operator_at};
+use crate::pattern::{Pattern, PatternFault, Patterns};
+use crate::sides::side_at;
+use crate::tree::{Part, Side, Test};
+use eip_text::cuts::behind;
+use eip_text::{NoMemory, Text};
+use std::alloc::Global;
+
+/// The plain text that the parts are, where they have no function.
+fn plain_text(alloc: Global, parts: &[Part]) -> Result<Option<Text>, NoMemory>
+    ensures { IfOk result (λ o. o ≡ spec.plain_text parts.now) }
+{
+    match parts {
+        [] => Ok(Some(Text::of_str(alloc, "")?)),
+        [Part::Plain(text)] => Ok(Some(text.copy()?)),
+        _ => Ok(None),
+    }
+}
+
+/// The text of the side with which `text` begins, where it is quoted and has no function.
+fn pattern_text(alloc: Global, text: &str, side: &Side) -> Result<Option<Text>, NoMemory>
+    ensures { IfOk result (λ o. o ≡ spec.pattern_text text.now side.now) }
+{
+    let is_quoted = behind(text, "'").is_some() || behind(text, "\"").is_some();
+    match side {
+        Side::Value(template) if is_quoted => plain_text(alloc, template.parts.items()),
+        _ => Ok(None),
+    }
+}
+
+/// The pattern of the right side of `regex` that stands in front, and what stands behind it.
+#[tactic(auto, unfolding(crate::specs::Reading::pattern_at))]
+fn pattern_at<'t, P: Patterns>(
+    alloc: Global,
+    text: &'t str,
+    patterns: &mut P,
+) -> Result<(Pattern, &'t str), Stop>
+    ensures reads { GivesAt (λ x. (x.0, x.1.now)) result (λ refused. spec.pattern_at refused text.now) }
+    ensures later { IfOk result (λ x. (left : ℕ) → left ≤ length x.1.now → spec.pattern_at (Some left) text.now ≡ Ok (x.0, x.1.now)) }
+    ensures shorter { IfOk result (λ x. length x.1.now < length text.now) }
+    ensures within { StopsWithin (length text.now) result }
+    ensures grammar { IfOk result (λ x. IsGoodPattern x.0) }
+    ensures cause { Rises (stop_failures result) (P.pattern_faults patterns.old) (P.pattern_faults patterns.new) }
+{
+    let (side, rest) = side_at(alloc, text)?;
+    let Some(plain) = pattern_text(alloc, text, &side)? else {
+        return Err(Stop::Bad(text.len()));
+    };
+    match patterns.build(alloc, &plain) {
+        Ok(pattern) => Ok((pattern, rest)),
+        Err(PatternFault::NoMemory) => Err(Stop::Memory),
+        Err(fault) => Err(Stop::Pattern(text.len(), fault)),
+    }
+}
+
+/// The test that stands in front, and what stands behind it and its spaces.
+#[tactic(auto, unfolding(crate::specs::Reading::test_at))]
+pub fn test_at<'t, P: Patterns>(
+    alloc: Global,
+    text: &'t str,
+    patterns: &mut P,
+) -> Result<(Test, &'t str), Stop>
+    ensures reads { GivesAt (λ x. (x.0, x.1.now)) result (λ refused. spec.test_at refused text.now) }
+    ensures later { IfOk result (λ x. (left : ℕ) → left ≤ length x.1.now → spec.test_at (Some left) text.now ≡ Ok (x.0, x.1.now)) }
+    ensures shorter { IfOk result (λ x. length x.1.now < length text.now) }
+    ensures within { StopsWithin (length text.now) result }
+    ensures grammar { IfOk result (λ x. HasGoodPattern x.0) }
+    ensures cause { Rises (stop_failures result) (P.pattern_faults patterns.old) (P.pattern_faults patterns.new) }
+{
+    let (left, after) = side_at(alloc, text)?;
+    let rest = gap(after)?;
+    let Some((operator, more)) = operator_at(rest) else {
+        return Ok((Test::Single(left), rest));
+    };
+    let next = spaced(more)?;
+    match operator {
+        Operator::Compares(op) => {
+            let (right, end) = side_at(alloc, next)?;
+            let rest = gap(end)?;
+            Ok((Test::Compare { left, op, right }, rest))
+        }
+        Operator::Matches { negated } => {
+            let (pattern, end) = pattern_at(alloc, next, patterns)?;
+            let rest = gap(end)?;
+            let test = Test::Matches {
+                left,
+                pattern,
+                negated,
+            };
+            Ok((test, rest))
+        }
+    }
+}

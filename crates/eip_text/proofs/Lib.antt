@@ -1,0 +1,10 @@
+pub mod Again
+pub mod Canonical
+pub mod CountLemmas
+pub mod Cutting
+pub mod Escaping
+pub mod Levels
+pub mod Occurrences
+pub mod Printing
+pub mod Readings
+pub mod Wholes
