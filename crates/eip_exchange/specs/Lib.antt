@@ -2,3 +2,4 @@ pub mod Pairs
 pub mod Headers
 pub mod Keys
 pub mod Ends
+pub mod Limits
