@@ -1,0 +1,4 @@
+pub mod Told
+pub mod LaneLaws
+pub mod InletLaws
+pub mod Named

@@ -1,5 +1,5 @@
 -- What a pull or a commit adds to the content of a source and to its count of faults.
-use Rattle.std.specs.Prelude.{ℕ, ◌≡◌, ◌++◌, List, [], ◌∷◌, Option, Some, None, Result, Ok, Err}
+use Rattle.std.specs.Prelude.{ℕ, ◌≡◌, ◌++◌, List, [], ◌∷◌, Option, Result, Ok, Err}
 use Rattle.eip_exchange.specs.Limits.{IsGivable}
 use Rattle.eip_exchange.specs.declared.end.End.{End as AnEnd}
 use Rattle.eip_endpoint.specs.Content.{IfTold}
