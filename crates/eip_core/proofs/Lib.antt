@@ -1,0 +1,4 @@
+pub mod Actors
+pub mod Progress
+pub mod Quiet
+pub mod Compose

@@ -1,0 +1,130 @@
+ghost use Rattle.std.specs.Prelude.{◌≡◌, ◌≤◌, ◌<◌, None, Some, OnOk, IfOk, IfSome, IfNone, map};
+ghost use Rattle.eip_endpoint.specs.Lanes.{seen_lane};
+ghost use Rattle.eip_endpoint.specs.Inlets.{seen_inlet};
+ghost use Rattle.eip_history.specs.Own.{turns};
+ghost use Rattle.eip_history.specs.Place.{hands, ready_numbers};
+ghost use Rattle.eip_history.specs.Rules.{IsBelow, first};
+ghost use Rattle.eip_history.specs.Stop.{stop_of};
+ghost use Rattle.eip_books.specs.View.{plan, IsLegalRun};
+ghost use Rattle.eip_core.specs.Doors.{HasInlets};
+ghost use Rattle.eip_core.specs.Drain.{IsStop, Drains, Acts};
+
+use crate::outside::{pull_source, refused};
+use crate::registry::Registry;
+use eip_endpoint::{Endpoint, Inlet, Lane, PullFault, Pulled, Source};
+use eip_hub::{Hub, Inner};
+use eip_ledger::Stop;
+use eip_text::NoMemory;
+
+/// Pulls the first source that has not ended, and enters what came of it.
+fn pull_once(hub: &mut Hub, lanes: &mut [Lane], inlets: &mut [Inlet]) -> Result<(), NoMemory>
+    requires waits { stop_of (plan hub.old) hub.old.journal.turns hub.old.journal.past ≡ None }
+    requires legal { IsLegalRun hub.old }
+    requires home { hands (plan hub.old) hub.old.journal.past ≡ 0 }
+    requires nobody { first (ready_numbers (plan hub.old) hub.old.journal.past) ≡ None }
+    requires room { 1 ≤ hub.old.room }
+    requires inlets { HasInlets hub.old.set (map (λ i. i.name) inlets.old) }
+    ensures legal { IsLegalRun hub.new }
+    ensures drains { Drains hub.old hub.new (map (seen_lane calls lane_faults) lanes.old) (map (seen_lane calls lane_faults) lanes.new) (map (seen_inlet given left commits inlet_faults) inlets.old) (map (seen_inlet given left commits inlet_faults) inlets.new) }
+    ensures acts { OnOk result (Acts hub.old hub.new) }
+{
+    let _ = lanes.len();
+    let Some(source) = hub.pull(0) else {
+        unreachable!()
+    };
+    match pull_source(hub.set(), inlets, source) {
+        Ok(Pulled::Item { item, message }) => hub.accept(0, source, item, message),
+        Ok(Pulled::Refused { item, cause }) => hub.refuse(0, source, item, refused(cause)),
+        Ok(Pulled::End) => hub.source_end(0, source),
+        Err(PullFault::Failed) => hub.source_fault(0, source),
+        Err(PullFault::NoMemory) => return Err(NoMemory),
+    }
+    Ok(())
+}
+
+/// Does what the least Ready exchange asks for, or ends it for want of memory.
+fn run_ready(hub: &mut Hub, lanes: &mut [Lane], inlets: &mut [Inlet], number: u64)
+    requires waits { stop_of (plan hub.old) hub.old.journal.turns hub.old.journal.past ≡ None }
+    requires legal { IsLegalRun hub.old }
+    requires home { hands (plan hub.old) hub.old.journal.past ≡ 0 }
+    requires least { first (ready_numbers (plan hub.old) hub.old.journal.past) ≡ Some number }
+    requires room { 1 ≤ hub.old.room }
+    ensures legal { IsLegalRun hub.new }
+    ensures drains { Drains hub.old hub.new (map (seen_lane calls lane_faults) lanes.old) (map (seen_lane calls lane_faults) lanes.new) (map (seen_inlet given left commits inlet_faults) inlets.old) (map (seen_inlet given left commits inlet_faults) inlets.new) }
+    ensures acts { Acts hub.old hub.new }
+{
+    match hub.inner(0, number) {
+        Ok(Inner::Did) => {}
+        Ok(Inner::Outside) => hub.starve(0, number),
+        Err(NoMemory) => hub.starve(0, number),
+    }
+}
+
+/// One act of the plain schedule: of the least Ready exchange, or else of the first source that has not ended.
+fn act(hub: &mut Hub, lanes: &mut [Lane], inlets: &mut [Inlet]) -> Result<(), NoMemory>
+    requires waits { stop_of (plan hub.old) hub.old.journal.turns hub.old.journal.past ≡ None }
+    requires legal { IsLegalRun hub.old }
+    requires home { hands (plan hub.old) hub.old.journal.past ≡ 0 }
+    requires inlets { HasInlets hub.old.set (map (λ i. i.name) inlets.old) }
+    ensures legal { IsLegalRun hub.new }
+    ensures drains { Drains hub.old hub.new (map (seen_lane calls lane_faults) lanes.old) (map (seen_lane calls lane_faults) lanes.new) (map (seen_inlet given left commits inlet_faults) inlets.old) (map (seen_inlet given left commits inlet_faults) inlets.new) }
+    ensures acts { OnOk result (Acts hub.old hub.new) }
+{
+    hub.reserve()?;
+    match hub.ready() {
+        Some(number) => {
+            run_ready(hub, lanes, inlets, number);
+            Ok(())
+        }
+        None => pull_once(hub, lanes, inlets),
+    }
+}
+
+/// Acts until a turn is taken, or until the run stops, which it answers then.
+fn take_turn(
+    hub: &mut Hub,
+    lanes: &mut [Lane],
+    inlets: &mut [Inlet],
+) -> Result<Option<Stop>, NoMemory>
+    requires home { hands (plan hub.old) hub.old.journal.past ≡ 0 }
+    requires inlets { HasInlets hub.old.set (map (λ i. i.name) inlets.old) }
+    ensures legal { IsLegalRun hub.new }
+    ensures drains { Drains hub.old hub.new (map (seen_lane calls lane_faults) lanes.old) (map (seen_lane calls lane_faults) lanes.new) (map (seen_inlet given left commits inlet_faults) inlets.old) (map (seen_inlet given left commits inlet_faults) inlets.new) }
+    ensures home { IfOk result (λ s. IfNone s (hands (plan hub.new) hub.new.journal.past ≡ 0)) }
+    ensures turn { IfOk result (λ s. IfNone s (turns hub.old.journal.past < turns hub.new.journal.past)) }
+    ensures stop { IfOk result (λ s. IfSome s (λ t. stop_of (plan hub.new) hub.new.journal.turns hub.new.journal.past ≡ Some t)) }
+{
+    let before = hub.turns_taken();
+    loop {
+        if let Some(stop) = hub.stop() {
+            return Ok(Some(stop));
+        }
+        act(hub, lanes, inlets)?;
+        if hub.turns_taken() > before {
+            return Ok(None);
+        }
+    }
+}
+
+/// Drains the sources of a run through the hub, by the plain schedule of one worker: the least Ready exchange acts, or else
+/// the first source that has not ended is pulled. It always returns: the stop of the journal, or `NoMemory`.
+pub fn drain_alone(
+    hub: &mut Hub,
+    lanes: &mut [Lane],
+    inlets: &mut [Inlet],
+    _registry: &Registry,
+) -> Stop
+    requires home { hands (plan hub.old) hub.old.journal.past ≡ 0 }
+    requires inlets { HasInlets hub.old.set (map (λ i. i.name) inlets.old) }
+    ensures stop { IsStop hub.new result }
+    ensures legal { IsLegalRun hub.new }
+    ensures drains { Drains hub.old hub.new (map (seen_lane calls lane_faults) lanes.old) (map (seen_lane calls lane_faults) lanes.new) (map (seen_inlet given left commits inlet_faults) inlets.old) (map (seen_inlet given left commits inlet_faults) inlets.new) }
+{
+    loop {
+        match take_turn(hub, lanes, inlets) {
+            Ok(Some(stop)) => return stop,
+            Ok(None) => {}
+            Err(NoMemory) => return Stop::NoMemory,
+        }
+    }
+}

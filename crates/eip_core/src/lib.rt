@@ -1,0 +1,8 @@
+// A run on one thread: the hub is drained by the plain schedule, over lanes and inlets that are handed in.
+#![tactic(auto)]
+
+pub mod drain;
+pub mod outside;
+pub mod registry;
+
+pub use registry::Registry;
