@@ -5,3 +5,5 @@ pub mod Sinks
 pub mod Files
 pub mod Lanes
 pub mod Inlets
+pub mod Counters
+pub mod MemoryLanes
