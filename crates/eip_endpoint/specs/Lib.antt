@@ -7,3 +7,6 @@ pub mod Lanes
 pub mod Inlets
 pub mod Counters
 pub mod MemoryLanes
+pub mod MemorySinks
+pub mod MemoryFolders
+pub mod MemorySources
