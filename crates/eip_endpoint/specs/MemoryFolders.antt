@@ -1,5 +1,5 @@
 -- Files in memory.
-use Rattle.std.specs.Prelude.{ℕ, ◌≡◌, true, false, List, Result, Ok, Err}
+use Rattle.std.specs.Prelude.{◌≡◌, true, false, List, Result, Ok, Err}
 use Rattle.eip_endpoint.specs.declared.files.FileRead.{FileRead}
 use Rattle.eip_endpoint.specs.declared.files.FilesFault.{FilesFault}
 use Rattle.eip_endpoint.specs.declared.files.FilesFault.TheVariants as fault

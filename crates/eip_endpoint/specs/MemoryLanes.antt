@@ -1,5 +1,5 @@
 -- A lane in memory.
-use Rattle.std.specs.Prelude.{ℕ, ◌≡◌, ◌++◌, true, false, List, Result, Ok, Err}
+use Rattle.std.specs.Prelude.{◌≡◌, ◌++◌, true, false, List, Result, Ok, Err}
 use Rattle.eip_exchange.specs.declared.message.Message.{Message}
 use Rattle.eip_frames.specs.declared.request.Target.{Target}
 use Rattle.eip_endpoint.specs.declared.endpoint.Call.{Call}

@@ -1,5 +1,5 @@
 -- A source in memory.
-use Rattle.std.specs.Prelude.{ℕ, ◌≡◌, ◌+◌, ◌++◌, bytes_eq, cond, true, false, List, [], ◌∷◌, drop, Result, Ok, Err, Option, Some, None}
+use Rattle.std.specs.Prelude.{ℕ, zero, suc, ◌≡◌, ◌++◌, bytes_eq, cond, true, false, List, [], ◌∷◌, drop, Result, Ok, Err}
 use Rattle.std.specs.List.{count_by, slice_index_or}
 use Rattle.eip_exchange.specs.Limits.{IsGivable}
 use Rattle.eip_exchange.specs.declared.end.End.{End as AnEnd}
@@ -13,7 +13,6 @@ use Rattle.eip_endpoint.specs.declared.source.CommitOutcome.TheVariants as outco
 use Rattle.eip_endpoint.specs.declared.source.CommitFault.{CommitFault}
 use Rattle.eip_endpoint.specs.declared.source.CommitFault.TheVariants as commit
 use Rattle.eip_endpoint.specs.Content.{where_same}
-use Rattle.eip_endpoint.specs.Pulls.{commit_of}
 use Rattle.eip_endpoint.specs.Counters.{Counter, fails_next, counted}
 
 -- what a source may start with: no end, and a message only within the limits and without properties

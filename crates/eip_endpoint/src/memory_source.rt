@@ -90,11 +90,7 @@ impl MemorySource {
     /// A source of these items, each list with its printed URI, by the numbers, from 1, of the calls that are to fail.
     /// Of two pairs with one URI the first counts; a URI that isn't listed has no items. No `End` is among the items,
     /// and their messages are within the limits and without properties. It takes no memory.
-    pub fn new(
-        alloc: Global,
-        items: Vec<(Text, Series<Pulled>)>,
-        failing: Vec<u64>,
-    ) -> MemorySource
+    pub fn new(alloc: Global, items: Vec<(Text, Series<Pulled>)>, failing: Vec<u64>) -> MemorySource
         requires { AreNew items.items }
         ensures items { result.items ≡ items.items }
         ensures pulls { result.pulls ≡ [] }
