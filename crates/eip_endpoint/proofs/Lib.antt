@@ -2,3 +2,4 @@ pub mod Told
 pub mod LaneLaws
 pub mod InletLaws
 pub mod Named
+pub mod Answering

@@ -5,3 +5,8 @@ pub mod Sinks
 pub mod Files
 pub mod Lanes
 pub mod Inlets
+pub mod Counters
+pub mod MemoryLanes
+pub mod MemorySinks
+pub mod MemoryFolders
+pub mod MemorySources

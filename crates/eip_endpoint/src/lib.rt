@@ -1,16 +1,26 @@
 // The outside as traits: lanes, inlets, files and sinks, each with a count of faults and, where it tells it, its content.
 #![tactic(auto)]
 
+pub mod counter;
 pub mod endpoint;
 pub mod files;
 pub mod inlets;
 pub mod lanes;
+pub mod memory_files;
+pub mod memory_lane;
+pub mod memory_sink;
+pub mod memory_source;
 pub mod sink;
 pub mod source;
 
+pub use counter::CallCounter;
 pub use endpoint::{Call, Endpoint, Outcome, SendFault};
 pub use files::{FileRead, Files, FilesFault};
 pub use inlets::{Inlet, commit_at, find_inlet, pull_at};
 pub use lanes::{Lane, find_lane, send_at};
+pub use memory_files::MemoryFiles;
+pub use memory_lane::MemoryLane;
+pub use memory_sink::MemorySink;
+pub use memory_source::MemorySource;
 pub use sink::{Sink, SinkFault};
 pub use source::{Commit, CommitFault, CommitOutcome, PullFault, Pulled, Refusal, Source};
