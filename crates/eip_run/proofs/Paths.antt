@@ -72,10 +72,6 @@ folder_at bs xs ys e h =
 pub folder_none : (bs : List ℕ) → Lacks bs → (folder_of bs ≡ codes ".") × (name_of bs ≡ bs)
 folder_none bs h = let none = lacks_none bs h in (cond-false (holds_byte 47 bs) _ _ none, name_all bs none)
 
-pub or_root_some : (xs : List ℕ) → xs ≢ [] → or_root xs ≡ xs
-or_root_some [] h = absurd (h refl)
-or_root_some (x ∷ xs) h = refl
-
 -- ---- the file is that of the path
 
 name_plain_by : (t : Bool) (b : ℕ) (bs : List ℕ) → holds_byte 47 (b ∷ bs) ≡ t → holds_byte 47 (name_of bs) ≡ false → holds_byte 47 (cond t (name_of bs) (b ∷ bs)) ≡ false

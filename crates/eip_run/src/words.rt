@@ -89,7 +89,13 @@ fn split_path(path: &str) -> (&str, &str)
 {
     match path.rsplit_once('/') {
         None => (".", path),
-        Some((front, name)) if front.is_empty() => ("/", name),
-        Some((front, name)) => (front, name),
+        Some((front, name)) => (or_root(front), name),
     }
+}
+
+/// The folder that a text before the last `/` names: the root where it is empty.
+fn or_root(front: &str) -> &str
+    ensures { result.now ≡ spec.or_root front.now }
+{
+    if front.is_empty() { "/" } else { front }
 }
