@@ -1,13 +1,19 @@
 -- The folder and the name of the file that a path names.
-use Rattle.std.proofs.Common.{◌≡◌, ◌≢◌, ℕ, ◌<◌, Bool, true, false, cond, eqb, List, [], ◌∷◌, ◌++◌, length, get_or, ◌⊎◌, inl, inr, Option, Some, None, MatchOption, option_map, refl, sym, ap, ◌∙◌, arith, codes, suc, take, drop, ◌+◌, ◌≤◌, subst, take-append-drop}
+use Rattle.std.proofs.Common.{◌≡◌, ◌≢◌, ℕ, ◌<◌, Bool, true, false, ◌&&◌, cond, eqb, List, [], ◌∷◌, ◌++◌, length, get_or, ◌⊎◌, inl, inr, Option, Some, None, MatchOption, option_map, refl, sym, ap, ◌∙◌, arith, codes, suc, take, drop, ◌+◌, ◌≤◌, subst, take-append-drop}
 use denote.Ref.{Bor}
-use Rattle.std.proofs.lemmas.Bool.{ne_eqb, eqb-true, cond-true, cond-false}
+use Rattle.std.proofs.lemmas.Bool.{and_parts, ne_eqb, eqb-true, cond-true, cond-false}
 use Rattle.std.specs.Str.Pattern.{RFindsChar}
 use Rattle.std.proofs.lemmas.List.{drop_more}
+use Rattle.std.proofs.lemmas.Option.{same_Some}
 use Rattle.std.proofs.lemmas.Str.{len_utf8_ascii}
 use Rattle.std.proofs.lemmas.Str.Pattern.{NoCharPasses-char}
+use Rattle.std.specs.Str.{bytes_eq}
+use Rattle.std.proofs.lemmas.Slice.Eq.{bytes_eq-Decides}
 use Rattle.eip_text.specs.Cuts.{holds_byte}
-use Rattle.eip_run.specs.Words.{name_of, front_of, or_root, folder_of, file_at, IsAt, IsFile}
+use Rattle.eip_text.proofs.Cutting.{guarded}
+use Rattle.eip_run.specs.declared.words.Command.{Command}
+use Rattle.eip_run.specs.declared.words.Command.TheVariants as command
+use Rattle.eip_run.specs.Words.{is_path, command_of, IsDrain, IsCommand, name_of, front_of, or_root, folder_of, file_at, IsAt, IsFile}
 
 -- ---- where the last `/` stands
 
@@ -107,3 +113,20 @@ at_by true bs (x ∷ xs) e h = inr (inr (h e, λ n. cc))
 
 pub file_is : (bs : List ℕ) → IsFile bs (file_at bs)
 file_is bs = record { at = at_by (holds_byte 47 bs) bs (front_of bs) refl (whole bs); plain = name_plain bs }
+
+-- ---- the words are those of the command
+
+drain_is : (word path : List ℕ) (c : Command) → command_of (word ∷ (path ∷ [])) ≡ Some c → IsCommand (word ∷ (path ∷ [])) c
+drain_is word path c e =
+    let made : Command = command.Drain (file_at path) in
+    let g = guarded (bytes_eq word (codes "drain") && is_path path) (Some made) c e in
+    let tests = and_parts (bytes_eq word (codes "drain")) (is_path path) g.0 in
+    let first : word ≡ codes "drain" = (bytes_eq-Decides word (codes "drain")).0 tests.0 in
+    let drains : IsCommand (word ∷ (path ∷ [])) made = record { path = path; said = ap (λ (w : List ℕ). w ∷ (path ∷ [])) first; fit = tests.1; file = file_is path } in
+    subst (IsCommand (word ∷ (path ∷ []))) (same_Some made c g.1) drains
+
+pub command_is : (words : List (List ℕ)) (c : Command) → command_of words ≡ Some c → IsCommand words c
+command_is [] c e = absurd cc
+command_is (word ∷ []) c e = absurd cc
+command_is (word ∷ (path ∷ [])) c e = drain_is word path c e
+command_is (word ∷ (path ∷ (more ∷ words))) c e = absurd cc

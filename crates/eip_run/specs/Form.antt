@@ -141,3 +141,39 @@ abbrev pub Says : Result RouteSet FormRefusal → Result RouteSet Cause → Type
 Says (Ok set) found = found ≡ Ok set
 Says (Err refusal.NoMemory) found = Unit {0}
 Says (Err (refusal.Refused fault)) found = (found ≡ Err fault.cause) × (fault.path ≡ codes "$")
+
+-- ---- worked rows
+
+-- `{"KEY":VALUE}`
+abbrev pub one : List ℕ → Json → Json
+one key t = object (member key t no_members)
+
+abbrev pub constant : List ℕ → Json
+constant c = one (codes "setBody") (one (codes "constant") (word c))
+
+abbrev pub to : List ℕ → Json
+to u = one (codes "to") (word u)
+
+-- `[{"from":{"steps":STEPS,"uri":"stream:in"}}]`
+abbrev pub file : Items → Json
+file steps = list (item (one (codes "from") (object (member (codes "steps") (list steps) (member (codes "uri") (word (codes "stream:in")) no_members)))) no_items)
+
+pub row-example : form_of [] (file (item (constant (codes "hi")) (item (to (codes "log:out")) no_items))) ≡ Some (set_of (step.SetBody (expr.Constant (codes "hi")) ∷ step.To (uri.Log (codes "out")) ∷ []))
+unfolding form_of steps_of is_name
+row-example = refl
+
+pub row-empty : form_of [] (file no_items) ≡ Some (set_of [])
+unfolding form_of steps_of
+row-empty = refl
+
+pub row-lane : form_of (codes "lane:y" ∷ codes "lane:x" ∷ []) (file (item (to (codes "lane:x")) no_items)) ≡ Some (set_of (step.To (uri.Lane (codes "x")) ∷ []))
+unfolding form_of steps_of is_name
+row-lane = refl
+
+pub row-unknown : form_of (codes "lane:y" ∷ []) (file (item (to (codes "lane:x")) no_items)) ≡ None
+unfolding form_of steps_of is_name
+row-unknown = refl
+
+pub row-key : form_of [] (file (item (one (codes "set-body") (one (codes "constant") (word (codes "hi")))) no_items)) ≡ None
+unfolding form_of steps_of
+row-key = refl

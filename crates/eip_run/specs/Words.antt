@@ -50,8 +50,16 @@ pub record IsFile (path : List ℕ) (file : Path) : Type 0 where
   pub at : IsAt file.folder file.name path
   pub plain : holds_byte 47 file.name ≡ false
 
+-- `drain` and a path
+pub record IsDrain (words : List (List ℕ)) (routes : Path) : Type 0 where
+  pub path : List ℕ
+  pub said : words ≡ codes "drain" ∷ (path ∷ [])
+  pub fit : is_path path ≡ true
+  pub file : IsFile path routes
+
+-- the words are those of the command
 abbrev pub IsCommand : List (List ℕ) → Command → Type 0
-IsCommand words (command.Drain routes) = (path : List ℕ) × ((words ≡ codes "drain" ∷ (path ∷ [])) × IsFile path routes)
+IsCommand words (command.Drain routes) = IsDrain words routes
 
 -- ---- worked rows
 

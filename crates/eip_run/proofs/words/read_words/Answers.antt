@@ -1,11 +1,10 @@
-use Rattle.std.proofs.Common.{subst, sym, arith}
-use Rattle.std.proofs.lemmas.Grind.{common_steps}
-use Rattle.eip_run.proofs.Paths.{file_is}
-use Rattle.eip_run.specs.Words.{IsFile}
+use Rattle.std.proofs.Common.{◌≡◌, Some, rules}
+use Rattle.eip_run.specs.Words.{command_of}
+use Rattle.eip_run.specs.declared.words.Command.TheVariants as command
+use Rattle.eip_run.proofs.Paths.{command_is}
 use Rattle.eip_run.proofs.words.read_words.Goals as goal
 
 pub returns-in_ok-routes-in-len2-clause-file : goal.returns-in_ok-routes-in-len2-clause-file
-returns-in_ok-routes-in-len2-clause-file c = (
-  c.as_str-in-len2.result.now,
-  (?, subst (IsFile c.as_str-in-len2.result.now) (sym c.in_ok-routes-in-len2.ensures) (file_is c.as_str-in-len2.result.now)),
-)
+returns-in_ok-routes-in-len2-clause-file c =
+    let e : command_of c.args.words.now ≡ Some (command.Drain c.in_ok-routes-in-len2.routes) = search rules in
+    command_is c.args.words.now (command.Drain c.in_ok-routes-in-len2.routes) e
