@@ -136,8 +136,7 @@ fn steps_in(members: &[(Text, Tree)]) -> Option<&[Tree]>
 {
     match members {
         [(steps, items), (uri, from)]
-            if steps.as_str() == "steps" && uri.as_str() == "uri" && is_stream(from) =>
-        {
+            if steps.as_str() == "steps" && uri.as_str() == "uri" && is_stream(from) => {
             items_in(items)
         }
         [_, _] => None,
