@@ -1,5 +1,5 @@
 -- The folder and the name of the file that a path names.
-use Rattle.std.proofs.Common.{◌≡◌, ◌≢◌, ℕ, ◌<◌, Bool, true, false, ◌&&◌, cond, eqb, List, [], ◌∷◌, ◌++◌, length, get_or, ◌⊎◌, inl, inr, Option, Some, None, MatchOption, option_map, refl, sym, ap, ◌∙◌, arith, codes, suc, take, drop, ◌+◌, ◌≤◌, subst, take-append-drop}
+use Rattle.std.proofs.Common.{◌≡◌, ℕ, ◌<◌, Bool, true, false, ◌&&◌, cond, eqb, List, [], ◌∷◌, ◌++◌, length, get_or, inl, inr, Option, Some, None, MatchOption, refl, sym, ap, ◌∙◌, arith, codes, suc, take, drop, ◌+◌, ◌≤◌, subst, take-append-drop}
 use denote.Ref.{Bor}
 use Rattle.std.proofs.lemmas.Bool.{and_parts, ne_eqb, eqb-true, cond-true, cond-false}
 use Rattle.std.specs.Str.Pattern.{RFindsChar}
@@ -13,7 +13,7 @@ use Rattle.eip_text.specs.Cuts.{holds_byte}
 use Rattle.eip_text.proofs.Cutting.{guarded}
 use Rattle.eip_run.specs.declared.words.Command.{Command}
 use Rattle.eip_run.specs.declared.words.Command.TheVariants as command
-use Rattle.eip_run.specs.Words.{is_path, command_of, IsDrain, IsCommand, name_of, front_of, or_root, folder_of, file_at, IsAt, IsFile}
+use Rattle.eip_run.specs.Words.{is_path, command_of, IsCommand, name_of, front_of, or_root, folder_of, file_at, IsAt, IsFile}
 
 -- ---- where the last `/` stands
 

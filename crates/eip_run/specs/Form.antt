@@ -1,10 +1,10 @@
 -- Which bytes are a route file of the form that is run: one route from `stream:in` with steps that
 -- need no block, `[{"from":{"uri":"stream:in","steps":[..]}}]`.
-use Rattle.std.specs.Prelude.{◌≡◌, ℕ, Bool, ◌&&◌, ◌||◌, nat_le, List, [], ◌∷◌, length, bytes_eq, codes, Option, Some, None, option_map, option_and_then, if◌then◌else◌, Result, Ok, Err, false, refl}
+use Rattle.std.specs.Prelude.{◌≡◌, ℕ, Bool, ◌&&◌, nat_le, List, [], ◌∷◌, length, bytes_eq, codes, Option, Some, None, option_map, option_and_then, if◌then◌else◌, Result, Ok, Err, false, refl}
 use Rattle.std.specs.List.{list_any}
 use Rattle.eip_text.specs.Cuts.{behind}
 use Rattle.eip_text.specs.Names.{is_name}
-use Rattle.eip_text.specs.Json.{Json, null, flag, whole, float, word, list, object, Items, no_items, item, Members, no_members, member, json_read}
+use Rattle.eip_text.specs.Json.{Json, word, list, object, Items, no_items, item, no_members, member, json_read}
 use Rattle.eip_uri.specs.declared.uri.Uri.TheVariants as uri
 use Rattle.eip_route.specs.declared.step.Expr.TheVariants as expr
 use Rattle.eip_route.specs.declared.step.Step.{Step}
