@@ -1,0 +1,101 @@
+ghost use Rattle.std.specs.Prelude.{◌≡◌, ◌↔◌, Some, None, IfOk, IsErrOf};
+ghost use Rattle.eip_command.specs.Words as spec;
+
+use eip_text::{NoMemory, Text};
+use std::alloc::{AllocError, Global};
+use thiserror::Error;
+
+/// A file by its folder and by its name in that folder, which has no `/`.
+#[derive(Debug, Drop)]
+pub struct Path {
+    pub folder: Text,
+    pub name: Text,
+}
+
+/// What the words behind the program's name ask for.
+#[derive(Debug, Drop)]
+pub enum Command {
+    /// `drain ROUTES`: the routes of this file run until nothing is left to do.
+    Drain { routes: Path },
+}
+
+/// Why words are no command.
+#[derive(Clone, Copy, Debug, PartialEq, Eq, Error)]
+pub enum WordsFault {
+    /// No command has this form.
+    #[error("these words are no command")]
+    Refused,
+    #[error("out of memory")]
+    NoMemory,
+}
+
+impl From<NoMemory> for WordsFault {
+    ghost use Rattle.std.specs.Prelude.{◌≡◌};
+    ghost use Rattle.eip_command.specs.declared.words.WordsFault.TheVariants.{NoMemory};
+
+    ghost from_gives = { λ _ e. e ≡ NoMemory };
+
+    fn from(_refused: NoMemory) -> WordsFault {
+        WordsFault::NoMemory
+    }
+}
+
+/// The command that words give: `drain ROUTES`, where ROUTES is a path. A path isn't empty, doesn't
+/// begin with `-` and doesn't end with `/`. Its folder is what stands before its last `/`, or `.`
+/// without one, or `/` where nothing stands before it; the name is what stands behind.
+/// `Refused` exactly for every other list of words.
+pub fn read_words(alloc: Global, words: &[Text]) -> Result<Command, WordsFault>
+    ensures command { IfOk result (λ c. spec.command_of words.now ≡ Some c) }
+    ensures file { IfOk result (λ c. spec.IsCommand words.now c) }
+    ensures refused { IsErrOf result WordsFault.Refused ↔ (spec.command_of words.now ≡ None) }
+{
+    match words {
+        [] | [_] | [_, _, _, ..] => Err(WordsFault::Refused),
+        [word, path] => {
+            if word.as_str() != "drain" || !is_path(path.as_str()) {
+                return Err(WordsFault::Refused);
+            }
+            let routes = Path::read(alloc, path.as_str())?;
+            Ok(Command::Drain { routes })
+        }
+    }
+}
+
+/// Whether a word may be a path.
+fn is_path(word: &str) -> bool
+    ensures { result ≡ spec.is_path word.now }
+{
+    let bytes = word.as_bytes();
+    !bytes.is_empty() && bytes[0] != b'-' && bytes[bytes.len() - 1] != b'/'
+}
+
+impl Path {
+    /// The file that a path names.
+    fn read(alloc: Global, path: &str) -> Result<Path, NoMemory>
+        ensures { IfOk result (λ p. p ≡ spec.file_at path.now) }
+    {
+        let (folder, name) = split_path(path);
+        Ok(Path {
+            folder: Text::of_str(alloc, folder)?,
+            name: Text::of_str(alloc, name)?,
+        })
+    }
+}
+
+/// The folder and the name of the file that a path names.
+fn split_path(path: &str) -> (&str, &str)
+    ensures folder { result.0.now ≡ spec.folder_of path.now }
+    ensures name { result.1.now ≡ spec.name_of path.now }
+{
+    match path.rsplit_once('/') {
+        None => (".", path),
+        Some((front, name)) => (or_root(front), name),
+    }
+}
+
+/// The folder that a text before the last `/` names: the root where it is empty.
+fn or_root(front: &str) -> &str
+    ensures { result.now ≡ spec.or_root front.now }
+{
+    if front.is_empty() { "/" } else { front }
+}
