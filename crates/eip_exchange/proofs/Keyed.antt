@@ -1,12 +1,12 @@
 -- What the calls of a map do to the pairs that its entries stand for.
-use Rattle.std.proofs.Common.{◌≡◌, ℕ, suc, zero, Bool, true, false, cond, List, [], ◌∷◌, ◌++◌, length, slice_get, Option, Some, None, is_some, refl, sym, ap, subst, ◌∙◌, true≢false, IfSome, append_assoc}
+use Rattle.std.proofs.Common.{◌≡◌, ◌<◌, ℕ, suc, zero, Bool, true, false, cond, List, [], ◌∷◌, ◌++◌, length, slice_get, Option, Some, None, is_some, refl, sym, ap, subst, ◌∙◌, true≢false, IfSome, append_assoc}
 use Rattle.std.specs.Cmp.{IsEquivalence}
-use Rattle.std.specs.List.{IsDistinct, AllByRecursion}
+use Rattle.std.specs.List.{IsDistinct, AllByRecursion, position}
 use Rattle.std.specs.Map.{keys_of, lookup, remove_entry}
 use Rattle.std.specs.Option.{option_map}
 use Rattle.std.proofs.lemmas.Option.{slice_get-map}
 use Rattle.indexmap.specs.IndexMap.{insert_entry}
-use Rattle.indexmap.proofs.MapLemmas.{absent_before, absent_from_lookup, insert_entry-absent}
+use Rattle.indexmap.proofs.MapLemmas.{Found-position, absent_before, absent_from_lookup, insert_entry-absent}
 use Rattle.eip_exchange.specs.Pairs.{Pairs, names, value_of, put, without}
 use Rattle.eip_exchange.specs.Keys.{Key, Entries, pairs_of, AreKept}
 
@@ -123,3 +123,11 @@ distinct_names same (e ∷ es) d = (apart e.0 es d.0, distinct_names same es d.1
 pub distinct_none : (same : List ℕ → List ℕ → Bool) → IsDistinct same (names [])
 unfolding IsDistinct
 distinct_none same = tt
+
+-- the index of a key lies within the entries
+pub within_index : {K X : Type 0} (t : K → Bool) (es : List (K × X)) → IfSome (position t (keys_of es)) (λ i. i < length es)
+within_index {K} {X} t es = by (position t (keys_of es)) refl
+  where
+    by : (r : Option ℕ) → position t (keys_of es) ≡ r → IfSome r (λ i. i < length es)
+    by None e = tt
+    by (Some i) e = (Found-position t es i e).within

@@ -1,18 +1,12 @@
 -- The keys of the maps below headers and properties.
-use Rattle.std.specs.Prelude.{ℕ, ◌≡◌, Bool, true, false, List, [], ◌∷◌, Option, Some, None, map, bytes_eq}
+use Rattle.std.specs.Prelude.{ℕ, ◌≡◌, Bool, true, List, [], ◌∷◌, Option, Some, None, map, bytes_eq}
 use Rattle.std.specs.Ordering.{on}
-use Rattle.eip_exchange.specs.declared.name.Spelling.{Spelling}
-use Rattle.eip_exchange.specs.declared.name.Spelling.TheVariants.{Kept, Asked}
 use Rattle.eip_exchange.specs.Pairs.{Pairs}
 use Rattle.eip_exchange.specs.Headers.{folded}
 
 -- the bytes of a name, and whether they are kept as a text
 abbrev pub Key : Type 0
 Key = List ℕ × Bool
-
-abbrev pub key_of : Spelling → Key
-key_of (Kept text) = (text, true)
-key_of (Asked bytes) = (bytes.now, false)
 
 abbrev pub folded_key : Key → List ℕ
 folded_key k = folded k.0

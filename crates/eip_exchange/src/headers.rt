@@ -38,7 +38,7 @@ impl From<NoMemory> for HeaderFault {
     }
 }
 
-type HeaderMap = IndexMap<HeaderName<'static>, Text>;
+type HeaderMap = IndexMap<HeaderName, Text>;
 
 /// The headers of a message: pairs of a name and a value, in order of first setting. Names are equal up to ASCII case.
 #[derive(Drop)]
@@ -173,11 +173,7 @@ fn copied(alloc: Global, map: &HeaderMap) -> Result<HeaderMap, NoMemory>
     Ok(copy)
 }
 
-fn insert_copy(
-    map: &mut HeaderMap,
-    name: &HeaderName<'static>,
-    value: &Text,
-) -> Result<(), NoMemory>
+fn insert_copy(map: &mut HeaderMap, name: &HeaderName, value: &Text) -> Result<(), NoMemory>
     requires { name.now.1 ≡ true }
     ensures { OnOk result (map.new.entries ≡ insert_entry same_header map.old.entries name.now value.now) }
 {
@@ -299,15 +295,18 @@ fn place(map: &HeaderMap, name: &[u8]) -> Option<usize>
     ensures value { IfSome result (λ i. slice_get (values map.now) i ≡ get_header name.now (pairs_of map.now.entries)) }
     ensures unique { IsUnique same_header map.now }
 {
-    place_of(map, &HeaderName::asked(name))
+    let _ = map.len();
+    index_of(map, name)
 }
 
-fn place_of<'a>(map: &IndexMap<HeaderName<'a>, Text>, name: &HeaderName<'a>) -> Option<usize>
-    ensures index { result ≡ index_of_by (same_header name.now) map.now }
-    ensures found { is_some result ≡ is_some (get_header name.now.0 (pairs_of map.now.entries)) }
-    ensures within { IfSome result (λ i. i < index_map_len map.now) }
-    ensures value { IfSome result (λ i. slice_get (values map.now) i ≡ get_header name.now.0 (pairs_of map.now.entries)) }
-    ensures unique { IsUnique same_header map.now }
+/// The index of a name, by a look at each key: a key that is asked for would have to borrow its bytes.
+fn index_of(map: &HeaderMap, name: &[u8]) -> Option<usize>
+    ensures { result ≡ index_of_by (same_header (name.now, false)) map.now }
 {
-    map.get_index_of(name)
+    for (k, kept) in map.keys().enumerate() {
+        if is_same(name, kept.bytes()) {
+            return Some(k);
+        }
+    }
+    None
 }

@@ -1,78 +1,38 @@
 ghost use Rattle.std.specs.Prelude.{◌≡◌, List, ℕ, ◌∷◌, [], true, false, fold, IfOk};
-ghost use Rattle.eip_exchange.specs.Keys.{key_of};
 
 use eip_text::{NoMemory, Text};
 use std::hash::{Hash, Hasher};
 use std::marker::Model;
 
-/// The bytes of a name: one that a map keeps, or one that is asked for.
-#[derive(Drop)]
-pub enum Spelling<'a> {
-    Kept(Text),
-    Asked(&'a [u8]),
-}
-
-impl Spelling<'_> {
-    fn bytes(&self) -> &[u8]
-        ensures { result.now ≡ (key_of self.now).0 }
-    {
-        match self {
-            Spelling::Kept(text) => text.bytes(),
-            Spelling::Asked(bytes) => bytes,
-        }
-    }
-
-    fn text(&self) -> &Text
-        requires { (key_of self.now).1 ≡ true }
-        ensures { result.now ≡ (key_of self.now).0 }
-    {
-        match self {
-            Spelling::Kept(text) => text,
-            Spelling::Asked(_) => unreachable!(),
-        }
-    }
-}
-
 /// A header's name as a key, which is compared up to ASCII case.
 #[derive(Drop)]
-pub struct HeaderName<'a> {
-    spelling: Spelling<'a>,
+pub struct HeaderName {
+    text: Text,
 }
 
-impl<'a> Model for HeaderName<'a> {
+impl Model for HeaderName {
     ghost use Rattle.std.specs.Prelude.{List, ℕ, Bool};
 
     ghost Value = { List ℕ × Bool };
 
-    ghost use Rattle.eip_exchange.specs.Keys.{key_of};
+    ghost use Rattle.std.specs.Prelude.{true};
 
-    ghost view = { λ n. key_of n.spelling };
+    ghost view = { λ n. (n.text, true) };
 }
 
-impl<'a> HeaderName<'a> {
+impl HeaderName {
     /// A name that a map keeps.
-    pub fn kept(text: Text) -> HeaderName<'a>
+    pub fn kept(text: Text) -> HeaderName
         ensures { result ≡ (text, true) }
     {
-        HeaderName {
-            spelling: Spelling::Kept(text),
-        }
-    }
-
-    /// A name that is asked for.
-    pub fn asked(bytes: &'a [u8]) -> HeaderName<'a>
-        ensures { result ≡ (bytes.now, false) }
-    {
-        HeaderName {
-            spelling: Spelling::Asked(bytes),
-        }
+        HeaderName { text }
     }
 
     /// The bytes of the name, as it was spelled.
     pub fn bytes(&self) -> &[u8]
         ensures { result.now ≡ self.now.0 }
     {
-        self.spelling.bytes()
+        self.text.bytes()
     }
 
     /// The text of a name that is kept.
@@ -80,11 +40,11 @@ impl<'a> HeaderName<'a> {
         requires { self.now.1 ≡ true }
         ensures { result.now ≡ self.now.0 }
     {
-        self.spelling.text()
+        &self.text
     }
 
     /// A copy of a name that is kept.
-    pub fn copy(&self) -> Result<HeaderName<'static>, NoMemory>
+    pub fn copy(&self) -> Result<HeaderName, NoMemory>
         requires { self.now.1 ≡ true }
         ensures { IfOk result (λ n. n ≡ self.now) }
     {
@@ -93,7 +53,7 @@ impl<'a> HeaderName<'a> {
     }
 }
 
-impl PartialEq for HeaderName<'_> {
+impl PartialEq for HeaderName {
     ghost use Rattle.eip_exchange.specs.Keys.{same_header, folded_key};
     ghost use Rattle.std.specs.Cmp.{partial_equiv_from_equiv, on_equiv};
     ghost use Rattle.std.specs.Cmp.Lexicographic.{nat_list_eq_equiv};
@@ -107,7 +67,7 @@ impl PartialEq for HeaderName<'_> {
     }
 }
 
-impl Eq for HeaderName<'_> {
+impl Eq for HeaderName {
     ghost use Rattle.eip_exchange.specs.Keys.{folded_key};
     ghost use Rattle.std.specs.Cmp.{on_equiv};
     ghost use Rattle.std.specs.Cmp.Lexicographic.{nat_list_eq_equiv};
@@ -115,7 +75,7 @@ impl Eq for HeaderName<'_> {
     ghost laws = { on_equiv folded_key nat_list_eq_equiv };
 }
 
-impl Hash for HeaderName<'_> {
+impl Hash for HeaderName {
     ghost use Rattle.eip_exchange.specs.Keys.{folded_key, writes};
     ghost use Rattle.std.proofs.Common.{rules};
     ghost use Rattle.std.specs.Cmp.Rules.{comparing, hashing};
@@ -133,44 +93,33 @@ impl Hash for HeaderName<'_> {
 
 /// A property's name as a key, which is compared byte for byte.
 #[derive(Drop)]
-pub struct PropertyName<'a> {
-    spelling: Spelling<'a>,
+pub struct PropertyName {
+    text: Text,
 }
 
-impl<'a> Model for PropertyName<'a> {
+impl Model for PropertyName {
     ghost use Rattle.std.specs.Prelude.{List, ℕ, Bool};
 
     ghost Value = { List ℕ × Bool };
 
-    ghost use Rattle.eip_exchange.specs.Keys.{key_of};
+    ghost use Rattle.std.specs.Prelude.{true};
 
-    ghost view = { λ n. key_of n.spelling };
+    ghost view = { λ n. (n.text, true) };
 }
 
-impl<'a> PropertyName<'a> {
+impl PropertyName {
     /// A name that a map keeps.
-    pub fn kept(text: Text) -> PropertyName<'a>
+    pub fn kept(text: Text) -> PropertyName
         ensures { result ≡ (text, true) }
     {
-        PropertyName {
-            spelling: Spelling::Kept(text),
-        }
-    }
-
-    /// A name that is asked for.
-    pub fn asked(bytes: &'a [u8]) -> PropertyName<'a>
-        ensures { result ≡ (bytes.now, false) }
-    {
-        PropertyName {
-            spelling: Spelling::Asked(bytes),
-        }
+        PropertyName { text }
     }
 
     /// The bytes of the name.
     pub fn bytes(&self) -> &[u8]
         ensures { result.now ≡ self.now.0 }
     {
-        self.spelling.bytes()
+        self.text.bytes()
     }
 
     /// The text of a name that is kept.
@@ -178,11 +127,11 @@ impl<'a> PropertyName<'a> {
         requires { self.now.1 ≡ true }
         ensures { result.now ≡ self.now.0 }
     {
-        self.spelling.text()
+        &self.text
     }
 
     /// A copy of a name that is kept.
-    pub fn copy(&self) -> Result<PropertyName<'static>, NoMemory>
+    pub fn copy(&self) -> Result<PropertyName, NoMemory>
         requires { self.now.1 ≡ true }
         ensures { IfOk result (λ n. n ≡ self.now) }
     {
@@ -191,7 +140,7 @@ impl<'a> PropertyName<'a> {
     }
 }
 
-impl PartialEq for PropertyName<'_> {
+impl PartialEq for PropertyName {
     ghost use Rattle.eip_exchange.specs.Keys.{same_property, exact_key};
     ghost use Rattle.std.specs.Cmp.{partial_equiv_from_equiv, on_equiv};
     ghost use Rattle.std.specs.Cmp.Lexicographic.{nat_list_eq_equiv};
@@ -205,7 +154,7 @@ impl PartialEq for PropertyName<'_> {
     }
 }
 
-impl Eq for PropertyName<'_> {
+impl Eq for PropertyName {
     ghost use Rattle.eip_exchange.specs.Keys.{exact_key};
     ghost use Rattle.std.specs.Cmp.{on_equiv};
     ghost use Rattle.std.specs.Cmp.Lexicographic.{nat_list_eq_equiv};
@@ -213,7 +162,7 @@ impl Eq for PropertyName<'_> {
     ghost laws = { on_equiv exact_key nat_list_eq_equiv };
 }
 
-impl Hash for PropertyName<'_> {
+impl Hash for PropertyName {
     ghost use Rattle.eip_exchange.specs.Keys.{exact_key, writes};
     ghost use Rattle.std.proofs.Common.{rules};
     ghost use Rattle.std.specs.Cmp.Rules.{comparing, hashing};

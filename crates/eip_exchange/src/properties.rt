@@ -12,7 +12,7 @@ use indexmap::IndexMap;
 use std::alloc::Global;
 use std::marker::Model;
 
-type PropertyMap = IndexMap<PropertyName<'static>, Text>;
+type PropertyMap = IndexMap<PropertyName, Text>;
 
 /// The properties of an exchange: pairs of a name and a value, in order of first setting, without a limit. Names are compared byte for byte.
 #[derive(Drop)]
@@ -142,11 +142,7 @@ fn copied(alloc: Global, map: &PropertyMap) -> Result<PropertyMap, NoMemory>
     Ok(copy)
 }
 
-fn insert_copy(
-    map: &mut PropertyMap,
-    name: &PropertyName<'static>,
-    value: &Text,
-) -> Result<(), NoMemory>
+fn insert_copy(map: &mut PropertyMap, name: &PropertyName, value: &Text) -> Result<(), NoMemory>
     requires { name.now.1 ≡ true }
     ensures { OnOk result (map.new.entries ≡ insert_entry same_property map.old.entries name.now value.now) }
 {
@@ -211,15 +207,18 @@ fn place(map: &PropertyMap, name: &[u8]) -> Option<usize>
     ensures value { IfSome result (λ i. slice_get (values map.now) i ≡ get_property name.now (pairs_of map.now.entries)) }
     ensures unique { IsUnique same_property map.now }
 {
-    place_of(map, &PropertyName::asked(name))
+    let _ = map.len();
+    index_of(map, name)
 }
 
-fn place_of<'a>(map: &IndexMap<PropertyName<'a>, Text>, name: &PropertyName<'a>) -> Option<usize>
-    ensures index { result ≡ index_of_by (same_property name.now) map.now }
-    ensures found { is_some result ≡ is_some (get_property name.now.0 (pairs_of map.now.entries)) }
-    ensures within { IfSome result (λ i. i < index_map_len map.now) }
-    ensures value { IfSome result (λ i. slice_get (values map.now) i ≡ get_property name.now.0 (pairs_of map.now.entries)) }
-    ensures unique { IsUnique same_property map.now }
+/// The index of a name, by a look at each key: a key that is asked for would have to borrow its bytes.
+fn index_of(map: &PropertyMap, name: &[u8]) -> Option<usize>
+    ensures { result ≡ index_of_by (same_property (name.now, false)) map.now }
 {
-    map.get_index_of(name)
+    for (k, kept) in map.keys().enumerate() {
+        if name == kept.bytes() {
+            return Some(k);
+        }
+    }
+    None
 }
