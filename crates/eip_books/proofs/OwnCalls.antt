@@ -96,9 +96,12 @@ live-above {set} {workers} {limit} {past} t x r st ready row =
     let a = ap bit facts.1 in
     omega (arith, k, a, st.live)
 
--- a Ready exchange has a row
+-- an exchange with a place has a row
+pub placed-some : {set : RouteSet} {workers limit : ℕ} {past : Past} (t : Tables) (x : ℕ) (p : Place) → Stands set workers limit past t → place (plan_of set) past x ≡ Some p → (r : Row) × (slice_get t.rows (x - 1) ≡ Some r)
+placed-some t x p st placed = let h = row-within t x p st placed in slice_get-some t.rows (x - 1) (omega (arith, h.0, h.1))
+
 pub ready-some : {set : RouteSet} {workers limit : ℕ} {past : Past} (t : Tables) (x : ℕ) → Stands set workers limit past t → place (plan_of set) past x ≡ Some place_is.Ready → (r : Row) × (slice_get t.rows (x - 1) ≡ Some r)
-ready-some t x st ready = let h = row-within t x place_is.Ready st ready in slice_get-some t.rows (x - 1) (omega (arith, h.0, h.1))
+ready-some t x st ready = placed-some t x place_is.Ready st ready
 
 -- what an exchange asks, by its birth and its fate
 pub asked-by-fate : (set : RouteSet) (past : Past) (x : ℕ) (b : Birth) (q : Request) (p : At) → numbered (births (plan_of set) past) x ≡ Some b → fate (plan_of set) past b ≡ AsksNext q p

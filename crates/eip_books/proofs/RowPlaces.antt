@@ -183,7 +183,7 @@ asking-other set e past b c q t n a = record { follows = follows-other set e pas
 state-other : (set : RouteSet) (e : Entry) (past : Past) (b : Birth) (st : State) → concerns b.number e.kind ≡ false → StateStands set past b st → StateStands set (e ∷ past) b st
 state-other set e past b state.New n o = own-other b.number e past n ∙ o
 state-other set e past b (state.Asks c q) n a = asking-other set e past b c q None n a
-state-other set e past b (state.Held c w) n h = (h.0, asking-other set e past b c h.0 (Some w) n h.1)
+state-other set e past b (state.Held c w) n h = (h.0, asking-other set e past b c h.0 (Some w) n h.1, h.2)
 state-other set e past b (state.Answered c i) n h = record {
   worker = h.worker;
   answer = h.answer;

@@ -38,7 +38,7 @@ use Rattle.eip_books.specs.Stands.{Tables, Stands}
 use Rattle.eip_books.proofs.RowNumbers.{numbers-push, count-push}
 use Rattle.eip_books.proofs.RowPlaces.{row-other, entry-new}
 
-get-set-same : {A : Type 0} (xs : List A) (i : ℕ) (x : A) → i < length xs → slice_get (put_at xs i x) i ≡ Some x
+pub get-set-same : {A : Type 0} (xs : List A) (i : ℕ) (x : A) → i < length xs → slice_get (put_at xs i x) i ≡ Some x
 get-set-same [] i x l = absurd (omega arith)
 get-set-same (y ∷ xs) zero x l = refl
 get-set-same (y ∷ xs) (suc i) x l = get-set-same xs i x (omega arith)

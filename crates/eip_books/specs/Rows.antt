@@ -13,6 +13,7 @@ use Rattle.eip_frames.specs.declared.request.At.{At}
 use Rattle.eip_frames.specs.declared.request.Request.{Request}
 use Rattle.eip_frames.specs.declared.answer.Answer.{Answer as Reply}
 use Rattle.eip_frames.specs.Fate.{Fate, AsksNext, Ends, Strays}
+use Rattle.eip_frames.specs.Fits.{is_outside}
 use Rattle.eip_ledger.specs.declared.entry.Entry.{Entry}
 use Rattle.eip_ledger.specs.declared.entry.Kind.{Kind}
 use Rattle.eip_ledger.specs.declared.entry.Kind.TheVariants.{Accept, Answer}
@@ -86,7 +87,7 @@ pub record HasEnded (set : RouteSet) (past : Past) (b : Birth) (c : Closing) : T
 abbrev pub StateStands : RouteSet → Past → Birth → State → Type 0
 StateStands set past b state.New = own b.number past ≡ []
 StateStands set past b (state.Asks c q) = IsAsking set past b c q None
-StateStands set past b (state.Held c w) = (q : Request) × IsAsking set past b c q (Some w)
+StateStands set past b (state.Held c w) = (q : Request) × IsAsking set past b c q (Some w) × (is_outside q ≡ true)
 StateStands set past b (state.Answered c i) = HasAnswer set past b c i
 StateStands set past b (state.Ended c) = HasEnded set past b c
 StateStands set past b state.Broken = ⊥
