@@ -1,6 +1,7 @@
 -- The numbers of the rows that pass a test: who is among them, the least of them, and those that pass another test.
 use Rattle.std.proofs.Common.{◌≡◌, ℕ, zero, suc, ◌+◌, ◌-◌, ◌<◌, ◌≤◌, Bool, true, false, ◌==◌, ◌||◌, ◌&&◌, not, cond, List, [], ◌∷◌, ◌++◌, length, set, drop, filter, Option, Some, None, refl, sym, ap, ◌∙◌, arith, eq-eqb, get_or, drop-cons}
 use Rattle.std.specs.List.{slice_get, All}
+use Rattle.std.specs.Prelude.{IfSome, IfNone}
 use Rattle.std.proofs.lemmas.Bool.{ne_eqb, eqb-true}
 use Rattle.std.proofs.lemmas.List.{set-set, append-nil}
 use Rattle.eip_history.specs.Rules.{first}
@@ -136,8 +137,17 @@ set-there (y ∷ xs) (suc i) x h = ap (λ ys. y ∷ ys) (set-there xs i x h)
 pub first-here : (p : ℕ → Bool) (xs : List ℕ) (i : ℕ) (d : ℕ) → i < length xs → p (get_or xs i d) ≡ true → first (filter p (drop i xs)) ≡ Some (get_or xs i d)
 first-here p xs i d l h = rw (drop-cons xs i d, h) refl
 
-pub first-later : (p : ℕ → Bool) (xs : List ℕ) (i : ℕ) (d : ℕ) → i < length xs → p (get_or xs i d) ≡ false → first (filter p (drop i xs)) ≡ first (filter p (drop (suc i) xs))
-first-later p xs i d l h = rw (drop-cons xs i d, h) refl
+pub first-later : (p : ℕ → Bool) (xs : List ℕ) (i : ℕ) (d : ℕ) → i < length xs → p (get_or xs i d) ≡ false → first (filter p (drop i xs)) ≡ first (filter p (drop (i + 1) xs))
+first-later p xs i d l h = let e : i + 1 ≡ suc i = omega arith in rw (e, drop-cons xs i d, h) refl
+
+-- what holds of the first of a list, where there is one
+pub if-first : (o : Option ℕ) (xs : List ℕ) (P : ℕ → Type 0) → o ≡ first xs → ((x : ℕ) → first xs ≡ Some x → P x) → IfSome o P
+if-first (Some x) xs P e f = f x (sym e)
+if-first None xs P e f = tt
+
+pub if-no-first : (o : Option ℕ) (xs : List ℕ) → o ≡ first xs → IfNone o (xs ≡ [])
+if-no-first (Some x) xs e = tt
+if-no-first None xs e = first-none xs (sym e)
 
 -- the row of a number passes no longer
 pub leave-at : {R : Type 0} (p : R → Bool) (rs : List R) (x : ℕ) (new : R) → 0 < x → p new ≡ false → row_numbers p 1 (set rs (x - 1) new) ≡ without x (row_numbers p 1 rs)
