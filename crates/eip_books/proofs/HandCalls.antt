@@ -1,5 +1,5 @@
 -- The tables behind each entry of an exchange that waits for somebody outside.
-use Rattle.std.proofs.Common.{◌≡◌, ℕ, zero, suc, ◌+◌, ◌-◌, ◌<◌, ◌≤◌, Bool, true, false, ◌&&◌, not, List, [], ◌∷◌, ◌++◌, length, filter, filter_map, set as put_at, Option, Some, None, refl, sym, ap, subst, ◌∙◌, arith, add-zero, inr}
+use Rattle.std.proofs.Common.{◌≡◌, ℕ, suc, ◌+◌, ◌-◌, ◌≤◌, Bool, true, false, ◌&&◌, not, [], ◌∷◌, length, filter, set as put_at, Option, Some, None, refl, sym, ap, subst, ◌∙◌, arith, add-zero, inr}
 use Rattle.std.specs.List.{slice_get}
 use Rattle.std.proofs.lemmas.List.{append-nil}
 use Rattle.std.proofs.lemmas.Option.{slice_get_within}
@@ -15,29 +15,27 @@ use Rattle.eip_frames.specs.declared.answer.Answer.{Answer as Reply}
 use Rattle.eip_frames.specs.declared.answer.Answer.TheVariants as reply
 use Rattle.eip_frames.specs.Fits.{fits, is_outside}
 use Rattle.eip_ledger.specs.declared.entry.Entry.{Entry}
-use Rattle.eip_ledger.specs.declared.entry.Kind.{Kind}
 use Rattle.eip_ledger.specs.declared.entry.Kind.TheVariants.{Take, Answer, Starve}
-use Rattle.eip_ledger.specs.declared.place.Note.{Note}
 use Rattle.eip_ledger.specs.declared.place.Place.{Place}
 use Rattle.eip_ledger.specs.declared.place.Place.TheVariants as place_is
 use Rattle.eip_history.specs.Plan.{Plan}
 use Rattle.eip_history.specs.Own.{Past, numbered}
 use Rattle.eip_history.specs.Births.{births, asked, Asked}
 use Rattle.eip_history.specs.Place.{place, place_of}
-use Rattle.eip_history.specs.Rules.{May, MayAnswer, MayAct, IsBelow, Content, outside_asked}
+use Rattle.eip_history.specs.Rules.{May, MayAct, IsBelow, Content, outside_asked}
 use Rattle.eip_history.specs.Tables.{without, put_in, bit}
 use Rattle.eip_history.specs.Texts.{note_for}
 use Rattle.eip_history.proofs.Lists.{related-at, slice_get-some}
 use Rattle.eip_history.proofs.Unborn.{birth-stays}
 use Rattle.eip_plan.specs.Plan.{plan_of}
-use Rattle.eip_plan.specs.Simple.{IsSimple, IsSimpleAnswer}
+use Rattle.eip_plan.specs.Simple.{IsSimple}
 use Rattle.eip_plan.proofs.Laws.{plan-simple}
 use Rattle.eip_plan.proofs.Items.{asked-simple, fits-simple}
 use Rattle.eip_cursor.specs.declared.cursor.Cursor.{Cursor}
 use Rattle.eip_books.specs.declared.row.Stage.{Stage}
 use Rattle.eip_books.specs.declared.row.Stage.TheVariants as stage
 use Rattle.eip_books.specs.declared.row.Row.{Row}
-use Rattle.eip_books.specs.Moves.{answered, held, closed, finished, stage_of, end_asked, ended_by}
+use Rattle.eip_books.specs.Moves.{answered, held, closed, finished, end_asked, ended_by}
 use Rattle.eip_books.specs.Closing.{Closing}
 use Rattle.eip_books.specs.Closing as closing
 use Rattle.eip_books.specs.State as state
@@ -47,7 +45,7 @@ use Rattle.eip_books.specs.Outside.{is_among, unlooked_numbers, IsAsked}
 use Rattle.eip_books.specs.Rows.{IsBornAt, IsAsking, HasAnswer, HasEnded, StateStands, RowStands, row_ready, row_held, row_live, state_ready, state_held, state_live}
 use Rattle.eip_books.specs.Stands.{Tables, Stands}
 use Rattle.eip_books.proofs.RowNumbers.{numbers-stay, numbers-leave, numbers-join, count-set}
-use Rattle.eip_books.proofs.ListedNumbers.{AmongRows, among-row, among-numbers, numbers-filter, numbers-same}
+use Rattle.eip_books.proofs.ListedNumbers.{among-row, among-numbers, numbers-filter, numbers-same}
 use Rattle.eip_books.proofs.RowPlaces.{Placed, row-place, state-place, born-stays, fate-asks}
 use Rattle.eip_books.proofs.RowSteps.{held-by, has-answer, has-finished, has-not-committed, has-starved, closing_of, IsNoFinish}
 use Rattle.eip_books.proofs.OwnEvents.{stands-one, notes_in, of-take, of-answer, of-starve}

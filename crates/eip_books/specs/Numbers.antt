@@ -1,5 +1,5 @@
 -- Tables by number: what stands in the rows that pass a test.
-use Rattle.std.specs.Prelude.{ℕ, ◌+◌, ◌<◌, ◌≤◌, Bool, true, false, cond, nat_lt, List, [], ◌∷◌, length, filter}
+use Rattle.std.specs.Prelude.{ℕ, ◌+◌, ◌<◌, ◌≤◌, Bool, cond, nat_lt, List, [], ◌∷◌, length, filter}
 
 -- the numbers of the rows that pass a test, where the first row has this number
 abbrev pub row_numbers : {R : Type 0} → (R → Bool) → ℕ → List R → List ℕ

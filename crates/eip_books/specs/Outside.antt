@@ -1,5 +1,5 @@
 -- The numbers of the exchanges that are known to wait for somebody outside.
-use Rattle.std.specs.Prelude.{ℕ, ◌≡◌, ◌==◌, ◌||◌, not, Bool, true, false, cond, List, [], ◌∷◌, Some, filter}
+use Rattle.std.specs.Prelude.{ℕ, ◌≡◌, ◌==◌, ◌||◌, not, Bool, false, cond, List, [], ◌∷◌, Some, filter}
 use Rattle.eip_frames.specs.declared.request.Request.{Request}
 use Rattle.eip_history.specs.Plan.{Plan}
 use Rattle.eip_history.specs.Own.{Past}

@@ -1,5 +1,5 @@
 -- How far an exchange is, with what belongs to it, as its row tells it.
-use Rattle.std.specs.Prelude.{ℕ, ◌-◌, Bool, true, false, not, cond, List, Option, Some, None, slice_get}
+use Rattle.std.specs.Prelude.{ℕ, ◌-◌, Bool, false, not, cond, List, Option, Some, None, slice_get}
 use Rattle.eip_exchange.specs.declared.end.Fault.{Fault}
 use Rattle.eip_frames.specs.declared.request.Request.{Request}
 use Rattle.eip_frames.specs.Fits.{is_outside}

@@ -1,7 +1,7 @@
-use Rattle.std.proofs.Common.{rules, arith, ◌≡◌, ◌+◌, ◌-◌, ◌<◌, ◌≤◌, ◌∷◌, [], sym, ap, ◌∙◌, length, length-append, reverse}
+use Rattle.std.proofs.Common.{arith, ◌≡◌, ◌+◌, ap, ◌∙◌, length, length-append}
 use Rattle.std.proofs.lemmas.List.{length-reverse}
 use Rattle.eip_books.proofs.Bounds.{within-limit, live-within}
-use Rattle.eip_books.specs.Facts.{tables_of, BooksFacts}
+use Rattle.eip_books.specs.Facts.{tables_of}
 use Rattle.eip_books.proofs.SourceCalls.{source-within, out-pulled}
 use Rattle.eip_books.specs.Moves.{new_row}
 use Rattle.eip_books.proofs.SourceEvents.{stands-accept}

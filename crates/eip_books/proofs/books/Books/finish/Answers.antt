@@ -1,14 +1,12 @@
-use Rattle.std.proofs.Common.{rules, arith, ◌≡◌, ◌+◌, ◌-◌, ◌*◌, ◌<◌, ◌≤◌, ◌∷◌, ◌++◌, [], Some, None, length, reverse, sym, ap, ◌∙◌}
-use Rattle.std.specs.List.{slice_get}
-use Rattle.std.proofs.lemmas.List.{length-reverse}
+use Rattle.std.proofs.Common.{arith, ◌≡◌, ◌-◌, ap, ◌∙◌}
 use Rattle.eip_ledger.specs.declared.place.Place.TheVariants.{Ready}
 use Rattle.std.proofs.Common.{false}
 use Rattle.eip_frames.specs.declared.request.Request.TheVariants as request
 use Rattle.eip_books.specs.Moves.{finished, finished_asked, finished_by, end_asked}
-use Rattle.eip_books.specs.Facts.{tables_of, BooksFacts}
-use Rattle.eip_books.proofs.Bounds.{within-limit, hands-are}
-use Rattle.eip_books.proofs.OwnCalls.{row-within, ready-some, stands-note, stands-finish, live-above}
-use Rattle.eip_books.proofs.LookCalls.{known-state, known-request, born-within, answer-within, answered-cursor, new-looked, answer-looked}
+use Rattle.eip_books.specs.Facts.{tables_of}
+use Rattle.eip_books.proofs.Bounds.{within-limit}
+use Rattle.eip_books.proofs.OwnCalls.{row-within, ready-some, stands-finish, live-above}
+use Rattle.eip_books.proofs.LookCalls.{known-state, known-request}
 use Rattle.eip_books.specs.State.{row_outside}
 use Rattle.eip_books.proofs.ListedNumbers.{leave-at}
 use Rattle.eip_books.proofs.HandCalls.{finished-not-outside}

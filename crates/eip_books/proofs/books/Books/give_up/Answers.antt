@@ -1,7 +1,6 @@
-use Rattle.std.proofs.Common.{rules, arith, ◌≡◌, ◌+◌, ◌-◌, ◌<◌, ◌≤◌, ◌∷◌, ◌++◌, [], Some, None, length, sym, ap, ◌∙◌, refl}
-use Rattle.std.specs.List.{slice_get}
+use Rattle.std.proofs.Common.{arith, ◌-◌}
 use Rattle.eip_ledger.specs.declared.place.Place.TheVariants.{InHand}
-use Rattle.eip_books.specs.Facts.{tables_of, BooksFacts}
+use Rattle.eip_books.specs.Facts.{tables_of}
 use Rattle.eip_books.specs.State.{row_outside}
 use Rattle.eip_books.specs.Moves.{closed}
 use Rattle.eip_books.specs.declared.row.Stage.TheVariants as stage
@@ -55,8 +54,8 @@ returns-clause-outside c =
     let placed = rw (← c.self.view_is) at c.requires.place in
     let r = placed-some (tables_of c.self.inside) c.args.ticket.number (InHand c.args.ticket.worker) c.self.invariant.stands placed in
     rw (← c.self.view_is, c.close.ensures.items r.0 r.1)
-        (numbers-stay row_outside 1 c.self.inside.rows.items (c.args.ticket.number - 1) r.0 (closed stage.Starved r.0) r.1
-        (held-not-outside (tables_of c.self.inside) c.args.ticket.worker c.args.ticket.number c.self.invariant.stands (rw (← c.self.view_is) at c.requires.worker) r.0 r.1 placed))
+    (numbers-stay row_outside 1 c.self.inside.rows.items (c.args.ticket.number - 1) r.0 (closed stage.Starved r.0) r.1
+    (held-not-outside (tables_of c.self.inside) c.args.ticket.worker c.args.ticket.number c.self.invariant.stands (rw (← c.self.view_is) at c.requires.worker) r.0 r.1 placed))
 
 pub returns-clause-legal : goal.returns-clause-legal
 returns-clause-legal c = (invariant_of-self c).stands.legal

@@ -1,4 +1,4 @@
-use Rattle.std.proofs.Common.{◌≡◌, true, ◌∙◌, ap, filter, Some}
+use Rattle.std.proofs.Common.{true, ◌∙◌, ap, filter}
 use Rattle.eip_history.specs.Rules.{first}
 use Rattle.eip_books.specs.Facts.{tables_of}
 use Rattle.eip_books.specs.State.{row_outside, outside_at, is_wanted}

@@ -1,7 +1,6 @@
-use Rattle.std.proofs.Common.{rules, arith, ◌≡◌, ◌+◌, ◌-◌, ◌<◌, ◌≤◌, ◌∷◌, ◌++◌, [], Some, None, length, sym, ap, ◌∙◌, refl}
-use Rattle.std.specs.List.{slice_get}
+use Rattle.std.proofs.Common.{arith, ◌-◌, sym, ◌∙◌}
 use Rattle.eip_ledger.specs.declared.place.Place.TheVariants.{InHand}
-use Rattle.eip_books.specs.Facts.{tables_of, BooksFacts}
+use Rattle.eip_books.specs.Facts.{tables_of}
 use Rattle.eip_books.specs.State.{row_outside}
 use Rattle.eip_books.specs.Moves.{ended_by}
 use Rattle.eip_books.proofs.Bounds.{within-limit}
@@ -60,9 +59,9 @@ returns-clause-outside c =
     let asked = rw (← c.self.view_is) at c.requires.asked in
     let r = placed-some (tables_of c.self.inside) c.args.number (InHand c.args.worker) c.self.invariant.stands placed in
     rw (← c.self.view_is, c.end_by.ensures.items r.0 r.1)
-        (numbers-stay row_outside 1 c.self.inside.rows.items (c.args.number - 1) r.0 (ended_by c.args.end c.args.answer r.0) r.1
-        (held-not-outside (tables_of c.self.inside) c.args.worker c.args.number c.self.invariant.stands (rw (← c.self.view_is) at c.requires.worker) r.0 r.1 placed
-        ∙ sym (end-not-outside (tables_of c.self.inside) c.args.worker c.args.number c.self.invariant.stands (rw (← c.self.view_is) at c.requires.worker) r.0 r.1 placed asked.0 c.args.end c.args.answer asked.1 asked.2 asked.3)))
+    (numbers-stay row_outside 1 c.self.inside.rows.items (c.args.number - 1) r.0 (ended_by c.args.end c.args.answer r.0) r.1
+    (held-not-outside (tables_of c.self.inside) c.args.worker c.args.number c.self.invariant.stands (rw (← c.self.view_is) at c.requires.worker) r.0 r.1 placed
+    ∙ sym (end-not-outside (tables_of c.self.inside) c.args.worker c.args.number c.self.invariant.stands (rw (← c.self.view_is) at c.requires.worker) r.0 r.1 placed asked.0 c.args.end c.args.answer asked.1 asked.2 asked.3)))
 
 pub returns-clause-legal : goal.returns-clause-legal
 returns-clause-legal c = (invariant_of-self c).stands.legal

@@ -1,8 +1,7 @@
-use Rattle.std.proofs.Common.{rules, arith, ◌≡◌, ◌+◌, ◌-◌, ◌<◌, ◌≤◌, ◌∷◌, ◌++◌, [], Some, None, length, reverse, sym, ap, ◌∙◌, refl}
-use Rattle.std.specs.List.{slice_get}
+use Rattle.std.proofs.Common.{arith, ◌≡◌, ◌-◌, length, ap, ◌∙◌}
 use Rattle.std.proofs.lemmas.List.{length-reverse}
 use Rattle.eip_ledger.specs.declared.place.Place.TheVariants.{InHand}
-use Rattle.eip_books.specs.Facts.{tables_of, BooksFacts}
+use Rattle.eip_books.specs.Facts.{tables_of}
 use Rattle.eip_books.specs.State.{row_outside}
 use Rattle.eip_books.specs.Moves.{answered}
 use Rattle.eip_books.proofs.Bounds.{within-limit}
@@ -61,8 +60,8 @@ returns-clause-outside c =
     let placed = rw (← c.self.view_is) at c.requires.hand in
     let r = placed-some (tables_of c.self.inside) c.args.number (InHand c.args.worker) c.self.invariant.stands placed in
     rw (← c.self.view_is, c.answer.ensures.items r.0 r.1)
-        (numbers-stay row_outside 1 c.self.inside.rows.items (c.args.number - 1) r.0 (answered (length c.entries-entry.result.now) r.0) r.1
-        (held-not-outside (tables_of c.self.inside) c.args.worker c.args.number c.self.invariant.stands (rw (← c.self.view_is) at c.requires.worker) r.0 r.1 placed))
+    (numbers-stay row_outside 1 c.self.inside.rows.items (c.args.number - 1) r.0 (answered (length c.entries-entry.result.now) r.0) r.1
+    (held-not-outside (tables_of c.self.inside) c.args.worker c.args.number c.self.invariant.stands (rw (← c.self.view_is) at c.requires.worker) r.0 r.1 placed))
 
 pub returns-clause-legal : goal.returns-clause-legal
 returns-clause-legal c = (invariant_of-self c).stands.legal

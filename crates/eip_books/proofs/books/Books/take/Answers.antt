@@ -1,7 +1,6 @@
-use Rattle.std.proofs.Common.{rules, arith, ◌≡◌, ◌+◌, ◌-◌, ◌<◌, ◌≤◌, ◌∷◌, ◌++◌, [], Some, None, length, sym, ap, ◌∙◌, refl}
-use Rattle.std.specs.List.{slice_get}
+use Rattle.std.proofs.Common.{arith, ◌≡◌, ◌∙◌, refl}
 use Rattle.eip_ledger.specs.declared.place.Place.TheVariants.{Ready}
-use Rattle.eip_books.specs.Facts.{tables_of, BooksFacts}
+use Rattle.eip_books.specs.Facts.{tables_of}
 use Rattle.eip_books.specs.Moves.{held}
 use Rattle.eip_books.specs.State.{row_outside}
 use Rattle.eip_books.proofs.Bounds.{within-limit}
@@ -47,7 +46,7 @@ pub returns-clause-may : goal.returns-clause-may
 returns-clause-may c =
     let k = known-outside (tables_of c.self.inside) c.self.invariant.stands c.args.number (rw (← c.self.view_is) at c.requires.known) in
     rw (← c.self.view_is)
-        (may-take (tables_of c.self.inside) c.args.worker c.args.number c.self.invariant.stands (rw (← c.self.view_is) at c.requires.worker) k.row k.at k.ready k.asks.cursor k.asks.request k.asks.asks k.asks.outside (rw (← c.self.view_is) at c.requires.below))
+    (may-take (tables_of c.self.inside) c.args.worker c.args.number c.self.invariant.stands (rw (← c.self.view_is) at c.requires.worker) k.row k.at k.ready k.asks.cursor k.asks.request k.asks.asks k.asks.outside (rw (← c.self.view_is) at c.requires.below))
 
 pub returns-clause-asked : goal.returns-clause-asked
 returns-clause-asked c =
@@ -70,7 +69,7 @@ pub returns-clause-place : goal.returns-clause-place
 returns-clause-place c =
     let k = known-outside (tables_of c.self.inside) c.self.invariant.stands c.args.number (rw (← c.self.view_is) at c.requires.known) in
     rw c.append_reserved.ensures.past
-        (taken-place (tables_of c.self.inside) c.args.worker c.args.number c.self.invariant.stands (rw (← c.self.view_is) at c.requires.worker) k.row k.at k.ready k.asks.cursor k.asks.request k.asks.asks k.asks.outside)
+    (taken-place (tables_of c.self.inside) c.args.worker c.args.number c.self.invariant.stands (rw (← c.self.view_is) at c.requires.worker) k.row k.at k.ready k.asks.cursor k.asks.request k.asks.asks k.asks.outside)
 
 pub returns-clause-outside : goal.returns-clause-outside
 returns-clause-outside c =

@@ -1,4 +1,4 @@
-use Rattle.std.proofs.Common.{◌≡◌, false, ◌∙◌, ap, filter}
+use Rattle.std.proofs.Common.{false, ◌∙◌, ap, filter}
 use Rattle.eip_history.specs.Rules.{first}
 use Rattle.eip_books.specs.Facts.{tables_of}
 use Rattle.eip_books.specs.State.{row_outside, outside_at, is_wanted}
@@ -17,7 +17,7 @@ pub returns : goal.returns
 returns c =
     let rows = c.self.inside.rows.items in
     rw (← c.self.view_is)
-        (c.first_wanted.ensures
-        ∙ (ap (λ xs. first (filter (λ x. is_wanted false (outside_at rows x)) xs)) c.numbers.ensures
-        ∙ (ap first (unlooked-are (tables_of c.self.inside) c.self.invariant.stands)
-        ∙ ap (λ xs. first (unlooked_numbers (row_numbers row_outside 1 rows) xs)) (ready-are (tables_of c.self.inside) c.self.invariant.stands))))
+    (c.first_wanted.ensures
+    ∙ (ap (λ xs. first (filter (λ x. is_wanted false (outside_at rows x)) xs)) c.numbers.ensures
+    ∙ (ap first (unlooked-are (tables_of c.self.inside) c.self.invariant.stands)
+    ∙ ap (λ xs. first (unlooked_numbers (row_numbers row_outside 1 rows) xs)) (ready-are (tables_of c.self.inside) c.self.invariant.stands))))
