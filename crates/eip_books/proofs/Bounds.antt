@@ -1,9 +1,9 @@
 -- What the tables say of the counts that the limit bounds.
-use Rattle.std.proofs.Common.{◌≡◌, ℕ, ◌+◌, ◌≤◌, List, length, filter, refl, sym, ◌∙◌, arith}
+use Rattle.std.proofs.Common.{◌≡◌, ℕ, ◌+◌, ◌≤◌, length, sym, ◌∙◌, arith}
 use Rattle.eip_route.specs.declared.route.RouteSet.{RouteSet}
-use Rattle.eip_history.specs.Own.{Past, turns}
+use Rattle.eip_history.specs.Own.{Past}
 use Rattle.eip_history.specs.Births.{births}
-use Rattle.eip_history.specs.Place.{hands, pulls_out, takes_out, is_taken, numbers_at, is_ready, place_of}
+use Rattle.eip_history.specs.Place.{hands, takes_out, is_taken, numbers_at, is_ready, place_of}
 use Rattle.eip_history.proofs.Numbers.{numbers-at-is}
 use Rattle.eip_history.proofs.Told.{births-numbered}
 use Rattle.eip_exchange.specs.declared.birth.Birth.{Birth}

@@ -1,18 +1,16 @@
 -- The tables before the first entry.
-use Rattle.std.proofs.Common.{◌≡◌, ℕ, zero, suc, ◌+◌, ◌<◌, Bool, true, false, List, [], length, Option, None, refl, sym, arith}
+use Rattle.std.proofs.Common.{◌≡◌, ℕ, zero, suc, false, List, [], length, None, refl, sym}
 use Rattle.std.proofs.lemmas.List.{append-nil}
 use Rattle.eip_route.specs.declared.route.RouteSet.{RouteSet}
-use Rattle.eip_history.specs.Plan.{Plan}
-use Rattle.eip_history.specs.Own.{turns, source_state, is_out, numbers_below}
-use Rattle.eip_history.specs.Births.{births, story}
+use Rattle.eip_history.specs.Own.{turns, source_state, numbers_below}
+use Rattle.eip_history.specs.Births.{story}
 use Rattle.eip_history.specs.Place.{pulls_out}
 use Rattle.eip_history.specs.Rules.{IsLegal, served}
 use Rattle.eip_history.specs.Stop.{first_fault}
-use Rattle.eip_history.specs.Texts.{notes}
 use Rattle.eip_plan.specs.Plan.{plan_of}
 use Rattle.eip_books.specs.declared.row.SourceState.{SourceState}
 use Rattle.eip_books.specs.Rows.{SourcesStand}
-use Rattle.eip_books.specs.Stands.{Tables, Stands}
+use Rattle.eip_books.specs.Stands.{Stands}
 
 nobody-below : (n : ℕ) → length (numbers_below (λ t. false) n) ≡ 0
 nobody-below n = none n

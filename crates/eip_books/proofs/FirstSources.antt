@@ -1,5 +1,5 @@
 -- The sources of a set before the first entry.
-use Rattle.std.proofs.Common.{◌≡◌, ℕ, zero, suc, ◌<◌, Bool, true, false, cond, List, [], ◌∷◌, length, map, Option, Some, None, is_some, refl, sym, ap, ◌∙◌, arith}
+use Rattle.std.proofs.Common.{◌≡◌, ℕ, zero, suc, Bool, true, false, cond, List, [], ◌∷◌, map, Some, is_some, refl, ap, ◌∙◌}
 use Rattle.std.specs.List.{slice_get}
 use Rattle.std.proofs.lemmas.List.{length-map}
 use Rattle.eip_uri.specs.Inlets.{inlet_of}
@@ -7,8 +7,7 @@ use Rattle.eip_route.specs.declared.route.Route.{Route}
 use Rattle.eip_route.specs.declared.route.RouteSet.{RouteSet}
 use Rattle.eip_history.specs.Own.{source_state}
 use Rattle.eip_history.proofs.Lists.{slice_get-some}
-use Rattle.eip_plan.specs.Plan.{plan_of, is_source_route}
-use Rattle.eip_books.specs.declared.row.SourceState.{SourceState}
+use Rattle.eip_plan.specs.Plan.{plan_of}
 use Rattle.eip_books.specs.declared.row.SourceState.TheVariants as source
 use Rattle.eip_books.specs.Rows.{SourcesStand, source_row, first_row, first_state}
 

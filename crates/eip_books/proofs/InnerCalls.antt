@@ -1,5 +1,5 @@
 -- What an exchange that was looked at asks for, and what is made of it.
-use Rattle.std.proofs.Common.{◌≡◌, ◌≢◌, ℕ, ◌-◌, Bool, true, false, cond, List, Option, Some, None, refl, sym, ap, subst, ◌∙◌, map, ◌≤◌, arith}
+use Rattle.std.proofs.Common.{◌≡◌, ◌≢◌, ℕ, ◌-◌, true, false, List, Option, Some, refl, ap, subst, map, arith}
 use Rattle.std.specs.List.{slice_get}
 use Rattle.eip_route.specs.declared.route.RouteSet.{RouteSet}
 use Rattle.eip_frames.specs.declared.request.Request.{Request}
@@ -19,10 +19,8 @@ use Rattle.eip_books.specs.State.{known_of}
 use Rattle.eip_books.specs.Stands.{Tables, Stands}
 use Rattle.eip_books.proofs.LookCalls.{known-state}
 use Rattle.eip_books.proofs.OwnCalls.{asked-there}
-use Rattle.eip_books.specs.declared.asking.Asked.{Asked}
 use Rattle.eip_books.specs.declared.asking.Asked.TheVariants as kind
-use Rattle.eip_books.specs.Asking.{asked_kind, inner_kind, is_outside_kind, AsksLine, AsksEnd}
-use Rattle.eip_books.specs.View.{IsKnown}
+use Rattle.eip_books.specs.Asking.{asked_kind, is_outside_kind, AsksLine, AsksEnd}
 
 pub kind-outside : (q : Request) → IsSimple q → is_outside_kind (asked_kind q) ≡ is_outside q
 kind-outside (request.Send t m) i = refl

@@ -12,3 +12,6 @@ pub mod InnerCalls
 pub mod StopCalls
 pub mod Bounds
 pub mod Empty
+pub mod ListedNumbers
+pub mod HandCalls
+pub mod LookOutside

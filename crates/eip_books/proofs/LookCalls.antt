@@ -1,17 +1,16 @@
 -- The tables behind a look at an exchange.
-use Rattle.std.proofs.Common.{◌≡◌, ℕ, zero, suc, ◌+◌, ◌-◌, ◌<◌, ◌≤◌, Bool, true, false, List, [], ◌∷◌, length, map, reverse, set as put_at, Option, Some, None, refl, sym, ap, subst, ◌∙◌, arith, ◌⊎◌, inl, inr, get_or, Result, Ok, Err}
+use Rattle.std.proofs.Common.{◌≡◌, ℕ, zero, suc, ◌-◌, ◌<◌, true, List, [], ◌∷◌, length, map, reverse, set as put_at, Option, Some, None, refl, sym, ap, subst, ◌∙◌, arith, ◌⊎◌, inl, inr, get_or, Result, Ok, Err}
 use Rattle.std.specs.List.{slice_get}
 use Rattle.std.specs.Result.{OnOk, OnErr}
 use Rattle.std.proofs.lemmas.Option.{slice_get_within, slice_get_read}
 use Rattle.eip_exchange.specs.declared.birth.Birth.{Birth}
 use Rattle.eip_exchange.specs.declared.end.Fault.{Fault}
-use Rattle.eip_exchange.specs.declared.message.Message.{Message}
 use Rattle.eip_route.specs.declared.route.RouteSet.{RouteSet}
 use Rattle.eip_frames.specs.declared.request.Request.{Request}
 use Rattle.eip_frames.specs.declared.answer.Answer.{Answer as Reply}
 use Rattle.eip_ledger.specs.declared.entry.Entry.{Entry}
 use Rattle.eip_ledger.specs.declared.entry.Kind.{Kind}
-use Rattle.eip_ledger.specs.declared.entry.Kind.TheVariants.{Accept, Answer}
+use Rattle.eip_ledger.specs.declared.entry.Kind.TheVariants.{Answer}
 use Rattle.eip_ledger.specs.declared.place.Place.TheVariants as place_is
 use Rattle.eip_history.specs.Own.{Past, own}
 use Rattle.eip_history.specs.Births.{births, item_birth}
@@ -29,7 +28,7 @@ use Rattle.eip_books.specs.Moves.{begun}
 use Rattle.eip_books.specs.State as state
 use Rattle.eip_books.specs.State.{State, state_of, state_by, known_in, known_of}
 use Rattle.eip_books.specs.Look.{FirstLook, LookedAt, HasCursor, CanTake, Stepped, birth_in}
-use Rattle.eip_books.specs.Rows.{entry_at, IsBornAt, Follows, HasAnswer, StateStands, RowStands, row_ready, row_held, row_live, state_ready}
+use Rattle.eip_books.specs.Rows.{entry_at, Follows, HasAnswer, StateStands, RowStands, row_held, row_live, state_ready}
 use Rattle.eip_books.specs.Stands.{Tables, Stands}
 use Rattle.eip_books.proofs.RowSteps.{looked-new, looked-answer, can-take}
 use Rattle.eip_books.proofs.OwnEvents.{stands-look}

@@ -1,5 +1,5 @@
 -- The tables behind each entry of an exchange.
-use Rattle.std.proofs.Common.{◌≡◌, ℕ, zero, suc, ◌+◌, ◌-◌, ◌<◌, ◌≤◌, Bool, true, false, List, [], ◌∷◌, ◌++◌, length, set as put_at, Option, Some, None, refl, sym, ap, subst, ◌∙◌, arith, eq-eqb, add-zero, inl}
+use Rattle.std.proofs.Common.{◌≡◌, ℕ, zero, suc, ◌+◌, ◌-◌, ◌<◌, ◌≤◌, true, false, List, [], ◌∷◌, ◌++◌, length, set as put_at, Option, Some, None, refl, sym, ap, subst, ◌∙◌, arith, add-zero, inl}
 use Rattle.std.specs.List.{slice_get}
 use Rattle.std.proofs.lemmas.Option.{slice_get_within}
 use Rattle.eip_exchange.specs.declared.birth.Birth.{Birth}
@@ -12,19 +12,16 @@ use Rattle.eip_route.specs.declared.route.RouteSet.{RouteSet}
 use Rattle.eip_frames.specs.declared.request.At.{At}
 use Rattle.eip_frames.specs.declared.request.Request.{Request}
 use Rattle.eip_frames.specs.declared.request.Request.TheVariants as request
-use Rattle.eip_frames.specs.declared.answer.Answer.{Answer as Reply}
 use Rattle.eip_frames.specs.declared.answer.Answer.TheVariants as reply
 use Rattle.eip_frames.specs.Fate.{AsksNext}
-use Rattle.eip_ledger.specs.declared.entry.Entry.{Entry}
-use Rattle.eip_ledger.specs.declared.entry.Kind.{Kind}
-use Rattle.eip_ledger.specs.declared.entry.Kind.TheVariants.{Take, Answer, Starve}
+use Rattle.eip_ledger.specs.declared.entry.Kind.TheVariants.{Answer, Starve}
 use Rattle.eip_ledger.specs.declared.place.Place.{Place}
 use Rattle.eip_ledger.specs.declared.place.Place.TheVariants as place_is
-use Rattle.eip_history.specs.Own.{Past, own, numbered}
+use Rattle.eip_history.specs.Own.{Past, numbered}
 use Rattle.eip_history.specs.Births.{births, fate, asked, Asked}
 use Rattle.eip_history.specs.Place.{place, place_of}
-use Rattle.eip_history.specs.Rules.{May, IsBelow}
-use Rattle.eip_history.specs.Tables.{without, put_in, bit}
+use Rattle.eip_history.specs.Rules.{IsBelow}
+use Rattle.eip_history.specs.Tables.{without, bit}
 use Rattle.eip_history.proofs.Lists.{related-at, related-length, numbered-at, slice_get-some}
 use Rattle.eip_history.proofs.Told.{births-numbered}
 use Rattle.eip_history.proofs.Unborn.{place-born}
@@ -33,15 +30,15 @@ use Rattle.eip_cursor.specs.declared.cursor.Cursor.{Cursor}
 use Rattle.eip_books.specs.declared.row.Stage.{Stage}
 use Rattle.eip_books.specs.declared.row.Stage.TheVariants as stage
 use Rattle.eip_books.specs.declared.row.Row.{Row}
-use Rattle.eip_books.specs.Moves.{answered, finished, finished_asked, closed}
+use Rattle.eip_books.specs.Moves.{answered, finished, closed}
 use Rattle.eip_books.specs.Closing as closing
 use Rattle.eip_books.specs.State as state
 use Rattle.eip_books.specs.State.{State, state_of, state_by}
 use Rattle.eip_books.specs.Rows.{RowStands, IsAsking, HasAnswer, HasEnded, row_ready, row_held, row_live, state_ready, state_held, state_live}
 use Rattle.eip_books.specs.Stands.{Tables, Stands}
 use Rattle.eip_books.proofs.RowNumbers.{numbers-stay, numbers-leave, count-set}
-use Rattle.eip_books.proofs.RowPlaces.{row-place, row-is_ready, born-stays, fate-asks}
-use Rattle.eip_books.proofs.RowSteps.{has-answer, has-finished, has-starved, closing_of, IsNoFinish}
+use Rattle.eip_books.proofs.RowPlaces.{row-is_ready, born-stays, fate-asks}
+use Rattle.eip_books.proofs.RowSteps.{has-answer, has-finished, has-starved, closing_of}
 use Rattle.eip_books.proofs.OwnEvents.{stands-one, notes_in, of-answer, of-starve}
 
 -- an exchange with a place has its row
@@ -96,9 +93,12 @@ live-above {set} {workers} {limit} {past} t x r st ready row =
     let a = ap bit facts.1 in
     omega (arith, k, a, st.live)
 
--- a Ready exchange has a row
+-- an exchange with a place has a row
+pub placed-some : {set : RouteSet} {workers limit : ℕ} {past : Past} (t : Tables) (x : ℕ) (p : Place) → Stands set workers limit past t → place (plan_of set) past x ≡ Some p → (r : Row) × (slice_get t.rows (x - 1) ≡ Some r)
+placed-some t x p st placed = let h = row-within t x p st placed in slice_get-some t.rows (x - 1) (omega (arith, h.0, h.1))
+
 pub ready-some : {set : RouteSet} {workers limit : ℕ} {past : Past} (t : Tables) (x : ℕ) → Stands set workers limit past t → place (plan_of set) past x ≡ Some place_is.Ready → (r : Row) × (slice_get t.rows (x - 1) ≡ Some r)
-ready-some t x st ready = let h = row-within t x place_is.Ready st ready in slice_get-some t.rows (x - 1) (omega (arith, h.0, h.1))
+ready-some t x st ready = placed-some t x place_is.Ready st ready
 
 -- what an exchange asks, by its birth and its fate
 pub asked-by-fate : (set : RouteSet) (past : Past) (x : ℕ) (b : Birth) (q : Request) (p : At) → numbered (births (plan_of set) past) x ≡ Some b → fate (plan_of set) past b ≡ AsksNext q p

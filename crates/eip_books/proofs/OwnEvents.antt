@@ -1,8 +1,6 @@
 -- What the entries of an exchange make of the tables.
-use Rattle.std.proofs.Common.{◌≡◌, ◌≢◌, ℕ, zero, suc, ◌+◌, ◌-◌, ◌<◌, ◌≤◌, Bool, true, false, ◌==◌, not, cond, List, [], ◌∷◌, ◌++◌, length, set as put_at, filter_map, Option, Some, None, refl, sym, ap, subst, ◌∙◌, arith, eq-eqb}
+use Rattle.std.proofs.Common.{◌≡◌, ◌≢◌, ℕ, suc, ◌+◌, ◌≤◌, false, List, [], ◌∷◌, ◌++◌, set as put_at, filter_map, Some, None, refl, sym, ap, ◌∙◌, arith}
 use Rattle.std.specs.List.{slice_get}
-use Rattle.std.proofs.lemmas.List.{append-nil}
-use Rattle.std.proofs.lemmas.Option.{slice_get_within}
 use Rattle.eip_exchange.specs.declared.birth.Birth.{Birth}
 use Rattle.eip_route.specs.declared.route.RouteSet.{RouteSet}
 use Rattle.eip_frames.specs.declared.answer.Answer.{Answer as Reply}
@@ -10,31 +8,25 @@ use Rattle.eip_ledger.specs.declared.entry.Entry.{Entry}
 use Rattle.eip_ledger.specs.declared.entry.Kind.{Kind}
 use Rattle.eip_ledger.specs.declared.entry.Kind.TheVariants.{Take, Answer, Starve}
 use Rattle.eip_ledger.specs.declared.place.Note.{Note}
-use Rattle.eip_ledger.specs.declared.place.Place.{Place}
-use Rattle.eip_ledger.specs.declared.place.Place.TheVariants as place_is
 use Rattle.eip_history.specs.Plan.{Plan}
-use Rattle.eip_history.specs.Own.{Past, own, concerns, moved, turns, turns_in, SourceState, source_state, numbered}
-use Rattle.eip_history.specs.Births.{births, Asked, asked}
-use Rattle.eip_history.specs.Place.{place, place_of}
-use Rattle.eip_history.specs.Rules.{IsLegal, May, Served, served_in, served_by}
+use Rattle.eip_history.specs.Own.{Past, concerns, moved, turns_in, SourceState, source_state}
+use Rattle.eip_history.specs.Births.{births}
+use Rattle.eip_history.specs.Rules.{May, Served, served_in}
 use Rattle.eip_history.specs.Stop.{fault_in}
-use Rattle.eip_history.specs.Tables.{Related, AreNumberedFrom, without, put_in, bit}
-use Rattle.eip_history.specs.Texts.{notes, note_for}
-use Rattle.eip_history.proofs.Lists.{related-set, related-at, related-length, numbered-at, slice_get-some}
+use Rattle.eip_history.specs.Tables.{bit}
+use Rattle.eip_history.specs.Texts.{note_for}
+use Rattle.eip_history.proofs.Lists.{related-set, related-at}
 use Rattle.eip_history.proofs.Limit.{source-after, pulls-same, turns-more, not-same}
 use Rattle.eip_history.proofs.Main.{legal-add}
 use Rattle.eip_history.proofs.Told.{births-numbered}
-use Rattle.eip_history.proofs.Unborn.{place-born}
 use Rattle.eip_plan.specs.Plan.{plan_of}
 use Rattle.eip_plan.proofs.Items.{item_births}
 use Rattle.eip_books.specs.declared.row.Row.{Row}
-use Rattle.eip_books.specs.State.{State, state_of}
-use Rattle.eip_books.specs.State as state
-use Rattle.eip_books.specs.Numbers.{row_numbers, row_count}
-use Rattle.eip_books.specs.Rows.{RowStands, StateStands, row_ready, row_held, row_live, state_ready, state_held, state_live}
+use Rattle.eip_books.specs.Numbers.{row_numbers}
+use Rattle.eip_books.specs.Rows.{RowStands, row_ready, row_held, row_live}
 use Rattle.eip_books.specs.Stands.{Tables, Stands}
-use Rattle.eip_books.proofs.RowNumbers.{numbers-stay, numbers-leave, numbers-join, count-set}
-use Rattle.eip_books.proofs.RowPlaces.{row-other, born-stays, row-place, Placed}
+use Rattle.eip_books.proofs.RowNumbers.{numbers-stay, count-set}
+use Rattle.eip_books.proofs.RowPlaces.{row-other}
 use Rattle.eip_books.proofs.SourceEvents.{births-same, sources-same, notes-more, fault-none}
 
 -- an entry of exchange x: it concerns nobody else, moves no source and makes no exchange

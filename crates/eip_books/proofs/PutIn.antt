@@ -1,5 +1,5 @@
 -- A number put in its place among rising numbers.
-use Rattle.std.proofs.Common.{◌≡◌, ℕ, ◌+◌, Bool, true, false, nat_lt, cond, List, [], ◌∷◌, refl, ap, arith, add-one}
+use Rattle.std.proofs.Common.{◌≡◌, ℕ, ◌+◌, true, false, nat_lt, cond, List, [], ◌∷◌, refl, ap, add-one}
 use Rattle.std.specs.List.{insert}
 use Rattle.eip_history.specs.Tables.{put_in}
 use Rattle.eip_books.specs.Numbers.{place_in}

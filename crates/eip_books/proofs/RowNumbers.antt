@@ -1,8 +1,8 @@
 -- How the numbers and the counts of rows change where one row changes.
-use Rattle.std.proofs.Common.{◌≡◌, ℕ, zero, suc, ◌+◌, ◌<◌, ◌≤◌, Bool, true, false, ◌==◌, not, cond, List, [], ◌∷◌, ◌++◌, length, set, filter, map, Option, Some, None, refl, sym, ap, ◌∙◌, arith, eq-eqb}
+use Rattle.std.proofs.Common.{◌≡◌, ℕ, zero, suc, ◌+◌, ◌<◌, ◌≤◌, Bool, true, false, cond, List, [], ◌∷◌, ◌++◌, length, set, filter, map, Some, refl, sym, ap, ◌∙◌, arith, eq-eqb}
 use Rattle.std.specs.List.{slice_get}
 use Rattle.std.proofs.lemmas.Bool.{cases_Bool, ne_eqb, lt-ltb, ltb-true}
-use Rattle.std.proofs.Common.{◌⊎◌, inl, inr, nat_lt}
+use Rattle.std.proofs.Common.{inl, inr, nat_lt}
 use Rattle.eip_exchange.specs.declared.birth.Birth.{Birth}
 use Rattle.eip_history.specs.Place.{number_of}
 use Rattle.eip_history.specs.Tables.{Related, AreNumberedFrom, without, put_in, bit}

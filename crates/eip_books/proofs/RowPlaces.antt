@@ -1,8 +1,7 @@
 -- Where an exchange stands by its row, and what an entry of another one leaves of it.
-use Rattle.std.proofs.Common.{◌≡◌, ℕ, zero, suc, ◌+◌, ◌<◌, Bool, true, false, not, ◌==◌, ◌||◌, cond, List, [], ◌∷◌, ◌++◌, length, reverse, Option, Some, None, is_some, refl, sym, ap, subst, ◌∙◌, arith, eq-eqb, append_assoc}
+use Rattle.std.proofs.Common.{◌≡◌, ℕ, zero, suc, ◌+◌, Bool, false, not, List, [], ◌∷◌, ◌++◌, length, reverse, Option, Some, None, refl, sym, ap, ◌∙◌, arith}
 use Rattle.std.specs.List.{slice_get}
 use Rattle.std.proofs.lemmas.List.{append-nil, reverse-append, length-reverse}
-use Rattle.std.proofs.lemmas.Option.{slice_get_within}
 use Rattle.eip_exchange.specs.declared.birth.Birth.{Birth}
 use Rattle.eip_exchange.specs.declared.birth.Origin.TheVariants as from
 use Rattle.eip_exchange.specs.declared.message.Message.{Message}
@@ -19,18 +18,17 @@ use Rattle.eip_cursor.specs.declared.cursor.Cursor.{Cursor}
 use Rattle.eip_cursor.specs.Rest.{rest}
 use Rattle.eip_history.specs.Plan.{Plan}
 use Rattle.eip_history.specs.Own.{Past, own, concerns, answers, starved, taker, last_answer, clock}
-use Rattle.eip_history.specs.Births.{births, fate, fate_by}
+use Rattle.eip_history.specs.Births.{fate}
 use Rattle.eip_history.specs.Place.{place_of, place_by, pause_of, Runs, end_of, in_hand, is_ready, is_held, is_ended, is_taken, all_ended}
 use Rattle.eip_meaning.proofs.Laws.{starts}
 use Rattle.eip_history.proofs.Unborn.{slice-right}
 use Rattle.eip_history.proofs.Told.{own-other}
 use Rattle.eip_history.proofs.Places.{fate-other}
 use Rattle.eip_plan.specs.Plan.{plan_of}
-use Rattle.eip_books.specs.Closing.{Closing}
 use Rattle.eip_books.specs.State.{State, state_of}
 use Rattle.eip_books.specs.State as state
 use Rattle.eip_books.specs.declared.row.Row.{Row}
-use Rattle.eip_books.specs.Rows.{entry_at, IsBornAt, Follows, IsAsking, HasAnswer, HasEnded, StateStands, RowStands, closed_end, row_ready, row_held, row_live, state_ready, state_held, state_live}
+use Rattle.eip_books.specs.Rows.{entry_at, IsBornAt, Follows, IsAsking, StateStands, RowStands, closed_end, row_ready, row_held, row_live, state_ready, state_held, state_live}
 
 -- the meaning of a set is that of its plan
 pub plan-mean : (set : RouteSet) (b : Birth) (given : List Reply) → (plan_of set).mean b given ≡ mean set b given
@@ -183,7 +181,7 @@ asking-other set e past b c q t n a = record { follows = follows-other set e pas
 state-other : (set : RouteSet) (e : Entry) (past : Past) (b : Birth) (st : State) → concerns b.number e.kind ≡ false → StateStands set past b st → StateStands set (e ∷ past) b st
 state-other set e past b state.New n o = own-other b.number e past n ∙ o
 state-other set e past b (state.Asks c q) n a = asking-other set e past b c q None n a
-state-other set e past b (state.Held c w) n h = (h.0, asking-other set e past b c h.0 (Some w) n h.1)
+state-other set e past b (state.Held c w) n h = (h.0, asking-other set e past b c h.0 (Some w) n h.1, h.2)
 state-other set e past b (state.Answered c i) n h = record {
   worker = h.worker;
   answer = h.answer;

@@ -1,13 +1,11 @@
 -- What an exchange's own entry makes of its row.
-use Rattle.std.proofs.Common.{◌≡◌, ◌≢◌, ℕ, Bool, true, false, ◌==◌, ◌||◌, cond, List, [], ◌∷◌, ◌++◌, length, Option, Some, None, refl, sym, ap, subst, ◌∙◌, arith, eq-eqb, append_assoc, ◌⊎◌, inl, inr}
+use Rattle.std.proofs.Common.{◌≡◌, ℕ, Bool, true, false, [], ◌∷◌, ◌++◌, length, Option, Some, None, refl, sym, ap, ◌∙◌, eq-eqb, append_assoc}
 use Rattle.std.proofs.lemmas.List.{append-nil}
 use Rattle.eip_exchange.specs.declared.birth.Birth.{Birth}
 use Rattle.eip_exchange.specs.declared.message.Message.{Message}
 use Rattle.eip_exchange.specs.declared.end.End.{End}
 use Rattle.eip_exchange.specs.declared.end.End.TheVariants as end
-use Rattle.eip_exchange.specs.Ends.{commit_failed}
 use Rattle.eip_route.specs.declared.route.RouteSet.{RouteSet}
-use Rattle.eip_frames.specs.declared.request.At.{At}
 use Rattle.eip_frames.specs.declared.request.Request.{Request}
 use Rattle.eip_frames.specs.declared.request.Request.TheVariants as request
 use Rattle.eip_frames.specs.declared.answer.Answer.{Answer as Reply}
@@ -17,20 +15,19 @@ use Rattle.eip_frames.specs.Fits.{fits}
 use Rattle.eip_books.specs.Look.{Stepped, CanTake}
 use Rattle.eip_ledger.specs.declared.entry.Entry.{Entry}
 use Rattle.eip_ledger.specs.declared.entry.Kind.TheVariants.{Take, Answer, Starve}
-use Rattle.eip_meaning.specs.Meaning.{mean, item_of, is_committed}
-use Rattle.eip_meaning.specs.Ending.{IsBehindFinish}
+use Rattle.eip_meaning.specs.Meaning.{mean, is_committed}
 use Rattle.eip_meaning.proofs.Laws.{ends, finished-ends, commit_failed-ends}
 use Rattle.eip_cursor.specs.declared.cursor.Cursor.{Cursor}
 use Rattle.eip_cursor.specs.Rest.{rest}
-use Rattle.eip_history.specs.Own.{Past, own, concerns, answers, starved, taker, last_answer}
-use Rattle.eip_history.specs.Births.{fate, fate_by}
+use Rattle.eip_history.specs.Own.{Past, own, answers, starved}
+use Rattle.eip_history.specs.Births.{fate}
 use Rattle.eip_history.specs.Place.{pause_of, Runs, end_of}
 use Rattle.eip_history.proofs.Told.{own-here}
 use Rattle.eip_plan.specs.Plan.{plan_of}
 use Rattle.eip_plan.specs.Simple.{IsSimpleAnswer}
 use Rattle.eip_books.specs.Closing.{Closing}
 use Rattle.eip_books.specs.Closing as closing
-use Rattle.eip_books.specs.Rows.{entry_at, Follows, IsAsking, HasAnswer, HasEnded, closed_end}
+use Rattle.eip_books.specs.Rows.{Follows, IsAsking, HasAnswer, HasEnded, closed_end}
 use Rattle.eip_books.proofs.RowPlaces.{entry-new, fate-fed, fate-asks, fate-follows}
 
 -- the meaning so far of an exchange that asks

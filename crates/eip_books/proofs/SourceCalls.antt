@@ -1,15 +1,12 @@
 -- The tables behind each entry of a source.
-use Rattle.std.proofs.Common.{◌≡◌, ℕ, ◌+◌, ◌-◌, ◌<◌, ◌≤◌, Bool, true, false, List, [], ◌∷◌, length, set as put_at, Option, Some, None, refl, sym, ap, ◌∙◌, arith, eq-eqb, add-zero}
-use Rattle.eip_exchange.specs.declared.message.Message.{Message}
+use Rattle.std.proofs.Common.{◌≡◌, ℕ, ◌+◌, ◌-◌, ◌<◌, ◌≤◌, List, ◌∷◌, length, set as put_at, Some, refl, arith, eq-eqb, add-zero}
 use Rattle.eip_route.specs.declared.route.RouteSet.{RouteSet}
 use Rattle.eip_ledger.specs.declared.entry.Kind.{Kind}
-use Rattle.eip_ledger.specs.declared.entry.Kind.TheVariants.{Pull, Accept, Refuse, SourceEnd, SourceFault}
+use Rattle.eip_ledger.specs.declared.entry.Kind.TheVariants.{Pull, Refuse, SourceEnd, SourceFault}
 use Rattle.eip_ledger.specs.declared.entry.Refused.{Refused}
-use Rattle.eip_history.specs.Own.{Past, source_state, moved, is_out, Idle, Out, Done}
-use Rattle.eip_history.specs.Place.{pulls_out}
+use Rattle.eip_history.specs.Own.{Past, source_state, moved, Idle, Out, Done}
 use Rattle.eip_history.specs.Rules.{May}
 use Rattle.eip_history.specs.Stop.{or_else}
-use Rattle.eip_history.specs.Tables.{bit}
 use Rattle.eip_plan.specs.Plan.{plan_of}
 use Rattle.eip_books.specs.declared.row.SourceState.TheVariants as kept
 use Rattle.eip_books.specs.Stands.{Tables, Stands}

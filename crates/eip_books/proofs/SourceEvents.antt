@@ -1,10 +1,10 @@
 -- What the entries of a source make of the tables.
-use Rattle.std.proofs.Common.{◌≡◌, ◌≢◌, ℕ, zero, suc, ◌+◌, ◌-◌, ◌<◌, ◌≤◌, Bool, true, false, ◌==◌, not, cond, List, [], ◌∷◌, ◌++◌, length, set as put_at, filter_map, Option, Some, None, refl, sym, ap, subst, ◌∙◌, arith, eq-eqb, ◌⊎◌, inl, inr}
+use Rattle.std.proofs.Common.{◌≡◌, ◌≢◌, ℕ, zero, suc, ◌+◌, ◌-◌, ◌<◌, ◌≤◌, true, false, ◌==◌, cond, List, [], ◌∷◌, ◌++◌, length, set as put_at, filter_map, Option, Some, None, refl, sym, ap, ◌∙◌, arith, eq-eqb, inl, inr}
 use Rattle.std.specs.List.{slice_get}
 use Rattle.std.proofs.Math.ListN.{length-set}
 use Rattle.std.proofs.lemmas.List.{append-nil}
 use Rattle.std.proofs.lemmas.List.Elements.{filter_map-append}
-use Rattle.std.proofs.lemmas.Bool.{cases_Bool, eqb-true, ne_eqb}
+use Rattle.std.proofs.lemmas.Bool.{cases_Bool, eqb-true}
 use Rattle.eip_exchange.specs.declared.birth.Birth.{Birth}
 use Rattle.eip_exchange.specs.declared.message.Message.{Message}
 use Rattle.eip_route.specs.declared.route.RouteSet.{RouteSet}
@@ -12,9 +12,8 @@ use Rattle.eip_ledger.specs.declared.entry.Entry.{Entry}
 use Rattle.eip_ledger.specs.declared.entry.Kind.{Kind}
 use Rattle.eip_ledger.specs.declared.entry.Kind.TheVariants.{Pull, Accept, Refuse, SourceEnd, SourceFault}
 use Rattle.eip_ledger.specs.declared.entry.Refused.{Refused}
-use Rattle.eip_ledger.specs.declared.place.Note.{Note}
 use Rattle.eip_history.specs.Plan.{Plan}
-use Rattle.eip_history.specs.Own.{Past, own, concerns, source_state, moved, is_out, turns, turns_in, SourceState, Idle, Out, Done}
+use Rattle.eip_history.specs.Own.{Past, concerns, source_state, moved, is_out, turns_in, SourceState, Idle, Out}
 use Rattle.eip_history.specs.Births.{births, item_birth}
 use Rattle.eip_history.specs.Place.{pulls_out}
 use Rattle.eip_history.specs.Rules.{IsLegal, May, Served, served, served_in}
@@ -22,9 +21,9 @@ use Rattle.eip_history.specs.Stop.{first_fault, fault_in, or_else}
 use Rattle.eip_history.specs.Tables.{Related, bit}
 use Rattle.eip_history.specs.Texts.{notes, note_for}
 use Rattle.eip_history.proofs.Lists.{related-all, related-push, related-length}
-use Rattle.eip_history.proofs.Limit.{source-after, pulls-same, pulls-change, turns-more, not-same}
+use Rattle.eip_history.proofs.Limit.{source-after, pulls-change, turns-more, not-same}
 use Rattle.eip_history.proofs.Main.{legal-add}
-use Rattle.eip_history.proofs.Unborn.{legal-may, newborn-own}
+use Rattle.eip_history.proofs.Unborn.{newborn-own}
 use Rattle.eip_plan.specs.Plan.{plan_of}
 use Rattle.eip_plan.proofs.Items.{item_births, births-items}
 use Rattle.eip_plan.proofs.Laws.{plan-simple}
@@ -32,13 +31,13 @@ use Rattle.eip_books.specs.declared.row.Row.{Row}
 use Rattle.eip_books.specs.Moves.{new_row}
 use Rattle.eip_books.specs.declared.row.SourceState.{SourceState as Kept}
 use Rattle.eip_books.specs.declared.row.SourceState.TheVariants as kept
-use Rattle.eip_books.specs.Numbers.{row_numbers, row_count}
-use Rattle.eip_books.specs.Rows.{RowStands, IsBornAt, SourcesStand, source_row, kept_state, row_ready, row_held, row_live}
+use Rattle.eip_books.specs.Numbers.{row_numbers}
+use Rattle.eip_books.specs.Rows.{RowStands, SourcesStand, source_row, kept_state, row_ready, row_held, row_live}
 use Rattle.eip_books.specs.Stands.{Tables, Stands}
 use Rattle.eip_books.proofs.RowNumbers.{numbers-push, count-push}
 use Rattle.eip_books.proofs.RowPlaces.{row-other, entry-new}
 
-get-set-same : {A : Type 0} (xs : List A) (i : ℕ) (x : A) → i < length xs → slice_get (put_at xs i x) i ≡ Some x
+pub get-set-same : {A : Type 0} (xs : List A) (i : ℕ) (x : A) → i < length xs → slice_get (put_at xs i x) i ≡ Some x
 get-set-same [] i x l = absurd (omega arith)
 get-set-same (y ∷ xs) zero x l = refl
 get-set-same (y ∷ xs) (suc i) x l = get-set-same xs i x (omega arith)

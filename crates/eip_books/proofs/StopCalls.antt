@@ -1,5 +1,5 @@
 -- What the tables say of the sources, of the stop and of the places.
-use Rattle.std.proofs.Common.{◌≡◌, ◌≢◌, ℕ, zero, suc, ◌+◌, ◌-◌, ◌<◌, ◌≤◌, ◌==◌, ◌&&◌, not, nat_eq, Bool, true, false, cond, List, [], ◌∷◌, length, filter, Option, Some, None, reverse, refl, sym, ap, subst, ◌∙◌, arith, inl, inr}
+use Rattle.std.proofs.Common.{◌≡◌, ℕ, zero, suc, ◌+◌, ◌-◌, ◌<◌, ◌≤◌, ◌==◌, ◌&&◌, not, Bool, true, false, cond, List, [], ◌∷◌, length, Option, Some, None, reverse, refl, sym, ap, ◌∙◌, arith, inl, inr}
 use Rattle.std.specs.List.{slice_get, list_all, position_from}
 use Rattle.std.proofs.lemmas.Option.{slice_get_within}
 use Rattle.std.proofs.lemmas.Bool.{and_parts, eqb-true, cases_Bool}
@@ -8,10 +8,8 @@ use Rattle.eip_exchange.specs.declared.end.Fault.{Fault}
 use Rattle.eip_exchange.specs.Ends.{commit_failed}
 use Rattle.eip_route.specs.declared.route.RouteSet.{RouteSet}
 use Rattle.eip_frames.specs.declared.request.Request.{Request}
-use Rattle.eip_ledger.specs.declared.entry.Entry.{Entry}
 use Rattle.eip_ledger.specs.declared.place.Place.{Place}
 use Rattle.eip_ledger.specs.declared.place.Place.TheVariants as place_is
-use Rattle.eip_ledger.specs.declared.place.Stop.{Stop}
 use Rattle.eip_ledger.specs.declared.place.Stop.TheVariants.{Drained, Spent}
 use Rattle.eip_meaning.specs.Meaning.{item_of}
 use Rattle.eip_cursor.specs.declared.cursor.Cursor.{Cursor}
@@ -19,9 +17,9 @@ use Rattle.eip_history.specs.Plan.{Plan}
 use Rattle.eip_history.specs.Own as own_of
 use Rattle.eip_history.specs.Own.{Past, numbers_below, numbered, source_state, is_done, Idle}
 use Rattle.eip_history.specs.Births.{births, groups}
-use Rattle.eip_history.specs.Place.{place, place_of, count_at, is_ended, hands}
-use Rattle.eip_history.specs.Rules.{unfinished, any_group, IsLegal}
-use Rattle.eip_history.specs.Stop.{is_over, stop_of, unended, no_numbers, will_close, open_groups, held_or_drained, with_fault, first_fault}
+use Rattle.eip_history.specs.Place.{place, place_of, count_at, is_ended}
+use Rattle.eip_history.specs.Rules.{unfinished}
+use Rattle.eip_history.specs.Stop.{is_over, stop_of, unended, no_numbers, with_fault}
 use Rattle.eip_history.proofs.Lists.{related-at, slice_get-some}
 use Rattle.eip_history.proofs.Stuck.{below-none}
 use Rattle.eip_plan.specs.Plan.{plan_of}
@@ -32,7 +30,7 @@ use Rattle.eip_books.specs.declared.row.Stage.TheVariants as stage
 use Rattle.eip_books.specs.declared.row.Row.{Row}
 use Rattle.eip_books.specs.declared.row.SourceState.{SourceState}
 use Rattle.eip_books.specs.declared.row.SourceState.TheVariants as source
-use Rattle.eip_books.specs.State.{state_of, state_by}
+use Rattle.eip_books.specs.State.{state_by}
 use Rattle.eip_books.specs.Rows.{RowStands, SourcesStand, source_row, kept_state, is_idle, is_done_row, are_done, row_live}
 use Rattle.eip_books.specs.View.{IsIdleSource}
 use Rattle.eip_books.specs.Places.{item_at, stage_place, shown}

@@ -1,5 +1,4 @@
 -- How an exchange ended, as its row tells it.
-use Rattle.std.specs.Prelude.{ℕ, List}
 use Rattle.eip_exchange.specs.declared.end.Fault.{Fault}
 
 pub data Closing : Type 0 where

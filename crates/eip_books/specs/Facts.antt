@@ -1,5 +1,5 @@
 -- What is true of the fields of the books: the tables stand for the history, and there is the room that was promised.
-use Rattle.std.specs.Prelude.{ℕ, ◌≡◌, ◌+◌, ◌*◌, ◌≤◌, length, map}
+use Rattle.std.specs.Prelude.{◌+◌, ◌*◌, ◌≤◌, length}
 use Rattle.eip_books.specs.declared.books.Books.TheInside.{Inside}
 use Rattle.eip_books.specs.Stands.{Tables, Stands}
 

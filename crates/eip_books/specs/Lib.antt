@@ -6,6 +6,7 @@ pub mod Look
 pub mod Rows
 pub mod Stands
 pub mod Asking
+pub mod Outside
 pub mod View
 pub mod Facts
 pub mod Places

@@ -6,6 +6,8 @@ use Rattle.eip_exchange.specs.declared.end.Fault.{Fault}
 use Rattle.eip_cursor.specs.declared.cursor.Cursor.{Cursor}
 use Rattle.eip_frames.specs.declared.request.Request.{Request}
 use Rattle.eip_frames.specs.declared.request.Request.TheVariants as request
+use Rattle.eip_frames.specs.declared.answer.Answer.{Answer as Reply}
+use Rattle.eip_frames.specs.declared.answer.Answer.TheVariants as reply
 use Rattle.eip_books.specs.declared.row.Stage.{Stage}
 use Rattle.eip_books.specs.declared.row.Stage.TheVariants as stage
 use Rattle.eip_books.specs.declared.row.Row.{Row}
@@ -55,3 +57,8 @@ finished_by None r = record r { request = None }
 -- ended by the end that is asked for
 abbrev pub finished_asked : Row → Row
 finished_asked r = finished_by (end_asked r.request) r
+
+-- ended by this end, as its source took it
+abbrev pub ended_by : End → Reply → Row → Row
+ended_by e reply.CommitFailed r = closed stage.NotCommitted r
+ended_by e _ r = finished e r

@@ -1,5 +1,5 @@
 -- Tables by number: what stands in the rows that pass a test.
-use Rattle.std.specs.Prelude.{ℕ, ◌+◌, Bool, true, false, cond, nat_lt, List, [], ◌∷◌, length, filter}
+use Rattle.std.specs.Prelude.{ℕ, ◌+◌, ◌<◌, ◌≤◌, Bool, cond, nat_lt, List, [], ◌∷◌, length, filter}
 
 -- the numbers of the rows that pass a test, where the first row has this number
 abbrev pub row_numbers : {R : Type 0} → (R → Bool) → ℕ → List R → List ℕ
@@ -24,3 +24,7 @@ pub record NumbersView : Type 0 where
 abbrev pub place_in : ℕ → List ℕ → ℕ
 place_in x [] = 0
 place_in x (y ∷ ys) = cond (nat_lt x y) 0 (place_in x ys + 1)
+
+-- a number that has a row
+abbrev pub IsNumberOf : {R : Type 0} → List R → ℕ → Type 0
+IsNumberOf rows x = (0 < x) × (x ≤ length rows)

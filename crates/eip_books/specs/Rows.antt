@@ -12,9 +12,9 @@ use Rattle.eip_route.specs.declared.route.RouteSet.{RouteSet}
 use Rattle.eip_frames.specs.declared.request.At.{At}
 use Rattle.eip_frames.specs.declared.request.Request.{Request}
 use Rattle.eip_frames.specs.declared.answer.Answer.{Answer as Reply}
-use Rattle.eip_frames.specs.Fate.{Fate, AsksNext, Ends, Strays}
+use Rattle.eip_frames.specs.Fate.{AsksNext, Ends}
+use Rattle.eip_frames.specs.Fits.{is_outside}
 use Rattle.eip_ledger.specs.declared.entry.Entry.{Entry}
-use Rattle.eip_ledger.specs.declared.entry.Kind.{Kind}
 use Rattle.eip_ledger.specs.declared.entry.Kind.TheVariants.{Accept, Answer}
 use Rattle.eip_meaning.specs.Meaning.{mean, item_of}
 use Rattle.eip_cursor.specs.declared.cursor.Cursor.{Cursor}
@@ -22,7 +22,7 @@ use Rattle.eip_cursor.specs.Rest.{rest, IsFirst, AnswerFits}
 use Rattle.eip_history.specs.Plan.{Plan}
 use Rattle.eip_history.specs.Own.{Past, own, answers, starved, taker, last_answer, source_state}
 use Rattle.eip_history.specs.Own as own_of
-use Rattle.eip_history.specs.Births.{births, fate, item_birth}
+use Rattle.eip_history.specs.Births.{fate, item_birth}
 use Rattle.eip_history.specs.Place.{pause_of, Runs, end_of}
 use Rattle.eip_plan.specs.Plan.{plan_of}
 use Rattle.eip_books.specs.Closing.{Closing}
@@ -86,7 +86,7 @@ pub record HasEnded (set : RouteSet) (past : Past) (b : Birth) (c : Closing) : T
 abbrev pub StateStands : RouteSet → Past → Birth → State → Type 0
 StateStands set past b state.New = own b.number past ≡ []
 StateStands set past b (state.Asks c q) = IsAsking set past b c q None
-StateStands set past b (state.Held c w) = (q : Request) × IsAsking set past b c q (Some w)
+StateStands set past b (state.Held c w) = (q : Request) × IsAsking set past b c q (Some w) × (is_outside q ≡ true)
 StateStands set past b (state.Answered c i) = HasAnswer set past b c i
 StateStands set past b (state.Ended c) = HasEnded set past b c
 StateStands set past b state.Broken = ⊥

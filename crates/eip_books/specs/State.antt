@@ -1,7 +1,8 @@
 -- How far an exchange is, with what belongs to it, as its row tells it.
-use Rattle.std.specs.Prelude.{ℕ, Option, Some, None}
+use Rattle.std.specs.Prelude.{ℕ, ◌-◌, Bool, false, not, cond, List, Option, Some, None, slice_get}
 use Rattle.eip_exchange.specs.declared.end.Fault.{Fault}
 use Rattle.eip_frames.specs.declared.request.Request.{Request}
+use Rattle.eip_frames.specs.Fits.{is_outside}
 use Rattle.eip_cursor.specs.declared.cursor.Cursor.{Cursor}
 use Rattle.eip_books.specs.declared.row.Stage.{Stage}
 use Rattle.eip_books.specs.declared.row.Stage.TheVariants as stage
@@ -40,3 +41,23 @@ known_in _ = None
 
 abbrev pub known_of : Row → Option Request
 known_of r = known_in (state_of r)
+
+-- a stage at which a request waits for its answer, and the request is one of the outside
+abbrev pub asks_outside : Stage → Option Request → Bool
+asks_outside stage.Asks (Some q) = is_outside q
+asks_outside _ _ = false
+
+abbrev pub row_outside : Row → Bool
+row_outside r = asks_outside r.stage r.request
+
+abbrev pub is_outside_row : Option Row → Bool
+is_outside_row (Some r) = row_outside r
+is_outside_row None = false
+
+-- whether the exchange with a number is known to ask somebody outside
+abbrev pub outside_at : List Row → ℕ → Bool
+outside_at rows x = is_outside_row (slice_get rows (x - 1))
+
+-- known to ask somebody outside, or not, as it is wanted
+abbrev pub is_wanted : Bool → Bool → Bool
+is_wanted outside known = cond outside known (not known)

@@ -11,12 +11,14 @@ use Rattle.eip_history.specs.Own.{Past, source_state, Idle}
 use Rattle.eip_history.specs.Rules.{IsLegal, IsSource}
 use Rattle.eip_plan.specs.Plan.{plan_of}
 
--- the set, the journal, how many hands need no memory, and what each exchange is known to ask, by number
+-- the set, the journal, how many hands need no memory, what each exchange is known to ask, by number,
+-- and the numbers of those that are known to ask somebody outside, the least first
 pub record BooksView : Type 0 where
   pub set : RouteSet
   pub journal : JournalView
   pub room : ℕ
   pub known : List (Option Request)
+  pub outside : List ℕ
 
 -- the plan that the journal is read by
 abbrev pub plan : BooksView → Plan
@@ -55,6 +57,7 @@ pub record IsSame (old new : BooksView) : Type 0 where
   pub none : AddsNone old new
   pub room : new.room ≡ old.room
   pub known : new.known ≡ old.known
+  pub outside : new.outside ≡ old.outside
 
 -- the route has a source, which may be pulled but for the limit
 abbrev pub IsIdleSource : Plan → Past → ℕ → Type 0

@@ -1,18 +1,22 @@
-ghost use Rattle.std.specs.Prelude.{◌≡◌, ◌+◌, ◌-◌, ◌<◌, ◌≤◌, ◌∷◌, ◌++◌, [], List, ℕ, length, IfOk, OnOk, OnErr, Some, slice_get, IfSome, IfNone, IsTrue, ◌↔◌, ◌≢◌, ◌==◌, ◌&&◌, cond, None};
-ghost use Rattle.eip_ledger.specs.declared.entry.Kind.TheVariants.{Pull, Accept, Refuse, SourceEnd, SourceFault, Starve, Answer as Answered};
+ghost use Rattle.std.specs.Prelude.{◌≡◌, ◌+◌, ◌-◌, ◌<◌, ◌≤◌, ◌∷◌, ◌++◌, [], List, ℕ, length, IfOk, OnOk, OnErr, Some, slice_get, IfSome, IfNone, IsTrue, ◌↔◌, ◌≢◌, ◌==◌, ◌&&◌, cond, None, true, false};
+ghost use Rattle.eip_ledger.specs.declared.entry.Kind.TheVariants.{Pull, Accept, Refuse, SourceEnd, SourceFault, Take, Starve, Answer as Answered};
 ghost use Rattle.eip_history.specs.Births.{births, asked};
 ghost use Rattle.eip_history.specs.Own.{turns};
-ghost use Rattle.eip_ledger.specs.declared.place.Place.TheVariants.{Ready};
+ghost use Rattle.eip_ledger.specs.declared.place.Place.TheVariants.{Ready, InHand};
 ghost use Rattle.eip_history.specs.Place.{ready_numbers, place};
 ghost use Rattle.eip_history.specs.Rules.{May, first, IsBelow, outside_asked};
 ghost use Rattle.eip_history.specs.Stop.{or_else, with_fault, stop_of, is_over};
 ghost use Rattle.eip_ledger.specs.declared.place.Stop.TheVariants.{Drained, Spent};
 ghost use Rattle.eip_books.specs.declared.asking.Asked.TheVariants.{Unknown};
 ghost use Rattle.eip_history.specs.Texts.{notes};
+ghost use Rattle.eip_history.specs.Tables.{without};
 ghost use Rattle.eip_plan.specs.Plan.{plan_of};
 ghost use Rattle.eip_frames.specs.declared.answer.Answer.TheVariants.{Noted, Finished};
 ghost use Rattle.eip_frames.specs.declared.request.Request.{Request as ARequest};
 ghost use Rattle.eip_frames.specs.declared.request.Request.TheVariants.{Log};
+ghost use Rattle.eip_frames.specs.Fits.{fits, is_outside};
+ghost use Rattle.eip_books.specs.Moves.{end_asked};
+ghost use Rattle.eip_books.specs.Outside.{is_among, outside_after, outside_looked, unlooked_numbers, IsAsked};
 ghost use Rattle.eip_books.specs.Asking.{asked_kind, is_outside_kind, AsksLine, AsksEnd};
 ghost use Rattle.eip_books.specs.View.{plan, IsLegalRun, Adds, AddsNone, AddsAnswer, IsSame, IsKnown, IsIdleSource};
 ghost use Rattle.eip_books.specs.declared.books.Inner.TheVariants.{Did, Outside};
@@ -22,11 +26,12 @@ use crate::asking::{Asked, asked_of};
 use crate::look::first_look;
 use crate::places::place_of;
 use crate::rising::RisingNumbers;
-use crate::row::{Row, SourceState, Stage, line_asked};
+use crate::row::{Row, SourceState, Stage, end_asked, line_asked};
 use crate::rows::Rows;
 use crate::sources::Sources;
 use crate::table::Table;
-use eip_exchange::Message;
+use crate::ticket::Ticket;
+use eip_exchange::{End, Message};
 use eip_frames::{Answer, Request};
 use eip_ledger::{Entry, Journal, Kind, Note, Place, Refused, Stop};
 use eip_route::RouteSet;
@@ -69,9 +74,10 @@ impl Model for Books {
 
     ghost Value = { BooksView };
 
-    ghost use Rattle.eip_books.specs.State.{known_of};
+    ghost use Rattle.eip_books.specs.Numbers.{row_numbers};
+    ghost use Rattle.eip_books.specs.State.{known_of, row_outside};
 
-    ghost view = { λ b. record { set = b.set; journal = b.journal; room = b.room; known = map known_of b.rows.items } };
+    ghost view = { λ b. record { set = b.set; journal = b.journal; room = b.room; known = map known_of b.rows.items; outside = row_numbers row_outside 1 b.rows.items } };
 
     ghost use Rattle.eip_books.specs.Facts.{BooksFacts};
 
@@ -147,6 +153,7 @@ impl Books {
         ensures past { IfOk result (λ b. b.journal.past ≡ []) }
         ensures room { IfOk result (λ b. b.room ≡ 0) }
         ensures known { IfOk result (λ b. b.known ≡ []) }
+        ensures outside { IfOk result (λ b. b.outside ≡ []) }
     {
         let sources = Sources::new(alloc, &set)?;
         Ok(Books {
@@ -198,6 +205,7 @@ impl Books {
         ensures legal { IsLegalRun self.new }
         ensures room { self.new.room + 1 ≡ self.old.room }
         ensures known { self.new.known ≡ self.old.known }
+        ensures outside { self.new.outside ≡ self.old.outside }
     {
         self.journal.append_reserved(Entry {
             worker,
@@ -215,6 +223,7 @@ impl Books {
         ensures adds { Adds self.old self.new worker (Accept source item message) }
         ensures legal { IsLegalRun self.new }
         ensures room { self.new.room ≡ self.old.room }
+        ensures outside { self.new.outside ≡ self.old.outside }
     {
         let born = self.journal.entries().len();
         self.journal.append_reserved(Entry {
@@ -242,6 +251,7 @@ impl Books {
         ensures legal { IsLegalRun self.new }
         ensures room { self.new.room ≡ self.old.room }
         ensures known { self.new.known ≡ self.old.known }
+        ensures outside { self.new.outside ≡ self.old.outside }
     {
         self.journal.append_reserved(Entry {
             worker,
@@ -264,6 +274,7 @@ impl Books {
         ensures legal { IsLegalRun self.new }
         ensures room { self.new.room ≡ self.old.room }
         ensures known { self.new.known ≡ self.old.known }
+        ensures outside { self.new.outside ≡ self.old.outside }
     {
         self.journal.append_reserved(Entry {
             worker,
@@ -281,6 +292,7 @@ impl Books {
         ensures legal { IsLegalRun self.new }
         ensures room { self.new.room ≡ self.old.room }
         ensures known { self.new.known ≡ self.old.known }
+        ensures outside { self.new.outside ≡ self.old.outside }
     {
         self.journal.append_reserved(Entry {
             worker,
@@ -292,13 +304,14 @@ impl Books {
         self.pulled -= 1;
     }
 
-    /// Afterwards one pull or take, with what ends it, needs no memory.
+    /// Afterwards one pull, take or starve needs no memory, and neither does the call that ends such a pull or take.
     pub fn reserve(&mut self) -> Result<(), NoMemory>
         ensures ok { OnOk result (1 ≤ self.new.room) }
         ensures none { AddsNone self.old self.new }
         ensures legal { IsLegalRun self.new }
         ensures room { self.old.room ≤ self.new.room }
         ensures known { self.new.known ≡ self.old.known }
+        ensures outside { self.new.outside ≡ self.old.outside }
     {
         if self.room == 0 {
             let hands = (self.pulled + self.taken) as usize;
@@ -317,7 +330,8 @@ impl Books {
         ensures legal { IsLegalRun self.new }
         ensures room { self.new.room ≡ self.old.room }
         ensures known { OnOk result (IsKnown self.new.known number) }
-        ensures err { OnErr result (self.new.known ≡ self.old.known) }
+        ensures outside { OnOk result (self.new.outside ≡ outside_looked (outside_asked (asked (plan self.old) self.old.journal.past number)) number self.old.outside) }
+        ensures err { OnErr result (IsSame self.old self.new) }
     {
         let row = self.rows.get(number);
         match row.stage {
@@ -360,6 +374,7 @@ impl Books {
         requires below { IsBelow (plan self.old) self.old.journal.turns self.old.journal.past }
         requires line { AsksLine self.old.known number }
         ensures adds { OnOk result (Adds self.old self.new worker (Answered number Noted)) }
+        ensures outside { OnOk result (self.new.outside ≡ without number self.old.outside) }
         ensures err { OnErr result (IsSame self.old self.new) }
         ensures legal { IsLegalRun self.new }
         ensures room { self.new.room ≡ self.old.room }
@@ -387,6 +402,7 @@ impl Books {
         requires below { IsBelow (plan self.old) self.old.journal.turns self.old.journal.past }
         requires end { AsksEnd self.old.known number }
         ensures adds { OnOk result (Adds self.old self.new worker (Answered number Finished)) }
+        ensures outside { OnOk result (self.new.outside ≡ without number self.old.outside) }
         ensures err { OnErr result (IsSame self.old self.new) }
         ensures legal { IsLegalRun self.new }
         ensures room { self.new.room ≡ self.old.room }
@@ -415,6 +431,7 @@ impl Books {
         ensures adds { Adds self.old self.new worker (Starve number) }
         ensures legal { IsLegalRun self.new }
         ensures room { self.new.room + 1 ≡ self.old.room }
+        ensures outside { self.new.outside ≡ without number self.old.outside }
     {
         self.rows.close(number, Stage::Starved);
         self.ready.remove(number);
@@ -434,7 +451,9 @@ impl Books {
         ensures did { IfOk result (λ i. i ≡ Did → AddsAnswer self.old self.new worker number) }
         ensures outside { IfOk result (λ i. i ≡ Outside → AddsNone self.old self.new) }
         ensures exact { IfOk result (λ i. i ≡ inner_of (outside_asked (asked (plan self.old) self.old.journal.past number))) }
+        ensures listed { IfOk result (λ i. self.new.outside ≡ outside_after i number self.old.outside) }
         ensures err { OnErr result (AddsNone self.old self.new) }
+        ensures kept { OnErr result (self.new.outside ≡ self.old.outside) }
         ensures legal { IsLegalRun self.new }
         ensures room { self.new.room ≡ self.old.room }
     {
@@ -450,6 +469,139 @@ impl Books {
             }
             Asked::Outside | Asked::Unknown => Ok(Inner::Outside),
         }
+    }
+
+    /// The least number known as Outside.
+    pub fn known_outside(&self) -> Option<u64>
+        ensures known { IfSome result (λ x. is_among x self.now.outside ≡ true) }
+        ensures least { IfSome result (λ x. (y : ℕ) → y < x → is_among y self.now.outside ≡ false) }
+        ensures none { IfNone result (self.now.outside ≡ []) }
+        ensures legal { IsLegalRun self.now }
+    {
+        self.rows.first_wanted(self.ready.numbers(), true)
+    }
+
+    /// The least number of a Ready exchange that is not known as Outside.
+    pub fn unlooked(&self) -> Option<u64>
+        ensures { result ≡ first (unlooked_numbers self.now.outside (ready_numbers (plan self.now) self.now.journal.past)) }
+    {
+        self.rows.first_wanted(self.ready.numbers(), false)
+    }
+
+    /// A worker takes an exchange that is known as Outside in hand.
+    pub fn take(&mut self, worker: u32, number: u64) -> Ticket
+        requires worker { worker ≤ self.old.journal.workers }
+        requires known { is_among number self.old.outside ≡ true }
+        requires below { IsBelow (plan self.old) self.old.journal.turns self.old.journal.past }
+        requires room { 1 ≤ self.old.room }
+        ensures worker { result.worker ≡ worker }
+        ensures number { result.number ≡ number }
+        ensures may { May (plan self.old) self.old.journal.turns self.old.journal.past worker (Take number) }
+        ensures adds { Adds self.old self.new worker (Take number) }
+        ensures asked { IsAsked (plan self.new) self.new.journal.past number result.request }
+        ensures of_outside { is_outside result.request ≡ true }
+        ensures place { place (plan self.new) self.new.journal.past number ≡ Some (InHand worker) }
+        ensures outside { self.new.outside ≡ without number self.old.outside }
+        ensures legal { IsLegalRun self.new }
+        ensures room { self.new.room + 1 ≡ self.old.room }
+    {
+        let Some(request) = self.rows.hold(number, worker) else {
+            unreachable!()
+        };
+        self.ready.remove(number);
+        self.journal.append_reserved(Entry {
+            worker,
+            kind: Kind::Take(number),
+        });
+        self.taken += 1;
+        self.room -= 1;
+        Ticket {
+            worker,
+            number,
+            request,
+        }
+    }
+
+    /// An exchange in hand, which did not ask to end, has its answer.
+    fn settle_step(&mut self, worker: u32, number: u64, answer: Answer)
+        requires worker { worker ≤ self.old.journal.workers }
+        requires hand { place (plan self.old) self.old.journal.past number ≡ Some (InHand worker) }
+        requires asked { (q : ARequest) × IsAsked (plan self.old) self.old.journal.past number q × (fits q answer ≡ true) × (end_asked (Some q) ≡ None) }
+        ensures adds { Adds self.old self.new worker (Answered number answer) }
+        ensures legal { IsLegalRun self.new }
+        ensures room { self.new.room ≡ self.old.room }
+        ensures outside { self.new.outside ≡ self.old.outside }
+    {
+        let entry = self.journal.entries().len();
+        let _ = self.rows.answer(number, entry);
+        self.ready.put_in(number);
+        self.journal.append_reserved(Entry {
+            worker,
+            kind: Kind::Answer { number, answer },
+        });
+        self.turns += 1;
+        self.taken -= 1;
+    }
+
+    /// An exchange in hand, which asked to end so, ends as its source took it.
+    fn settle_end(&mut self, worker: u32, number: u64, end: End, answer: Answer)
+        requires worker { worker ≤ self.old.journal.workers }
+        requires hand { place (plan self.old) self.old.journal.past number ≡ Some (InHand worker) }
+        requires asked { (q : ARequest) × IsAsked (plan self.old) self.old.journal.past number q × (fits q answer ≡ true) × (end_asked (Some q) ≡ Some end) }
+        ensures adds { Adds self.old self.new worker (Answered number answer) }
+        ensures legal { IsLegalRun self.new }
+        ensures room { self.new.room ≡ self.old.room }
+        ensures outside { self.new.outside ≡ self.old.outside }
+    {
+        self.rows.end_by(number, end, &answer);
+        self.journal.append_reserved(Entry {
+            worker,
+            kind: Kind::Answer { number, answer },
+        });
+        self.turns += 1;
+        self.taken -= 1;
+        self.live -= 1;
+    }
+
+    /// An exchange in hand has the answer to what it asked.
+    pub fn settle(&mut self, ticket: Ticket, answer: Answer)
+        requires worker { ticket.worker ≤ self.old.journal.workers }
+        requires fits { fits ticket.request answer ≡ true }
+        requires place { place (plan self.old) self.old.journal.past ticket.number ≡ Some (InHand ticket.worker) }
+        requires asked { IsAsked (plan self.old) self.old.journal.past ticket.number ticket.request }
+        ensures adds { Adds self.old self.new ticket.worker (Answered ticket.number answer) }
+        ensures legal { IsLegalRun self.new }
+        ensures room { self.new.room ≡ self.old.room }
+        ensures outside { self.new.outside ≡ self.old.outside }
+    {
+        let Ticket {
+            worker,
+            number,
+            request,
+        } = ticket;
+        match end_asked(Some(request)) {
+            Some(end) => self.settle_end(worker, number, end, answer),
+            None => self.settle_step(worker, number, answer),
+        }
+    }
+
+    /// An exchange in hand is ended for want of memory.
+    pub fn give_up(&mut self, ticket: Ticket)
+        requires worker { ticket.worker ≤ self.old.journal.workers }
+        requires place { place (plan self.old) self.old.journal.past ticket.number ≡ Some (InHand ticket.worker) }
+        ensures adds { Adds self.old self.new ticket.worker (Starve ticket.number) }
+        ensures legal { IsLegalRun self.new }
+        ensures room { self.new.room ≡ self.old.room }
+        ensures outside { self.new.outside ≡ self.old.outside }
+    {
+        let Ticket { worker, number, .. } = ticket;
+        self.rows.close(number, Stage::Starved);
+        self.journal.append_reserved(Entry {
+            worker,
+            kind: Kind::Starve(number),
+        });
+        self.taken -= 1;
+        self.live -= 1;
     }
 
     /// The first route whose source may be pulled but for the limit.

@@ -10,8 +10,10 @@ pub mod row;
 pub mod rows;
 pub mod sources;
 pub mod table;
+pub mod ticket;
 
 pub use asking::Asked;
 pub use books::{Books, Inner};
 pub use rising::RisingNumbers;
 pub use row::{Row, SourceState, Stage};
+pub use ticket::Ticket;

@@ -1,9 +1,10 @@
 ghost use Rattle.std.specs.Prelude.{◌≡◌, Some, None};
-ghost use Rattle.eip_books.specs.Moves.{new_row, begun, answered, held, closed, stage_of, fault_of, finished, end_asked, line_asked, finished_asked};
+ghost use Rattle.eip_books.specs.Moves.{new_row, begun, answered, held, closed, stage_of, fault_of, finished, end_asked, line_asked, finished_asked, ended_by};
+ghost use Rattle.eip_books.specs.State.{row_outside};
 
 use eip_cursor::Cursor;
 use eip_exchange::{End, Fault};
-use eip_frames::Request;
+use eip_frames::{Answer, Request, is_outside};
 use eip_text::Text;
 use std::mem;
 
@@ -65,6 +66,16 @@ impl Row {
             cursor: None,
             request: None,
             fault: None,
+        }
+    }
+
+    /// Whether it is known to ask somebody outside.
+    pub fn asks_outside(&self) -> bool
+        ensures { result ≡ row_outside self.now }
+    {
+        match (self.stage, &self.request) {
+            (Stage::Asks, Some(request)) => is_outside(request),
+            _ => false,
         }
     }
 }
@@ -155,5 +166,15 @@ pub fn finish_asked(row: &mut Row)
     let request = row.request.take();
     if let Some(end) = end_asked(request) {
         finish(row, end);
+    }
+}
+
+/// The exchange ends by this end, as its source took it.
+pub fn end_by(row: &mut Row, end: End, answer: &Answer)
+    ensures { row.new ≡ ended_by end answer.now row.old }
+{
+    match answer {
+        Answer::CommitFailed => close(row, Stage::NotCommitted),
+        _ => finish(row, end),
     }
 }

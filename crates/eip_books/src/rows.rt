@@ -1,7 +1,10 @@
-ghost use Rattle.std.specs.Prelude.{◌≡◌, ◌+◌, ◌<◌, ◌≤◌, ◌-◌, ◌++◌, ◌∷◌, [], OnOk, length, slice_set, slice_get, Some};
+ghost use Rattle.std.specs.Prelude.{◌≡◌, ◌+◌, ◌<◌, ◌≤◌, ◌-◌, ◌++◌, ◌∷◌, [], OnOk, length, slice_set, slice_get, Some, All, filter};
 ghost use Rattle.eip_books.specs.declared.row.Row.{Row as ARow};
 ghost use Rattle.std.specs.Prelude.{OnErr};
-ghost use Rattle.eip_books.specs.Moves.{begun, answered, held, closed, finished, finished_asked};
+ghost use Rattle.eip_books.specs.Moves.{begun, answered, held, closed, finished, finished_asked, ended_by};
+ghost use Rattle.eip_books.specs.State.{row_outside, outside_at, is_wanted};
+ghost use Rattle.eip_books.specs.Numbers.{IsNumberOf};
+ghost use Rattle.eip_history.specs.Rules.{first};
 ghost use Rattle.eip_books.specs.Look.{HasCursor, LookedAt};
 
 use crate::look::look_at;
@@ -153,4 +156,43 @@ impl Rows {
     {
         row::finish(&mut self.rows[(number - 1) as usize], end);
     }
+
+    /// The exchange ends by this end, as its source took it.
+    pub fn end_by(&mut self, number: u64, end: End, answer: &Answer)
+        requires above { 0 < number }
+        requires within { number ≤ length self.old.items }
+        ensures items { (r : ARow) → slice_get self.old.items (number - 1) ≡ Some r → self.new.items ≡ slice_set self.old.items (number - 1) (ended_by end answer.now r) }
+        ensures spare { self.old.spare ≤ self.new.spare }
+    {
+        row::end_by(&mut self.rows[(number - 1) as usize], end, answer);
+    }
+
+    /// The first of these numbers whose exchange is known to ask somebody outside, or is not, as it is wanted.
+    pub fn first_wanted(&self, numbers: &[u64], outside: bool) -> Option<u64>
+        requires { All (IsNumberOf self.now.items) numbers.now }
+        ensures { result ≡ first (filter (λ x. is_wanted outside (outside_at self.now.items x)) numbers.now) }
+    {
+        first_wanted(self.rows.as_slice(), numbers, outside)
+    }
+}
+
+/// Whether an exchange is known to ask somebody outside, or is not, as it is wanted.
+fn is_wanted(row: &Row, outside: bool) -> bool
+    ensures { result ≡ is_wanted outside (row_outside row.now) }
+{
+    let known = row.asks_outside();
+    if outside { known } else { !known }
+}
+
+/// The first of these numbers whose row is wanted.
+fn first_wanted(rows: &[Row], numbers: &[u64], outside: bool) -> Option<u64>
+    requires { All (IsNumberOf rows.now) numbers.now }
+    ensures { result ≡ first (filter (λ x. is_wanted outside (outside_at rows.now x)) numbers.now) }
+{
+    for number in numbers {
+        if is_wanted(&rows[(*number - 1) as usize], outside) {
+            return Some(*number);
+        }
+    }
+    None
 }

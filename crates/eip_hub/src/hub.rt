@@ -1,18 +1,22 @@
-ghost use Rattle.std.specs.Prelude.{◌≡◌, ◌+◌, ◌<◌, ◌≤◌, [], ℕ, length, IfOk, OnOk, OnErr, Some, IfSome, IfNone, IsSome};
-ghost use Rattle.eip_ledger.specs.declared.entry.Kind.TheVariants.{Pull, Accept, Refuse, SourceEnd, SourceFault, Starve};
-ghost use Rattle.eip_ledger.specs.declared.place.Place.TheVariants.{Ready};
+ghost use Rattle.std.specs.Prelude.{◌≡◌, ◌+◌, ◌<◌, ◌≤◌, [], ℕ, length, IfOk, OnOk, OnErr, Some, IfSome, IfNone, true, false};
+ghost use Rattle.eip_ledger.specs.declared.entry.Kind.TheVariants.{Pull, Accept, Refuse, SourceEnd, SourceFault, Take, Starve, Answer as Answered};
+ghost use Rattle.eip_ledger.specs.declared.place.Place.TheVariants.{Ready, InHand};
 ghost use Rattle.eip_history.specs.Own.{turns};
 ghost use Rattle.eip_history.specs.Births.{births, asked};
 ghost use Rattle.eip_history.specs.Place.{ready_numbers, place};
 ghost use Rattle.eip_history.specs.Rules.{May, first, IsBelow, outside_asked};
 ghost use Rattle.eip_history.specs.Stop.{stop_of};
 ghost use Rattle.eip_history.specs.Texts.{notes};
+ghost use Rattle.eip_history.specs.Tables.{without};
+ghost use Rattle.eip_frames.specs.Fits.{fits, is_outside};
 ghost use Rattle.eip_books.specs.declared.books.Inner.TheVariants.{Did, Outside};
 ghost use Rattle.eip_books.specs.View.{plan, IsLegalRun, Adds, AddsNone, AddsAnswer};
 ghost use Rattle.eip_books.specs.Places.{inner_of};
+ghost use Rattle.eip_books.specs.Outside.{is_among, outside_after, unlooked_numbers, IsAsked};
 
-use eip_books::{Books, Inner};
+use eip_books::{Books, Inner, Ticket};
 use eip_exchange::Message;
+use eip_frames::Answer;
 use eip_ledger::{Journal, Note, Place, Refused, Stop};
 use eip_route::RouteSet;
 use eip_text::{NoMemory, Text};
@@ -43,6 +47,7 @@ impl Hub {
         ensures turns { IfOk result (λ h. h.journal.turns ≡ turns) }
         ensures past { IfOk result (λ h. h.journal.past ≡ []) }
         ensures room { IfOk result (λ h. h.room ≡ 0) }
+        ensures outside { IfOk result (λ h. h.outside ≡ []) }
     {
         let books = Books::new(alloc, set, workers, turns)?;
         Ok(Hub { books })
@@ -114,12 +119,20 @@ impl Hub {
         self.books.ready()
     }
 
-    /// Afterwards one `pull` or `starve` needs no memory, and neither does the call that ends such a pull.
+    /// The least number of a Ready exchange for which `inner` has not answered `Outside` since its last entry.
+    pub fn unlooked(&self) -> Option<u64>
+        ensures { result ≡ first (unlooked_numbers self.now.outside (ready_numbers (plan self.now) self.now.journal.past)) }
+    {
+        self.books.unlooked()
+    }
+
+    /// Afterwards one `pull`, `take` or `starve` needs no memory, and neither does the call that ends such a pull or take.
     pub fn reserve(&mut self) -> Result<(), NoMemory>
         ensures ok { OnOk result (1 ≤ self.new.room) }
         ensures none { AddsNone self.old self.new }
         ensures legal { IsLegalRun self.new }
         ensures room { self.old.room ≤ self.new.room }
+        ensures outside { self.new.outside ≡ self.old.outside }
     {
         self.books.reserve()
     }
@@ -131,6 +144,7 @@ impl Hub {
         ensures may { IfSome result (λ t. May (plan self.old) self.old.journal.turns self.old.journal.past worker (Pull t)) }
         ensures adds { IfSome result (λ t. Adds self.old self.new worker (Pull t)) }
         ensures room { IfSome result (λ _. self.new.room + 1 ≡ self.old.room) }
+        ensures outside { self.new.outside ≡ self.old.outside }
         ensures least { IfSome result (λ t. (r : ℕ) → r < t → May (plan self.old) self.old.journal.turns self.old.journal.past worker (Pull r) → ⊥) }
         ensures none { IfNone result (self.new ≡ self.old) }
         ensures exact { IfNone result ((r : ℕ) → May (plan self.old) self.old.journal.turns self.old.journal.past worker (Pull r) → ⊥) }
@@ -152,6 +166,7 @@ impl Hub {
         ensures adds { Adds self.old self.new worker (Accept source item message) }
         ensures legal { IsLegalRun self.new }
         ensures room { self.new.room ≡ self.old.room }
+        ensures outside { self.new.outside ≡ self.old.outside }
     {
         self.books.accept(worker, source, item, message);
     }
@@ -163,6 +178,7 @@ impl Hub {
         ensures adds { Adds self.old self.new worker (Refuse source item cause) }
         ensures legal { IsLegalRun self.new }
         ensures room { self.new.room ≡ self.old.room }
+        ensures outside { self.new.outside ≡ self.old.outside }
     {
         self.books.refuse(worker, source, item, cause);
     }
@@ -174,6 +190,7 @@ impl Hub {
         ensures adds { Adds self.old self.new worker (SourceEnd source) }
         ensures legal { IsLegalRun self.new }
         ensures room { self.new.room ≡ self.old.room }
+        ensures outside { self.new.outside ≡ self.old.outside }
     {
         self.books.source_end(worker, source);
     }
@@ -185,11 +202,13 @@ impl Hub {
         ensures adds { Adds self.old self.new worker (SourceFault source) }
         ensures legal { IsLegalRun self.new }
         ensures room { self.new.room ≡ self.old.room }
+        ensures outside { self.new.outside ≡ self.old.outside }
     {
         self.books.source_fault(worker, source);
     }
 
-    /// Does what a Ready exchange asks for, where no one outside is needed. On `NoMemory` no entry is made.
+    /// Does what a Ready exchange asks for, where no one outside is needed; else it is known as Outside from now on.
+    /// On `NoMemory` no entry is made.
     pub fn inner(&mut self, worker: u32, number: u64) -> Result<Inner, NoMemory>
         requires worker { worker ≤ self.old.journal.workers }
         requires ready { place (plan self.old) self.old.journal.past number ≡ Some Ready }
@@ -197,7 +216,9 @@ impl Hub {
         ensures did { IfOk result (λ i. i ≡ Did → AddsAnswer self.old self.new worker number) }
         ensures outside { IfOk result (λ i. i ≡ Outside → AddsNone self.old self.new) }
         ensures exact { IfOk result (λ i. i ≡ inner_of (outside_asked (asked (plan self.old) self.old.journal.past number))) }
+        ensures listed { IfOk result (λ i. self.new.outside ≡ outside_after i number self.old.outside) }
         ensures err { OnErr result (AddsNone self.old self.new) }
+        ensures kept { OnErr result (self.new.outside ≡ self.old.outside) }
         ensures legal { IsLegalRun self.new }
         ensures room { self.new.room ≡ self.old.room }
     {
@@ -212,7 +233,59 @@ impl Hub {
         ensures adds { Adds self.old self.new worker (Starve number) }
         ensures legal { IsLegalRun self.new }
         ensures room { self.new.room + 1 ≡ self.old.room }
+        ensures outside { self.new.outside ≡ without number self.old.outside }
     {
         self.books.starve(worker, number);
+    }
+
+    /// Takes the least Ready exchange that is known as Outside in hand. None exactly where there is none, or the limit is met.
+    pub fn take(&mut self, worker: u32) -> Option<Ticket>
+        requires worker { worker ≤ self.old.journal.workers }
+        requires room { 1 ≤ self.old.room }
+        ensures worker { IfSome result (λ t. t.worker ≡ worker) }
+        ensures may { IfSome result (λ t. May (plan self.old) self.old.journal.turns self.old.journal.past worker (Take t.number)) }
+        ensures adds { IfSome result (λ t. Adds self.old self.new worker (Take t.number)) }
+        ensures asked { IfSome result (λ t. IsAsked (plan self.new) self.new.journal.past t.number t.request) }
+        ensures of_outside { IfSome result (λ t. is_outside t.request ≡ true) }
+        ensures place { IfSome result (λ t. place (plan self.new) self.new.journal.past t.number ≡ Some (InHand worker)) }
+        ensures known { IfSome result (λ t. is_among t.number self.old.outside ≡ true) }
+        ensures least { IfSome result (λ t. (x : ℕ) → x < t.number → is_among x self.old.outside ≡ false) }
+        ensures outside { IfSome result (λ t. self.new.outside ≡ without t.number self.old.outside) }
+        ensures room { IfSome result (λ _. self.new.room + 1 ≡ self.old.room) }
+        ensures none { IfNone result (self.new ≡ self.old) }
+        ensures exact { IfNone result (IsBelow (plan self.old) self.old.journal.turns self.old.journal.past → self.old.outside ≡ []) }
+        ensures legal { IsLegalRun self.new }
+    {
+        let number = self.books.known_outside()?;
+        if !self.books.is_below() {
+            return None;
+        }
+        Some(self.books.take(worker, number))
+    }
+
+    /// An exchange in hand has the answer to what its ticket says it asks.
+    pub fn settle(&mut self, ticket: Ticket, answer: Answer)
+        requires worker { ticket.worker ≤ self.old.journal.workers }
+        requires fits { fits ticket.request answer ≡ true }
+        requires place { place (plan self.old) self.old.journal.past ticket.number ≡ Some (InHand ticket.worker) }
+        requires asked { IsAsked (plan self.old) self.old.journal.past ticket.number ticket.request }
+        ensures adds { Adds self.old self.new ticket.worker (Answered ticket.number answer) }
+        ensures legal { IsLegalRun self.new }
+        ensures room { self.new.room ≡ self.old.room }
+        ensures outside { self.new.outside ≡ self.old.outside }
+    {
+        self.books.settle(ticket, answer);
+    }
+
+    /// An exchange in hand is ended for want of memory.
+    pub fn give_up(&mut self, ticket: Ticket)
+        requires worker { ticket.worker ≤ self.old.journal.workers }
+        requires place { place (plan self.old) self.old.journal.past ticket.number ≡ Some (InHand ticket.worker) }
+        ensures adds { Adds self.old self.new ticket.worker (Starve ticket.number) }
+        ensures legal { IsLegalRun self.new }
+        ensures room { self.new.room ≡ self.old.room }
+        ensures outside { self.new.outside ≡ self.old.outside }
+    {
+        self.books.give_up(ticket);
     }
 }

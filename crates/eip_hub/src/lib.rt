@@ -3,5 +3,8 @@
 
 pub mod hub;
 
-pub use eip_books::Inner;
+pub use eip_books::{Inner, Ticket};
 pub use hub::Hub;
+
+#[cfg(test)]
+mod tests;

@@ -1,10 +1,12 @@
-use Rattle.std.proofs.Common.{rules, arith, ◌≡◌, ◌+◌, ◌-◌, ◌<◌, ◌≤◌, ◌∷◌, [], sym, ap, ◌∙◌, length, length-append, reverse}
+use Rattle.std.proofs.Common.{arith, ◌≡◌, ◌+◌, ap, ◌∙◌, length, length-append}
 use Rattle.std.proofs.lemmas.List.{length-reverse}
 use Rattle.eip_books.proofs.Bounds.{within-limit, live-within}
-use Rattle.eip_books.specs.Facts.{tables_of, BooksFacts}
+use Rattle.eip_books.specs.Facts.{tables_of}
 use Rattle.eip_books.proofs.SourceCalls.{source-within, out-pulled}
 use Rattle.eip_books.specs.Moves.{new_row}
 use Rattle.eip_books.proofs.SourceEvents.{stands-accept}
+use Rattle.eip_books.specs.State.{row_outside}
+use Rattle.eip_books.proofs.ListedNumbers.{push-none}
 use Rattle.eip_books.proofs.books.Books.accept.Goals as goal
 
 pub set-requires : goal.set-requires
@@ -59,3 +61,6 @@ overflow_add-self-2 c =
 
 pub returns-clause-legal : goal.returns-clause-legal
 returns-clause-legal c = (invariant_of-self c).stands.legal
+
+pub returns-clause-outside : goal.returns-clause-outside
+returns-clause-outside c = rw (← c.self.view_is, c.put_last.ensures.items) (push-none row_outside c.self.inside.rows.items c.new.result (ap row_outside c.new.ensures))

@@ -1,6 +1,4 @@
-use Rattle.std.proofs.Common.{◌≡◌, ◌-◌, Some, ap, sym, ◌∙◌}
-use Rattle.std.specs.List.{slice_get}
-use Rattle.eip_frames.specs.declared.request.Request.{Request}
+use Rattle.std.proofs.Common.{◌-◌, ap, sym, ◌∙◌}
 use Rattle.eip_ledger.specs.declared.place.Place.TheVariants.{Ready}
 use Rattle.eip_books.specs.Asking.{is_outside_kind}
 use Rattle.eip_books.specs.Facts.{tables_of}

@@ -1,14 +1,15 @@
-use Rattle.std.proofs.Common.{rules, arith, ◌≡◌, ◌+◌, ◌-◌, ◌*◌, ◌<◌, ◌≤◌, ◌∷◌, ◌++◌, [], Some, None, length, reverse, sym, ap, ◌∙◌}
-use Rattle.std.specs.List.{slice_get}
-use Rattle.std.proofs.lemmas.List.{length-reverse}
+use Rattle.std.proofs.Common.{arith, ◌≡◌, ◌-◌, ap, ◌∙◌}
 use Rattle.eip_ledger.specs.declared.place.Place.TheVariants.{Ready}
 use Rattle.std.proofs.Common.{false}
 use Rattle.eip_frames.specs.declared.request.Request.TheVariants as request
 use Rattle.eip_books.specs.Moves.{finished, finished_asked, finished_by, end_asked}
-use Rattle.eip_books.specs.Facts.{tables_of, BooksFacts}
-use Rattle.eip_books.proofs.Bounds.{within-limit, hands-are}
-use Rattle.eip_books.proofs.OwnCalls.{row-within, ready-some, stands-note, stands-finish, live-above}
-use Rattle.eip_books.proofs.LookCalls.{known-state, known-request, born-within, answer-within, answered-cursor, new-looked, answer-looked}
+use Rattle.eip_books.specs.Facts.{tables_of}
+use Rattle.eip_books.proofs.Bounds.{within-limit}
+use Rattle.eip_books.proofs.OwnCalls.{row-within, ready-some, stands-finish, live-above}
+use Rattle.eip_books.proofs.LookCalls.{known-state, known-request}
+use Rattle.eip_books.specs.State.{row_outside}
+use Rattle.eip_books.proofs.ListedNumbers.{leave-at}
+use Rattle.eip_books.proofs.HandCalls.{finished-not-outside}
 use Rattle.eip_books.proofs.books.Books.finish.Goals as goal
 
 pub finish_asked-requires-clause-above : goal.finish_asked-requires-clause-above
@@ -49,3 +50,11 @@ invariant_of-self-2 c =
 
 pub returns-clause-legal : goal.returns-clause-legal
 returns-clause-legal c = (invariant_of-self-2 c).stands.legal
+
+pub returns-clause-outside : goal.returns-clause-outside
+returns-clause-outside c =
+    let r = ready-some (tables_of c.self.inside) c.args.number c.self.invariant.stands (rw (← c.self.view_is) at c.requires.ready) in
+    let asks = rw (← c.self.view_is) at c.requires.end.asks in
+    let q = known-request c.self.inside.rows.items (c.args.number - 1) r.0 (request.Finish c.requires.end.end c.requires.end.message false) r.1 asks in
+    let ended : finished_asked r.0 ≡ finished c.requires.end.end r.0 = ap (λ o. finished_by (end_asked o) r.0) q in
+    rw (← c.self.view_is, c.finish_asked.ensures.items r.0 r.1) (leave-at row_outside c.self.inside.rows.items c.args.number (finished_asked r.0) (row-within (tables_of c.self.inside) c.args.number Ready c.self.invariant.stands (rw (← c.self.view_is) at c.requires.ready)).0 (ap row_outside ended ∙ finished-not-outside c.requires.end.end r.0))

@@ -1,6 +1,5 @@
-use Rattle.std.proofs.Common.{rules, arith, ◌≡◌, ◌∙◌, sym, refl, ap}
+use Rattle.std.proofs.Common.{arith, ◌∙◌, sym}
 use Rattle.eip_plan.specs.Plan.{plan_of}
-use Rattle.eip_books.specs.Facts.{tables_of}
 use Rattle.eip_books.proofs.StopCalls.{idle-some, idle-least, idle-none, source-small}
 use Rattle.eip_books.proofs.books.Books.idle_source.Goals as goal
 

@@ -1,4 +1,4 @@
-use Rattle.std.proofs.Common.{rules, ◌≡◌, ◌∙◌, sym, ap}
+use Rattle.std.proofs.Common.{◌∙◌, sym}
 use Rattle.eip_books.proofs.InnerCalls.{kind-line, kind-end}
 use Rattle.eip_books.proofs.books.Books.inner.Goals as goal
 

@@ -1,4 +1,4 @@
-use Rattle.std.proofs.Common.{rules, arith, ◌≡◌, ◌+◌, ◌<◌, IsTrue, nat_lt, ◌∙◌}
+use Rattle.std.proofs.Common.{arith, ◌+◌, ◌∙◌}
 use Rattle.std.proofs.lemmas.Bool.{lt-ltb, ltb-true}
 use Rattle.eip_books.specs.Facts.{tables_of}
 use Rattle.eip_books.proofs.Bounds.{within-limit, hands-are}

@@ -1,4 +1,4 @@
-use Rattle.std.proofs.Common.{rules, arith, ◌≡◌, ◌∙◌, sym, refl}
+use Rattle.std.proofs.Common.{refl}
 use Rattle.eip_books.specs.Facts.{tables_of}
 use Rattle.eip_books.proofs.StopCalls.{over-is, not-zero}
 use Rattle.eip_books.proofs.books.Books.is_over.Goals as goal

@@ -1,18 +1,12 @@
-use Rattle.std.proofs.Common.{rules, arith, refl, subst, ⊎_elim, List, ◌≡◌, ◌+◌, ◌-◌, ◌*◌, ◌<◌, ◌≤◌, ◌∷◌, ◌++◌, [], Some, None, length, reverse, sym, ap, ◌∙◌}
-use Rattle.std.specs.List.{slice_get}
-use Rattle.std.proofs.lemmas.List.{length-reverse}
-use Rattle.std.proofs.lemmas.Option.{slice_get_read}
+use Rattle.std.proofs.Common.{arith, refl, subst, ⊎_elim, ◌≡◌, ◌-◌, ap}
 use Rattle.eip_ledger.specs.declared.place.Place.TheVariants.{Ready}
-use Rattle.eip_ledger.specs.declared.entry.Entry.{Entry}
-use Rattle.eip_ledger.specs.declared.entry.Kind.{Kind}
-use Rattle.eip_ledger.specs.declared.entry.Kind.TheVariants as kind
 use Rattle.eip_books.specs.Moves.{begun}
 use Rattle.eip_books.specs.State.{known_of}
-use Rattle.eip_books.specs.Look.{HasCursor, LookedAt}
-use Rattle.eip_books.specs.Facts.{tables_of, BooksFacts}
-use Rattle.eip_books.proofs.Bounds.{within-limit, hands-are}
-use Rattle.eip_books.proofs.OwnCalls.{row-within, ready-some, stands-note, stands-finish, live-above}
-use Rattle.eip_books.proofs.LookCalls.{known-state, known-request, born-within, answer-within, answered-cursor, new-looked, answer-looked, known-now, known-asking, one-of-both, on-ok, answer-there}
+use Rattle.eip_books.specs.Look.{HasCursor}
+use Rattle.eip_books.specs.Facts.{tables_of}
+use Rattle.eip_books.proofs.OwnCalls.{row-within}
+use Rattle.eip_books.proofs.LookCalls.{born-within, answer-within, answered-cursor, new-looked, answer-looked, known-now, known-asking, one-of-both, on-ok, answer-there}
+use Rattle.eip_books.proofs.LookOutside.{looked-outside, known-outside-already}
 use Rattle.eip_books.proofs.books.Books.look.Goals as goal
 
 pub get-row-requires-clause-above : goal.get-row-requires-clause-above
@@ -97,6 +91,28 @@ returns-in-Answer-clause-known c =
     ))
     c.look.ensures.ok
 
+pub returns-in_ok-cursor-in-New-clause-outside : goal.returns-in_ok-cursor-in-New-clause-outside
+returns-in_ok-cursor-in-New-clause-outside c =
+    rw (← c.self.view_is, c.begin.ensures.items c.get-row.result.now c.get-row.ensures)
+    (looked-outside (tables_of c.self.inside) c.args.number c.get-row.result.now (begun c.in_ok-cursor-in-New.cursor c.in_ok-cursor-in-New.request c.get-row.result.now) c.in_ok-cursor-in-New.cursor c.in_ok-cursor-in-New.request
+    c.self.invariant.stands (rw (← c.self.view_is) at c.requires) c.get-row.ensures
+    (new-looked (tables_of c.self.inside) c.args.number c.get-row.result.now c.self.invariant.stands (rw (← c.self.view_is) at c.requires) c.get-row.ensures c.in_ok-cursor-in-New.cursor c.in_ok-cursor-in-New.request c.in-New.is (rw c.entries.ensures at c.in_ok-cursor-in-New.ensures))
+    refl (rw c.in-New.is refl))
+
+pub returns-in-Answer-clause-outside : goal.returns-in-Answer-clause-outside
+returns-in-Answer-clause-outside c =
+    on-ok c.look.result _ _
+    (λ ok. let made = ok c.get-row.result.now c.get-row.ensures in
+    rw (← c.self.view_is, made.1)
+    (looked-outside (tables_of c.self.inside) c.args.number c.get-row.result.now made.0 made.2.now made.2.request
+    c.self.invariant.stands (rw (← c.self.view_is) at c.requires) c.get-row.ensures
+    (answer-looked (tables_of c.self.inside) c.args.number c.get-row.result.now c.self.invariant.stands (rw (← c.self.view_is) at c.requires) c.get-row.ensures
+    c.in-Answered.entry c.index-entries-entry.result.worker c.in-Answer.number c.in-Answer.answer made.0 c.in-Answered.is (answer-there c.self.inside.journal.past c.in-Answered.entry c.entries-in-Answered.result.now c.index-entries-entry.result c.in-Answer.number c.in-Answer.answer c.entries-in-Answered.ensures
+    (answer-within (tables_of c.self.inside) c.args.number c.get-row.result.now c.self.invariant.stands (rw (← c.self.view_is) at c.requires) c.get-row.ensures c.in-Answered.entry c.in-Answered.is)
+    c.index-entries-entry.is c.in-Answer.is) made.2)
+    made.2.row (rw c.in-Answered.is refl)))
+    c.look.ensures.ok
+
 pub returns-in_default : goal.returns-in_default
 returns-in_default c =
     let k = known-asking (tables_of c.self.inside) c.args.number c.get-row.result.now c.self.invariant.stands (rw (← c.self.view_is) at c.requires) c.get-row.ensures c.in_default.not-New c.in_default.not-Answered in
@@ -105,6 +121,7 @@ returns-in_default c =
       legal = rw (← c.self.view_is) c.self.invariant.stands.legal;
       room = refl;
       known = (k.0, rw (← c.self.view_is) k.1);
+      outside = rw (← c.self.view_is) (known-outside-already (tables_of c.self.inside) c.args.number c.get-row.result.now k.0 c.self.invariant.stands (rw (← c.self.view_is) at c.requires) c.get-row.ensures k.1);
       err = tt;
     }
 

@@ -1,4 +1,4 @@
-use Rattle.std.proofs.Common.{rules, arith, ◌≡◌, ◌+◌, ◌-◌, ◌<◌, ◌≤◌, sym, refl}
+use Rattle.std.proofs.Common.{arith}
 use Rattle.eip_books.proofs.Empty.{first-tables}
 use Rattle.eip_books.proofs.books.Books.new.Goals as goal
 

@@ -1,12 +1,14 @@
-use Rattle.std.proofs.Common.{rules, arith, ◌≡◌, ◌+◌, ◌-◌, ◌*◌, ◌<◌, ◌≤◌, ◌∷◌, ◌++◌, [], Some, None, length, reverse, sym, ap, ◌∙◌}
-use Rattle.std.specs.List.{slice_get}
+use Rattle.std.proofs.Common.{arith, ◌≡◌, ◌-◌, Some, length, refl, ap, ◌∙◌}
 use Rattle.std.proofs.lemmas.List.{length-reverse}
 use Rattle.eip_ledger.specs.declared.place.Place.TheVariants.{Ready}
 use Rattle.eip_frames.specs.declared.request.Request.TheVariants as request
-use Rattle.eip_books.specs.Facts.{tables_of, BooksFacts}
-use Rattle.eip_books.proofs.Bounds.{within-limit, hands-are}
-use Rattle.eip_books.proofs.OwnCalls.{row-within, ready-some, stands-note, stands-finish, live-above}
-use Rattle.eip_books.proofs.LookCalls.{known-state, known-request, born-within, answer-within, answered-cursor, new-looked, answer-looked}
+use Rattle.eip_books.specs.Facts.{tables_of}
+use Rattle.eip_books.proofs.Bounds.{within-limit}
+use Rattle.eip_books.proofs.OwnCalls.{row-within, ready-some, stands-note}
+use Rattle.eip_books.proofs.LookCalls.{known-state, known-request}
+use Rattle.eip_books.specs.State.{row_outside}
+use Rattle.eip_books.specs.Moves.{answered}
+use Rattle.eip_books.proofs.ListedNumbers.{leave-at}
 use Rattle.eip_books.proofs.books.Books.note.Goals as goal
 
 pub answer-request-requires-clause-above : goal.answer-request-requires-clause-above
@@ -46,3 +48,8 @@ invariant_of-self-2 c =
 
 pub returns-clause-legal : goal.returns-clause-legal
 returns-clause-legal c = (invariant_of-self-2 c).stands.legal
+
+pub returns-clause-outside : goal.returns-clause-outside
+returns-clause-outside c =
+    let r = ready-some (tables_of c.self.inside) c.args.number c.self.invariant.stands (rw (← c.self.view_is) at c.requires.ready) in
+    rw (← c.self.view_is, c.answer-request.ensures.items r.0 r.1) (leave-at row_outside c.self.inside.rows.items c.args.number (answered (length c.entries-entry.result.now) r.0) (row-within (tables_of c.self.inside) c.args.number Ready c.self.invariant.stands (rw (← c.self.view_is) at c.requires.ready)).0 refl)

@@ -1,4 +1,4 @@
-use Rattle.std.proofs.Common.{rules, arith, ◌≡◌, ◌∙◌, sym, refl, ap, ◌<◌, ◌≤◌, length}
+use Rattle.std.proofs.Common.{arith}
 use Rattle.eip_plan.specs.Plan.{plan_of}
 use Rattle.eip_books.specs.Facts.{tables_of}
 use Rattle.eip_books.proofs.StopCalls.{place-zero, unborn-beyond, shown-is}

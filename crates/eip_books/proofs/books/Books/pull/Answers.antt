@@ -1,7 +1,5 @@
-use Rattle.std.proofs.Common.{rules, arith, ◌≡◌, ◌+◌, ◌-◌, ◌<◌, ◌≤◌, ◌∷◌, [], sym, ap}
-use Rattle.eip_history.specs.Rules.{May, IsLegal}
-use Rattle.eip_plan.specs.Plan.{plan_of}
-use Rattle.eip_books.specs.Facts.{tables_of, BooksFacts}
+use Rattle.std.proofs.Common.{arith}
+use Rattle.eip_books.specs.Facts.{tables_of}
 use Rattle.eip_books.proofs.SourceCalls.{stands-pull, source-within}
 use Rattle.eip_books.proofs.books.Books.pull.Goals as goal
 

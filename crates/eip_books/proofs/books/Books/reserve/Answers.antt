@@ -1,5 +1,5 @@
-use Rattle.std.proofs.Common.{rules, arith, ◌≡◌, ◌+◌, ◌-◌, ◌<◌, ◌≤◌, sym}
-use Rattle.eip_books.specs.Facts.{tables_of, BooksFacts}
+use Rattle.std.proofs.Common.{arith}
+use Rattle.eip_books.specs.Facts.{tables_of}
 use Rattle.eip_books.proofs.Bounds.{within-limit}
 use Rattle.eip_books.proofs.books.Books.reserve.Goals as goal
 

@@ -1,6 +1,5 @@
-use Rattle.std.proofs.Common.{rules, arith, ◌≡◌, ◌+◌, ◌-◌, ◌<◌, ◌≤◌, ◌∷◌, [], sym, ap}
-use Rattle.eip_books.proofs.Bounds.{within-limit, live-within}
-use Rattle.eip_books.specs.Facts.{tables_of, BooksFacts}
+use Rattle.std.proofs.Common.{arith}
+use Rattle.eip_books.specs.Facts.{tables_of}
 use Rattle.eip_books.proofs.SourceCalls.{stands-end, source-within, out-pulled}
 use Rattle.eip_books.proofs.books.Books.source_end.Goals as goal
 

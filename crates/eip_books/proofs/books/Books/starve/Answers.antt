@@ -1,11 +1,11 @@
-use Rattle.std.proofs.Common.{rules, arith, ◌≡◌, ◌+◌, ◌-◌, ◌<◌, ◌≤◌, ◌∷◌, ◌++◌, [], Some, None, length, reverse, sym, ap, ◌∙◌}
-use Rattle.std.specs.List.{slice_get}
-use Rattle.std.proofs.lemmas.List.{length-reverse}
+use Rattle.std.proofs.Common.{arith, refl}
 use Rattle.eip_ledger.specs.declared.place.Place.TheVariants.{Ready}
-use Rattle.eip_books.specs.Facts.{tables_of, BooksFacts}
-use Rattle.eip_books.proofs.Bounds.{within-limit}
-use Rattle.eip_books.proofs.OwnCalls.{row-within, ready-some, stands-note, stands-finish, stands-starve, live-above}
-use Rattle.eip_books.proofs.LookCalls.{known-state, known-request, born-within, answer-within, answered-cursor, new-looked, answer-looked}
+use Rattle.eip_books.specs.Facts.{tables_of}
+use Rattle.eip_books.proofs.OwnCalls.{row-within, ready-some, stands-starve, live-above}
+use Rattle.eip_books.specs.State.{row_outside}
+use Rattle.eip_books.specs.Moves.{closed}
+use Rattle.eip_books.specs.declared.row.Stage.TheVariants as stage
+use Rattle.eip_books.proofs.ListedNumbers.{leave-at}
 use Rattle.eip_books.proofs.books.Books.starve.Goals as goal
 
 pub close-requires-clause-above : goal.close-requires-clause-above
@@ -36,3 +36,8 @@ invariant_of-self c =
 
 pub returns-clause-legal : goal.returns-clause-legal
 returns-clause-legal c = (invariant_of-self c).stands.legal
+
+pub returns-clause-outside : goal.returns-clause-outside
+returns-clause-outside c =
+    let r = ready-some (tables_of c.self.inside) c.args.number c.self.invariant.stands (rw (← c.self.view_is) at c.requires.ready) in
+    rw (← c.self.view_is, c.close.ensures.items r.0 r.1) (leave-at row_outside c.self.inside.rows.items c.args.number (closed stage.Starved r.0) (row-within (tables_of c.self.inside) c.args.number Ready c.self.invariant.stands (rw (← c.self.view_is) at c.requires.ready)).0 refl)

@@ -1,4 +1,4 @@
-use Rattle.std.proofs.Common.{rules, arith, ◌≡◌, ◌∙◌, sym, refl, ap, ◌==◌, ◌&&◌, ◌+◌}
+use Rattle.std.proofs.Common.{arith, ◌∙◌, ap, ◌==◌, ◌&&◌, ◌+◌}
 use Rattle.eip_books.specs.Facts.{tables_of}
 use Rattle.eip_books.proofs.Bounds.{within-limit}
 use Rattle.eip_books.proofs.StopCalls.{stop-is}

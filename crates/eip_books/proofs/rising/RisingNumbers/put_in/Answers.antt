@@ -1,7 +1,6 @@
-use Rattle.std.proofs.Common.{rules, ◌≡◌, ◌<◌, ◌-◌, ◌∙◌, ap, sym, arith, true, Bool}
-use Rattle.std.specs.Prelude.{is_ok, vec_len, vec_capacity}
+use Rattle.std.proofs.Common.{◌≡◌, arith, true}
+use Rattle.std.specs.Prelude.{is_ok}
 use Rattle.std.proofs.lemmas.Grind.{common_steps}
-use Rattle.std.specs.List.{insert}
 use Rattle.eip_books.proofs.PutIn.{insert-place}
 use Rattle.eip_books.proofs.rising.RisingNumbers.put_in.Goals as goal
 

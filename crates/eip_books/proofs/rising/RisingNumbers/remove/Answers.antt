@@ -1,4 +1,4 @@
-use Rattle.std.proofs.Common.{rules, ◌≡◌, ℕ, Bool, not, ◌==◌}
+use Rattle.std.proofs.Common.{rules, not, ◌==◌}
 use Rattle.std.proofs.lemmas.Fn.{filter_same}
 use Rattle.eip_books.proofs.rising.RisingNumbers.remove.Goals as goal
 

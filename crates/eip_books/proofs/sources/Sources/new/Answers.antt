@@ -1,8 +1,6 @@
-use Rattle.std.proofs.Common.{◌≡◌, ◌∙◌, ap, map, take, sym, subst, arith, length}
-use Rattle.std.proofs.lemmas.List.{take_all}
+use Rattle.std.proofs.Common.{◌≡◌, map, arith}
 use Rattle.std.proofs.lemmas.Grind.{common_steps}
-use Rattle.eip_plan.specs.Plan.{plan_of}
-use Rattle.eip_books.specs.Rows.{SourcesStand, first_row}
+use Rattle.eip_books.specs.Rows.{first_row}
 use Rattle.eip_books.proofs.FirstSources.{first-stand}
 use Rattle.eip_books.proofs.sources.Sources.new.Goals as goal
 
