@@ -12,3 +12,4 @@ pub mod InnerCalls
 pub mod StopCalls
 pub mod Bounds
 pub mod Empty
+pub mod OriginCalls

@@ -9,3 +9,4 @@ pub mod Asking
 pub mod View
 pub mod Facts
 pub mod Places
+pub mod Origin

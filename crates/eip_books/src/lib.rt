@@ -4,6 +4,7 @@
 pub mod asking;
 pub mod books;
 pub mod look;
+pub mod origin;
 pub mod places;
 pub mod rising;
 pub mod row;
@@ -13,5 +14,6 @@ pub mod table;
 
 pub use asking::Asked;
 pub use books::{Books, Inner};
+pub use origin::OriginView;
 pub use rising::RisingNumbers;
 pub use row::{Row, SourceState, Stage};

@@ -3,5 +3,5 @@
 
 pub mod hub;
 
-pub use eip_books::Inner;
+pub use eip_books::{Inner, OriginView};
 pub use hub::Hub;
