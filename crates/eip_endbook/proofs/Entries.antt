@@ -1,6 +1,8 @@
 -- The entries that accept or refuse an item, counted.
 use Rattle.std.proofs.Common.{◌≡◌, ℕ, ◌+◌, Bool, true, false, List, [], ◌∷◌, ◌++◌, length, filter, reverse, refl, sym, ap, ◌∙◌, arith}
-use Rattle.std.proofs.lemmas.List.{reverse-append, reverse-reverse, length-append}
+use Rattle.std.specs.List.{count_by}
+use Rattle.std.proofs.lemmas.List.{reverse-append, length-append}
+use Rattle.std.proofs.lemmas.List.Sums.{length-filter}
 use Rattle.std.proofs.lemmas.List.Elements.{filter-append}
 use Rattle.eip_ledger.specs.declared.entry.Entry.{Entry}
 use Rattle.eip_ledger.specs.declared.entry.Kind.{Kind}
@@ -31,12 +33,12 @@ refused-bit : (k : Kind) → refused_in k ≡ bit (refuses k)
 refused-bit (Refuse t item c) = refl
 refused-bit _ = refl
 
-pub accepted-are : (es : List Entry) → length (filter (λ (e : Entry). accepts e.kind) es) ≡ accepted_count (reverse es)
-accepted-are es =
-    ap (λ xs. length (filter (λ (e : Entry). accepts e.kind) xs)) (sym (reverse-reverse es))
-    ∙ passing accepted_count accepts accepted-none (λ e past. accepted-more e past ∙ ap (λ n. accepted_count past + n) (accepted-bit e.kind)) (reverse es)
+pub accepted-are : (past : Past) → count_by (λ (e : Entry). accepts e.kind) (reverse past) ≡ accepted_count past
+accepted-are past =
+    sym (length-filter (λ (e : Entry). accepts e.kind) (reverse past))
+    ∙ passing accepted_count accepts accepted-none (λ e rest. accepted-more e rest ∙ ap (λ n. accepted_count rest + n) (accepted-bit e.kind)) past
 
-pub refused-are : (es : List Entry) → length (filter (λ (e : Entry). refuses e.kind) es) ≡ refused_count (reverse es)
-refused-are es =
-    ap (λ xs. length (filter (λ (e : Entry). refuses e.kind) xs)) (sym (reverse-reverse es))
-    ∙ passing refused_count refuses refused-none (λ e past. refused-more e past ∙ ap (λ n. refused_count past + n) (refused-bit e.kind)) (reverse es)
+pub refused-are : (past : Past) → count_by (λ (e : Entry). refuses e.kind) (reverse past) ≡ refused_count past
+refused-are past =
+    sym (length-filter (λ (e : Entry). refuses e.kind) (reverse past))
+    ∙ passing refused_count refuses refused-none (λ e rest. refused-more e rest ∙ ap (λ n. refused_count rest + n) (refused-bit e.kind)) past

@@ -60,7 +60,8 @@ fn push_summary(out: &mut String, hub: &Hub, stop: &Stop) -> Result<(), NoMemory
     let summary = totals(hub);
     lines::push_accepted(out, &summary)?;
     lines::push_total(out, &summary)?;
-    lines::push_stop(out, hub.set(), hub.turns_taken(), stop)
+    lines::push_stop(out, hub.set(), hub.turns_taken(), stop)?;
+    Ok(())
 }
 
 /// The book of a run: a line for each exchange by its number, a line for each refused item, a line for each open group, and the summary.

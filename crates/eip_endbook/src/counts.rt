@@ -1,7 +1,7 @@
-ghost use Rattle.std.specs.Prelude.{◌≡◌, ◌+◌, ◌<◌, ◌≤◌, ◌-◌, ◌^◌, reverse};
+ghost use Rattle.std.specs.Prelude.{◌≡◌, ◌+◌, ◌<◌, ◌≤◌, ◌-◌, ◌^◌, count_by};
 ghost use Rattle.eip_history.specs.Counts.{accepted_count, refused_count, total_count, completed_count, handled_count, failed_count, waiting_count};
 ghost use Rattle.eip_books.specs.View.{plan};
-ghost use Rattle.eip_endbook.specs.Totals.{counted, CountsFirst};
+ghost use Rattle.eip_endbook.specs.Totals.{counted, CountsFirst, accepts, refuses};
 
 use eip_exchange::Ending;
 use eip_hub::Hub;
@@ -69,18 +69,32 @@ fn count_ends(hub: &Hub) -> Ends
     ends
 }
 
-/// How many entries accept an item.
-fn accepted(entries: &[Entry]) -> u64
-    ensures { result ≡ accepted_count (reverse entries.now) }
+/// Whether the entry accepts an item.
+fn accepts(entry: &Entry) -> bool
+    ensures { result ≡ accepts entry.now.kind }
 {
-    entries.iter().filter(|entry| matches!(entry.kind, Kind::Accept { .. })).count() as u64
+    matches!(entry.kind, Kind::Accept { .. })
+}
+
+/// Whether the entry refuses an item.
+fn refuses(entry: &Entry) -> bool
+    ensures { result ≡ refuses entry.now.kind }
+{
+    matches!(entry.kind, Kind::Refuse { .. })
+}
+
+/// How many entries accept an item.
+fn count_accepted(entries: &[Entry]) -> u64
+    ensures { result ≡ count_by (λ e. accepts e.kind) entries.now }
+{
+    entries.iter().filter(|entry| accepts(*entry)).count() as u64
 }
 
 /// How many entries refuse an item.
-fn refused(entries: &[Entry]) -> u64
-    ensures { result ≡ refused_count (reverse entries.now) }
+fn count_refused(entries: &[Entry]) -> u64
+    ensures { result ≡ count_by (λ e. refuses e.kind) entries.now }
 {
-    entries.iter().filter(|entry| matches!(entry.kind, Kind::Refuse { .. })).count() as u64
+    entries.iter().filter(|entry| refuses(*entry)).count() as u64
 }
 
 /// The counts of a run, without memory.
@@ -96,8 +110,8 @@ pub fn totals(hub: &Hub) -> Summary
     let entries = hub.journal().entries();
     let ends = count_ends(hub);
     Summary {
-        accepted: accepted(entries),
-        refused: refused(entries),
+        accepted: count_accepted(entries),
+        refused: count_refused(entries),
         total: hub.total(),
         completed: ends.completed,
         handled: ends.handled,

@@ -1,4 +1,4 @@
-ghost use Rattle.std.specs.Prelude.{◌≡◌, ◌++◌, OnOk, string_bytes};
+ghost use Rattle.std.specs.Prelude.{◌≡◌, ◌++◌, OnOk, decimal, string_bytes};
 ghost use Rattle.eip_history.specs.BookText.{note_line, origin_text, end_text, state_text, exchange_line, cause_text, refused_line, refused_line_in, accepted_line, total_line, stop_line};
 ghost use Rattle.eip_books.specs.Origin.{origin_seen};
 ghost use Rattle.eip_endbook.specs.Names.{route_names};
@@ -146,17 +146,24 @@ pub fn push_accepted(out: &mut String, summary: &Summary) -> Result<(), NoMemory
     Ok(())
 }
 
+/// Appends a word and a number.
+fn push_count(out: &mut String, word: &str, count: u64) -> Result<(), NoMemory>
+    ensures { OnOk result (string_bytes out.new ≡ string_bytes out.old ++ (word.now ++ decimal count)) }
+{
+    write!(out, "{word}{count}")?;
+    Ok(())
+}
+
 /// Appends the line of exchanges: `total B completed C handled H failed F waiting W`.
 pub fn push_total(out: &mut String, summary: &Summary) -> Result<(), NoMemory>
     ensures { OnOk result (string_bytes out.new ≡ string_bytes out.old ++ total_line summary.now.total summary.now.completed summary.now.handled summary.now.failed summary.now.waiting) }
 {
-    let total = summary.total;
-    let completed = summary.completed;
-    let handled = summary.handled;
-    let failed = summary.failed;
-    let waiting = summary.waiting;
-    write!(out, "total {total} completed {completed} handled {handled}")?;
-    writeln!(out, " failed {failed} waiting {waiting}")?;
+    push_count(out, "total ", summary.total)?;
+    push_count(out, " completed ", summary.completed)?;
+    push_count(out, " handled ", summary.handled)?;
+    push_count(out, " failed ", summary.failed)?;
+    push_count(out, " waiting ", summary.waiting)?;
+    out.push_str("\n")?;
     Ok(())
 }
 

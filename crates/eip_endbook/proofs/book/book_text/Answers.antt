@@ -1,0 +1,4 @@
+use Rattle.eip_endbook.proofs.book.book_text.Goals as goal
+
+pub returns : goal.returns
+returns c = ?
