@@ -6,6 +6,8 @@ pub mod counts;
 pub mod lines;
 pub mod log;
 pub mod names;
+#[cfg(test)]
+mod tests;
 
 pub use book::{book_text, summary_text};
 pub use log::log_text;

@@ -1,4 +1,4 @@
-ghost use Rattle.std.specs.Prelude.{◌≡◌, ◌++◌, OnOk, decimal, string_bytes};
+ghost use Rattle.std.specs.Prelude.{◌≡◌, ◌++◌, OnOk, codes, decimal, string_bytes};
 ghost use Rattle.eip_history.specs.BookText.{note_line, origin_text, end_text, state_text, exchange_line, cause_text, refused_line, refused_line_in, accepted_line, total_line, stop_line};
 ghost use Rattle.eip_books.specs.Origin.{origin_seen};
 ghost use Rattle.eip_endbook.specs.Names.{route_names};
@@ -59,16 +59,23 @@ fn push_end(out: &mut String, end: &End) -> Result<(), NoMemory>
     }
 }
 
+/// Appends that an exchange waits in the queue of this route.
+fn push_queue(out: &mut String, set: &RouteSet, route: u32) -> Result<(), NoMemory>
+    ensures { OnOk result (string_bytes out.new ≡ string_bytes out.old ++ (codes "waiting queue " ++ (route_names set.now).queue_name route)) }
+{
+    let name = queue_name(set, route);
+    out.push_str("waiting queue ")?;
+    out.push_str(name)?;
+    Ok(())
+}
+
 /// Appends how an exchange ended, or where it waits.
 fn push_place(out: &mut String, set: &RouteSet, place: &Place) -> Result<(), NoMemory>
     ensures { OnOk result (string_bytes out.new ≡ string_bytes out.old ++ state_text (route_names set.now) place.now) }
 {
     match place {
         Place::Ended(end) => push_end(out, end),
-        Place::Queue(route) => {
-            let name = queue_name(set, *route);
-            Ok(write!(out, "waiting queue {name}")?)
-        }
+        Place::Queue(route) => push_queue(out, set, *route),
         Place::InHand(_) => Ok(out.push_str("waiting in hand")?),
         Place::Retry(due) => Ok(write!(out, "waiting retry {due}")?),
         Place::Joining => Ok(out.push_str("waiting joining")?),
@@ -167,6 +174,17 @@ pub fn push_total(out: &mut String, summary: &Summary) -> Result<(), NoMemory>
     Ok(())
 }
 
+/// Appends that the source of this route failed: `source fault ROUTE`.
+fn push_fault(out: &mut String, set: &RouteSet, route: u32) -> Result<(), NoMemory>
+    ensures { OnOk result (string_bytes out.new ≡ string_bytes out.old ++ (codes "source fault " ++ ((route_names set.now).route_id route ++ codes "\n"))) }
+{
+    let id = route_id(set, route);
+    out.push_str("source fault ")?;
+    out.push_str(id)?;
+    out.push_str("\n")?;
+    Ok(())
+}
+
 /// Appends why the run stopped behind so many turns; nothing for want of memory.
 pub fn push_stop(
     out: &mut String,
@@ -180,10 +198,7 @@ pub fn push_stop(
         Stop::Drained => Ok(out.push_str("drained\n")?),
         Stop::Held(groups) => Ok(writeln!(out, "held {groups}")?),
         Stop::Spent => Ok(writeln!(out, "spent {turns}")?),
-        Stop::SourceFault(route) => {
-            let id = route_id(set, *route);
-            Ok(writeln!(out, "source fault {id}")?)
-        }
+        Stop::SourceFault(route) => push_fault(out, set, *route),
         Stop::NoMemory => Ok(()),
     }
 }
