@@ -7,8 +7,8 @@ ghost use Rattle.eip_history.specs.BookText.{origin_at, exchange_line, exchanges
 ghost use Rattle.eip_books.specs.View.{plan};
 ghost use Rattle.eip_endbook.specs.Names.{route_names};
 
-use crate::lines;
 use crate::counts::totals;
+use crate::lines;
 use eip_hub::Hub;
 use eip_ledger::{Entry, Stop};
 use eip_route::RouteSet;
@@ -16,12 +16,7 @@ use eip_text::{NoMemory, Text};
 use std::alloc::Global;
 
 /// Appends the line of the exchange with this number, if it is born.
-fn push_exchange(
-    alloc: Global,
-    out: &mut String,
-    hub: &Hub,
-    number: u64,
-) -> Result<(), NoMemory>
+fn push_exchange(alloc: Global, out: &mut String, hub: &Hub, number: u64) -> Result<(), NoMemory>
     ensures { OnOk result ((o : AnOrigin) (p : APlace) → origin_at (plan hub.now) hub.now.journal.past number ≡ Some o → place (plan hub.now) hub.now.journal.past number ≡ Some p → string_bytes out.new ≡ string_bytes out.old ++ exchange_line (route_names hub.now.set) number o p) }
 {
     let Some(origin) = hub.origin(number) else {

@@ -10,5 +10,5 @@ pub mod names;
 mod tests;
 
 pub use book::{book_text, summary_text};
-pub use log::log_text;
 pub use counts::{Summary, totals};
+pub use log::log_text;

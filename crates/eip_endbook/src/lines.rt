@@ -3,8 +3,8 @@ ghost use Rattle.eip_history.specs.BookText.{note_line, origin_text, end_text, s
 ghost use Rattle.eip_books.specs.Origin.{origin_seen};
 ghost use Rattle.eip_endbook.specs.Names.{route_names};
 
-use crate::names::{queue_name, route_id};
 use crate::counts::Summary;
+use crate::names::{queue_name, route_id};
 use eip_exchange::End;
 use eip_hub::OriginView;
 use eip_ledger::{Entry, Kind, Note, Place, Refused, Stop};
@@ -186,12 +186,7 @@ fn push_fault(out: &mut String, set: &RouteSet, route: u32) -> Result<(), NoMemo
 }
 
 /// Appends why the run stopped behind so many turns; nothing for want of memory.
-pub fn push_stop(
-    out: &mut String,
-    set: &RouteSet,
-    turns: u64,
-    stop: &Stop,
-) -> Result<(), NoMemory>
+pub fn push_stop(out: &mut String, set: &RouteSet, turns: u64, stop: &Stop) -> Result<(), NoMemory>
     ensures { OnOk result (string_bytes out.new ≡ string_bytes out.old ++ stop_line (route_names set.now) turns stop.now) }
 {
     match stop {
