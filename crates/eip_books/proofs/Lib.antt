@@ -15,3 +15,4 @@ pub mod Empty
 pub mod ListedNumbers
 pub mod HandCalls
 pub mod LookOutside
+pub mod OriginCalls

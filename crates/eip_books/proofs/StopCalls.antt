@@ -176,7 +176,7 @@ module _ {set : RouteSet} {workers limit : ℕ} {past : Past} (t : Tables) (st :
   stop-is over spent h k = rw (h, k, st.fault, st.turns, sym (hands-are t st), groupless) refl
 
 -- a number beyond the births is not born
-beyond : {A : Type 0} (xs : List A) (i : ℕ) → length xs ≤ i → slice_get xs i ≡ None
+pub beyond : {A : Type 0} (xs : List A) (i : ℕ) → length xs ≤ i → slice_get xs i ≡ None
 beyond [] i l = refl
 beyond (x ∷ xs) zero l = absurd (omega (arith, l))
 beyond (x ∷ xs) (suc i) l = beyond xs i (omega (arith, l))
@@ -185,12 +185,12 @@ pub place-zero : (s : Plan) (past : Past) (x : ℕ) → x ≡ 0 → None ≡ pla
 unfolding place
 place-zero s past x h = rw h refl
 
-place-beyond : (s : Plan) (past : Past) (x : ℕ) → length (births s past) < x → None ≡ place s past x
+pub place-beyond : (s : Plan) (past : Past) (x : ℕ) → length (births s past) < x → None ≡ place s past x
 unfolding place
 place-beyond s past zero l = refl
 place-beyond s past (suc i) l = rw (beyond (births s past) i (omega (arith, l))) refl
 
-place-here : (s : Plan) (past : Past) (x : ℕ) (b : Birth) (p : Place) → 0 < x → slice_get (births s past) (x - 1) ≡ Some b → p ≡ place_of s past b → Some p ≡ place s past x
+pub place-here : (s : Plan) (past : Past) (x : ℕ) (b : Birth) (p : Place) → 0 < x → slice_get (births s past) (x - 1) ≡ Some b → p ≡ place_of s past b → Some p ≡ place s past x
 unfolding place
 place-here s past zero b p l at e = absurd (omega (arith, l))
 place-here s past (suc i) b p l at e = let same : suc i - 1 ≡ i = omega arith in rw (rw same at at, e) refl

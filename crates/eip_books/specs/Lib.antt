@@ -10,3 +10,4 @@ pub mod Outside
 pub mod View
 pub mod Facts
 pub mod Places
+pub mod Origin

@@ -21,9 +21,13 @@ ghost use Rattle.eip_books.specs.Asking.{asked_kind, is_outside_kind, AsksLine, 
 ghost use Rattle.eip_books.specs.View.{plan, IsLegalRun, Adds, AddsNone, AddsAnswer, IsSame, IsKnown, IsIdleSource};
 ghost use Rattle.eip_books.specs.declared.books.Inner.TheVariants.{Did, Outside};
 ghost use Rattle.eip_books.specs.Places.{inner_of};
+ghost use Rattle.std.specs.Prelude.{option_map};
+ghost use Rattle.eip_history.specs.BookText.{origin_at};
+ghost use Rattle.eip_books.specs.Origin.{origin_seen, ending_at};
 
 use crate::asking::{Asked, asked_of};
 use crate::look::first_look;
+use crate::origin::{OriginView, ending_of, origin_in};
 use crate::places::place_of;
 use crate::rising::RisingNumbers;
 use crate::row::{Row, SourceState, Stage, end_asked, line_asked};
@@ -31,7 +35,7 @@ use crate::rows::Rows;
 use crate::sources::Sources;
 use crate::table::Table;
 use crate::ticket::Ticket;
-use eip_exchange::{End, Message};
+use eip_exchange::{End, Ending, Message};
 use eip_frames::{Answer, Request};
 use eip_ledger::{Entry, Journal, Kind, Note, Place, Refused, Stop};
 use eip_route::RouteSet;
@@ -663,6 +667,32 @@ impl Books {
         }
         let place = place_of(alloc, self.rows.get(number), self.journal.entries())?;
         Ok(Some(place))
+    }
+
+    /// Where an exchange comes from; None exactly for a number that is not born.
+    pub fn origin(&self, number: u64) -> Option<OriginView<'_>>
+        ensures { option_map origin_seen result ≡ origin_at (plan self.now) self.now.journal.past number }
+    {
+        if number == 0 {
+            return None;
+        }
+        if number > self.rows.len() as u64 {
+            return None;
+        }
+        origin_in(self.journal.entries(), self.rows.get(number).born)
+    }
+
+    /// How an exchange ended; None exactly where it is not born or has not ended.
+    pub fn ended(&self, number: u64) -> Option<Ending>
+        ensures { result ≡ ending_at (place (plan self.now) self.now.journal.past number) }
+    {
+        if number == 0 {
+            return None;
+        }
+        if number > self.rows.len() as u64 {
+            return None;
+        }
+        ending_of(self.rows.get(number).stage)
     }
 
     /// The least number of a Ready exchange.

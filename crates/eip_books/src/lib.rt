@@ -4,6 +4,7 @@
 pub mod asking;
 pub mod books;
 pub mod look;
+pub mod origin;
 pub mod places;
 pub mod rising;
 pub mod row;
@@ -14,6 +15,7 @@ pub mod ticket;
 
 pub use asking::Asked;
 pub use books::{Books, Inner};
+pub use origin::OriginView;
 pub use rising::RisingNumbers;
 pub use row::{Row, SourceState, Stage};
 pub use ticket::Ticket;

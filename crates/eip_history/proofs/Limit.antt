@@ -149,7 +149,7 @@ pub source-after : (w t : ℕ) (k : Kind) (past : Past) → source_state t ((rec
 unfolding source_state
 source-after w t k past = refl
 
-within-source : (s : Plan) (w limit v t : ℕ) (k : Kind) (past : Past) → IsLegal s w limit ((record { worker = v; kind = k }) ∷ past) → IsSource s t
+pub within-source : (s : Plan) (w limit v t : ℕ) (k : Kind) (past : Past) → IsLegal s w limit ((record { worker = v; kind = k }) ∷ past) → IsSource s t
     → source_state t past ≡ Out v
     → ((x : ℕ) → concerns x k ≡ false) → ((u : ℕ) (was : SourceState) → u ≢ t → moved v u k was ≡ was) → is_out (moved v t k (source_state t past)) ≡ false
     → hands s ((record { worker = v; kind = k }) ∷ past) + 1 ≡ hands s past
@@ -161,7 +161,7 @@ within-source s w limit v t k past legal source out none other after =
     let b : bit (is_out (source_state t past)) ≡ 1 = ap (λ st. bit (is_out st)) out in
     omega (arith, ts, ps, a, b)
 
-within-own : (s : Plan) (w limit v x : ℕ) (k : Kind) (past : Past) (b : Birth) → IsLegal s w limit ((record { worker = v; kind = k }) ∷ past)
+pub within-own : (s : Plan) (w limit v x : ℕ) (k : Kind) (past : Past) (b : Birth) → IsLegal s w limit ((record { worker = v; kind = k }) ∷ past)
     → numbered (births s past) x ≡ Some b
     → ((y : ℕ) → y ≢ x → concerns y k ≡ false) → concerns x k ≡ true → taken_by v k ≡ None → ((u : ℕ) (was : SourceState) → moved v u k was ≡ was)
     → hands s ((record { worker = v; kind = k }) ∷ past) + bit (is_taken past b) ≡ hands s past
@@ -171,7 +171,7 @@ within-own s w limit v x k past b legal at only c t none =
     let ps = pulls-same s e past none in
     omega (arith, ts, ps)
 
-within-take : (s : Plan) (w limit v x : ℕ) (past : Past) (b : Birth) → IsLegal s w limit ((record { worker = v; kind = Take x }) ∷ past)
+pub within-take : (s : Plan) (w limit v x : ℕ) (past : Past) (b : Birth) → IsLegal s w limit ((record { worker = v; kind = Take x }) ∷ past)
     → numbered (births s past) x ≡ Some b → hands s ((record { worker = v; kind = Take x }) ∷ past) ≤ hands s past + 1
 within-take s w limit v x past b legal at =
     let e : Entry = record { worker = v; kind = Take x } in
@@ -179,7 +179,7 @@ within-take s w limit v x past b legal at =
     let ps = pulls-same s e past (λ u was. refl) in
     omega (arith, ts, ps, bit-most (is_taken (e ∷ past) b))
 
-within-pull : (s : Plan) (w limit v t : ℕ) (past : Past) → IsLegal s w limit ((record { worker = v; kind = Pull t }) ∷ past) → t < s.routes
+pub within-pull : (s : Plan) (w limit v t : ℕ) (past : Past) → IsLegal s w limit ((record { worker = v; kind = Pull t }) ∷ past) → t < s.routes
     → hands s ((record { worker = v; kind = Pull t }) ∷ past) ≤ hands s past + 1
 within-pull s w limit v t past legal l =
     let e : Entry = record { worker = v; kind = Pull t } in
@@ -187,7 +187,7 @@ within-pull s w limit v t past legal l =
     let ps = pulls-change s e past t l (λ u was ne. rw (not-same u t ne) refl) in
     omega (arith, ts, ps, bit-most (is_out (source_state t (e ∷ past))))
 
-within-none : (s : Plan) (w limit v : ℕ) (k : Kind) (past : Past) → IsLegal s w limit ((record { worker = v; kind = k }) ∷ past)
+pub within-none : (s : Plan) (w limit v : ℕ) (k : Kind) (past : Past) → IsLegal s w limit ((record { worker = v; kind = k }) ∷ past)
     → ((x : ℕ) → concerns x k ≡ false) → ((u : ℕ) (was : SourceState) → moved v u k was ≡ was)
     → hands s ((record { worker = v; kind = k }) ∷ past) ≡ hands s past
 within-none s w limit v k past legal none same =

@@ -13,9 +13,12 @@ ghost use Rattle.eip_books.specs.declared.books.Inner.TheVariants.{Did, Outside}
 ghost use Rattle.eip_books.specs.View.{plan, IsLegalRun, Adds, AddsNone, AddsAnswer};
 ghost use Rattle.eip_books.specs.Places.{inner_of};
 ghost use Rattle.eip_books.specs.Outside.{is_among, outside_after, unlooked_numbers, IsAsked};
+ghost use Rattle.std.specs.Prelude.{option_map};
+ghost use Rattle.eip_history.specs.BookText.{origin_at};
+ghost use Rattle.eip_books.specs.Origin.{origin_seen, ending_at};
 
-use eip_books::{Books, Inner, Ticket};
-use eip_exchange::Message;
+use eip_books::{Books, Inner, OriginView, Ticket};
+use eip_exchange::{Ending, Message};
 use eip_frames::Answer;
 use eip_ledger::{Journal, Note, Place, Refused, Stop};
 use eip_route::RouteSet;
@@ -81,6 +84,20 @@ impl Hub {
         ensures { IfOk result (λ p. p ≡ place (plan self.now) self.now.journal.past number) }
     {
         self.books.place(alloc, number)
+    }
+
+    /// Where an exchange comes from, with an item lent from the journal; None exactly for a number that is not born.
+    pub fn origin(&self, number: u64) -> Option<OriginView<'_>>
+        ensures { option_map origin_seen result ≡ origin_at (plan self.now) self.now.journal.past number }
+    {
+        self.books.origin(number)
+    }
+
+    /// How an exchange ended; None exactly where it is not born or has not ended.
+    pub fn ended(&self, number: u64) -> Option<Ending>
+        ensures { result ≡ ending_at (place (plan self.now) self.now.journal.past number) }
+    {
+        self.books.ended(number)
     }
 
     /// The lines of the log, the oldest first.

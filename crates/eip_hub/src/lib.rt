@@ -3,7 +3,7 @@
 
 pub mod hub;
 
-pub use eip_books::{Inner, Ticket};
+pub use eip_books::{Inner, OriginView, Ticket};
 pub use hub::Hub;
 
 #[cfg(test)]

@@ -1,0 +1,5 @@
+use Rattle.std.proofs.Common.{append_assoc}
+use Rattle.eip_endbook.proofs.lines.push_queue.Goals as goal
+
+pub returns : goal.returns
+returns c = rw (c.in_ok-push_str-2.ensures.bytes, c.in_ok-push_str.ensures.bytes, c.queue_name-name.ensures) (simp append_assoc)
