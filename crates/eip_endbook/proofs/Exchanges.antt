@@ -1,5 +1,5 @@
 -- The exchanges of a run, counted and printed one by one.
-use Rattle.std.proofs.Common.{◌≡◌, ℕ, suc, ◌+◌, ◌<◌, ◌≤◌, Bool, true, false, length, take, filter, Option, Some, None, refl, ap, arith}
+use Rattle.std.proofs.Common.{◌≡◌, ℕ, suc, ◌+◌, ◌<◌, ◌≤◌, Bool, true, false, take, Some, None, refl, ap, arith}
 use Rattle.std.specs.Prelude.{option_map}
 use Rattle.std.proofs.lemmas.List.{length-take}
 use Rattle.eip_exchange.specs.declared.birth.Birth.{Birth}
@@ -16,7 +16,7 @@ use Rattle.eip_history.specs.Texts.{is_completed, is_handled}
 use Rattle.eip_history.specs.Counts.{is_failed, is_waiting, total_count, count_of_first}
 use Rattle.eip_history.specs.BookText.{origin_of, origin_at}
 use Rattle.eip_history.proofs.Lists.{filter-length, slice_get-some}
-use Rattle.eip_history.proofs.Totals.{count-first-none, count-first-more}
+use Rattle.eip_history.proofs.Totals.{count-first-more}
 use Rattle.eip_books.specs.Origin.{ending_at}
 use Rattle.eip_endbook.specs.declared.counts.Ends.{Ends}
 use Rattle.eip_endbook.specs.Totals.{counted, CountsFirst}

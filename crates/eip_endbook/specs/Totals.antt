@@ -1,8 +1,7 @@
 -- How the ends of exchanges are counted one by one.
-use Rattle.std.specs.Prelude.{ℕ, ◌≡◌, ◌+◌, ◌≤◌, Bool, true, false, Option, Some, None}
+use Rattle.std.specs.Prelude.{ℕ, ◌≡◌, ◌+◌, Bool, true, false, Option, Some, None}
 use Rattle.eip_exchange.specs.declared.end.Ending.{Ending}
 use Rattle.eip_exchange.specs.declared.end.Ending.TheVariants as ending
-use Rattle.eip_ledger.specs.declared.entry.Entry.{Entry}
 use Rattle.eip_ledger.specs.declared.entry.Kind.{Kind}
 use Rattle.eip_ledger.specs.declared.entry.Kind.TheVariants.{Accept, Refuse}
 use Rattle.eip_history.specs.Plan.{Plan}

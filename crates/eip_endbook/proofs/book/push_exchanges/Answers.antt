@@ -1,4 +1,4 @@
-use Rattle.std.proofs.Common.{◌≡◌, ◌+◌, ◌<◌, ◌++◌, string_bytes, sym, arith}
+use Rattle.std.proofs.Common.{◌+◌, ◌<◌, string_bytes, sym, arith}
 use Rattle.std.proofs.lemmas.List.{append-nil}
 use Rattle.eip_history.specs.Counts.{total_count}
 use Rattle.eip_history.specs.BookText.{exchange_line, exchanges_text}

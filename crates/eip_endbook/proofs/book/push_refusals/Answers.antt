@@ -1,4 +1,4 @@
-use Rattle.std.proofs.Common.{◌≡◌, ◌+◌, ◌<◌, ◌++◌, length, string_bytes, sym, ap, ◌∙◌, arith, get_or}
+use Rattle.std.proofs.Common.{◌+◌, ◌<◌, ◌++◌, length, string_bytes, sym, ap, ◌∙◌, arith, get_or}
 use Rattle.std.proofs.lemmas.List.{append-nil}
 use Rattle.eip_ledger.specs.declared.entry.Entry.{Entry}
 use Rattle.eip_history.specs.Walk.{past_at}

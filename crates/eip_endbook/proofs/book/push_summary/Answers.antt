@@ -1,4 +1,4 @@
-use Rattle.std.proofs.Common.{◌≡◌, ◌++◌, string_bytes}
+use Rattle.std.proofs.Common.{string_bytes}
 use Rattle.eip_history.specs.BookText.{accepted_line, total_line, stop_line}
 use Rattle.eip_history.proofs.TextSteps.{summary-is}
 use Rattle.eip_books.specs.View.{plan}
