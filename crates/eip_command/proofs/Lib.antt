@@ -1,3 +1,4 @@
+mod Exact
 mod Paths
 mod Shapes
 mod Steps

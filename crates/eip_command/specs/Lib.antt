@@ -1,3 +1,4 @@
-pub mod Words
 pub mod Causes
 pub mod Form
+pub mod Spelled
+pub mod Words
