@@ -1,0 +1,4 @@
+pub mod Finding
+pub mod Numbers
+pub mod Patterns
+pub mod Among

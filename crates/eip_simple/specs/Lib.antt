@@ -1,0 +1,6 @@
+pub mod Views
+pub mod Values
+pub mod Orders
+pub mod Matching
+pub mod Operators
+pub mod Holding
