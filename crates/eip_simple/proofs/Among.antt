@@ -4,9 +4,19 @@ use Rattle.std.specs.List.{list_any}
 use Rattle.eip_text.specs.Cuts.{cut, pieces}
 use Rattle.eip_text.proofs.Cutting.{first_piece, last_piece}
 
-module _ (test : List ℕ → Bool) (c : ℕ) (bs : List ℕ) where
-  pub any_first : (p : List ℕ × List ℕ) → cut c bs ≡ Some p → list_any test (pieces c bs) ≡ (test p.0 || list_any test (pieces c p.1))
-  any_first p e = ap (list_any test) (first_piece c bs p e)
+or_false : (b : Bool) → (b || false) ≡ b
+or_false true = refl
+or_false false = refl
 
-  pub any_last : cut c bs ≡ None → list_any test (pieces c bs) ≡ (test bs || false)
-  any_last e = ap (list_any test) (last_piece c bs e)
+module _ (test : List ℕ → Bool) (c : ℕ) (bs front rest : List ℕ) (e : Some (front, rest) ≡ cut c bs) where
+  -- the first piece passes
+  pub any_here : test front ≡ true → true ≡ list_any test (pieces c bs)
+  any_here h = sym (ap (list_any test) (first_piece c bs (front, rest) (sym e)) ∙ ap (λ (b : Bool). b || list_any test (pieces c rest)) h)
+
+  -- it doesn't
+  pub any_later : test front ≡ false → list_any test (pieces c rest) ≡ list_any test (pieces c bs)
+  any_later h = sym (ap (list_any test) (first_piece c bs (front, rest) (sym e)) ∙ ap (λ (b : Bool). b || list_any test (pieces c rest)) h)
+
+-- a text without a mark is the last piece
+pub any_last : (test : List ℕ → Bool) (c : ℕ) (bs : List ℕ) → None ≡ cut c bs → test bs ≡ list_any test (pieces c bs)
+any_last test c bs e = sym (ap (list_any test) (last_piece c bs (sym e)) ∙ or_false (test bs))
