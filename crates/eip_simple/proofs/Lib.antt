@@ -3,3 +3,4 @@ pub mod Numbers
 pub mod Patterns
 pub mod Among
 pub mod Bytes
+pub mod Ranges

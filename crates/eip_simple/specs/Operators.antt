@@ -1,5 +1,5 @@
 -- What each operator says of two values.
-use Rattle.std.specs.Prelude.{ℕ, Bool, true, false, not, ◌&&◌, nat_eq, ℤ, List, [], ◌∷◌, Option, Some, None, is_some, option_map, option_and_then, bytes_eq}
+use Rattle.std.specs.Prelude.{◌≡◌, ◌++◌, ℕ, Bool, true, false, not, ◌&&◌, nat_eq, ℤ, List, [], ◌∷◌, Option, Some, None, is_some, option_map, option_and_then, bytes_eq}
 use Rattle.std.specs.Ordering.{is_eq, is_lt, is_le, is_gt, is_ge, int_cmp}
 use Rattle.std.specs.List.{list_any, starts_with, ends_with}
 use Rattle.memchr.specs.Find.{matches, first_of}
@@ -41,6 +41,10 @@ is_between_texts a (Some p) = is_between (number_of a) (number_of p.0) (number_o
 -- b is `LOW..HIGH`, and a lies between these whole numbers
 unfoldable pub is_within : List ℕ → List ℕ → Bool
 is_within a b = is_between_texts a (bounds b)
+
+-- some LOW and HIGH are the range's bounds, and a lies between these whole numbers
+abbrev pub IsInRange : List ℕ → List ℕ → Type 0
+IsInRange a b = (low : List ℕ) × (high : List ℕ) × (b ≡ low ++ (46 ∷ 46 ∷ high)) × (is_between (number_of a) (number_of low) (number_of high) ≡ true)
 
 -- ---- of two sides
 

@@ -2,6 +2,7 @@ ghost use Rattle.std.specs.Prelude.{◌≡◌, ◌↔◌, List, ℕ, IsTrue, Som
 ghost use Rattle.memchr.specs.Find.{OccursAt};
 ghost use Rattle.eip_text.specs.Names.{folded};
 ghost use Rattle.eip_simple.specs.Operators as spec;
+ghost use Rattle.eip_simple.specs.Orders.{number_of};
 
 use crate::orders::{number, order};
 use eip_simple_read::Op;
@@ -117,11 +118,16 @@ fn bounds(range: &str) -> Option<(&str, &str)>
 /// Whether the second text is `LOW..HIGH`, and the first lies between these whole numbers, both included.
 #[tactic(auto, unfolding(crate::specs::Operators::is_within))]
 fn is_within(text: &str, range: &str) -> bool
-    ensures { result ≡ spec.is_within text.now range.now }
+    ensures value { result ≡ spec.is_within text.now range.now }
+    ensures range { IsTrue result ↔ spec.IsInRange text.now range.now }
 {
-    let Some((low, high)) = bounds(range) else {
-        return false;
-    };
+    bounds(range).is_some_and(|(low, high)| is_between(text, low, high))
+}
+
+/// Whether the first of three texts is a whole number from the second one up to the third, both included.
+fn is_between(text: &str, low: &str, high: &str) -> bool
+    ensures { result ≡ spec.is_between (number_of text.now) (number_of low.now) (number_of high.now) }
+{
     match (number(text), number(low), number(high)) {
         (Some(number), Some(low), Some(high)) => low <= number && number <= high,
         _ => false,
