@@ -4,3 +4,4 @@ pub mod Orders
 pub mod Matching
 pub mod Operators
 pub mod Holding
+pub mod Rows

@@ -4,6 +4,8 @@
 mod operators;
 mod orders;
 pub mod predicates;
+#[cfg(test)]
+mod tests;
 pub mod values;
 pub mod view;
 

@@ -8,6 +8,7 @@ use eip_text::{NoMemory, Text, decimal};
 use std::alloc::Global;
 
 /// What the functions of Simple see of an exchange, by the page "Simple" of Camel's manual.
+#[derive(Clone, Copy)]
 pub struct View<'v> {
     /// The exchange's message.
     pub message: &'v Message,
