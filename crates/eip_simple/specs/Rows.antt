@@ -1,7 +1,7 @@
 -- Worked rows of the table of operators, and of values.
 use Rattle.std.specs.Prelude.{◌≡◌, ℕ, Bool, true, false, List, [], ◌∷◌, codes, Option, Some, None, refl}
 use Rattle.memchr.specs.Find.{matches_from, first_of}
-use Rattle.eip_simple_read.specs.declared.tree.Function.TheVariants.{Body, Header, Property, ExchangeId}
+use Rattle.eip_simple_read.specs.declared.tree.Function.TheVariants.{Body, Header, Property, RouteId}
 use Rattle.eip_simple_read.specs.declared.tree.Part.TheVariants.{Plain, Call}
 use Rattle.eip_simple_read.specs.declared.tree.Op.{Op}
 use Rattle.eip_simple_read.specs.declared.tree.Op.TheVariants.{Equal, NotEqual, EqualFold, Less, AtMost, Contains, NotContains, ContainsFold, StartsWith, EndsWith, In, NotIn, Range, NotRange}
@@ -95,7 +95,7 @@ a_bad_bound = refl
 sample : Seen
 sample = record { message = record { body = codes "b"; headers = (codes "Name", codes "v") ∷ []; properties = (codes "p", codes "q") ∷ [] }; number = 12; route = codes "r" }
 
-a_value : template_value (record { parts = Plain (codes "x") ∷ Call (Header (codes "nAME")) ∷ Call (Property (codes "P")) ∷ Call ExchangeId ∷ Call Body ∷ [] }) sample ≡ codes "xv12b"
+a_value : template_value (record { parts = Plain (codes "x") ∷ Call (Header (codes "nAME")) ∷ Call (Property (codes "P")) ∷ Call RouteId ∷ Call Body ∷ [] }) sample ≡ codes "xvrb"
 unfolding sample template_value
 a_value = refl
 
