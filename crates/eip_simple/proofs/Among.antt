@@ -1,5 +1,5 @@
 -- A text among the pieces of another, piece by piece.
-use Rattle.std.proofs.Common.{◌≡◌, ℕ, Bool, true, false, ◌||◌, List, [], ◌∷◌, Some, None, ap, sym, ◌∙◌, refl}
+use Rattle.std.proofs.Common.{◌≡◌, ℕ, Bool, true, false, ◌||◌, List, Some, None, ap, sym, ◌∙◌, refl}
 use Rattle.std.specs.List.{list_any}
 use Rattle.eip_text.specs.Cuts.{cut, pieces}
 use Rattle.eip_text.proofs.Cutting.{first_piece, last_piece}

@@ -1,5 +1,5 @@
 -- The test for whole numbers decides what the reader of numbers says.
-use Rattle.std.proofs.Common.{◌≡◌, ◌^◌, ℕ, ◌<◌, ◌≤◌, ◌&&◌, Bool, true, false, cond, List, [], ◌∷◌, length, drop, Option, None, Some, ℤ, pos, negsuc, refl, sym, ap, ◌∙◌, arith}
+use Rattle.std.proofs.Common.{◌≡◌, ◌^◌, ℕ, ◌<◌, ◌&&◌, Bool, true, false, cond, List, [], ◌∷◌, length, drop, Option, None, Some, ℤ, pos, negsuc, refl, sym, ap, ◌∙◌, arith}
 use Rattle.std.specs.Prelude.{FitsSigned, nat_lt}
 use Rattle.std.specs.Int.{w64}
 use Rattle.std.specs.List.{list_all}

@@ -1,10 +1,9 @@
 -- What a match of a whole text is, whichever tree the pattern's text was read as.
 use Rattle.std.proofs.Common.{◌≡◌, ℕ, ◌<◌, ◌≤◌, Bool, true, List, length, chars, get_or, Option, None, Some, IsSomeAnd, is_some, ◌∙◌}
 use Rattle.std.specs.Prelude.{option_and_then}
-use Rattle.regex_hir.specs.declared.hir.Hir.{Hir}
 use Rattle.regex_hir.specs.Meaning.{meaning}
 use Rattle.regex_hir.specs.Find.{Match, find_str}
-use Rattle.regex_syntax.specs.Grammar.{Names, group_count, read}
+use Rattle.regex_syntax.specs.Grammar.{group_count, read}
 use Rattle.regex_syntax.specs.Captures.{SameCaptures}
 use Rattle.regex_syntax.specs.Verdict.{Reads, default_config}
 use Rattle.regex.proofs.ForCallers.{is_match_alike}

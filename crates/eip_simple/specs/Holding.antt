@@ -1,5 +1,5 @@
 -- Where a predicate holds.
-use Rattle.std.specs.Prelude.{ℕ, Bool, true, false, not, List, codes, Option, Some, None, bytes_eq, if◌then◌else◌}
+use Rattle.std.specs.Prelude.{ℕ, Bool, false, not, List, codes, Option, Some, None, bytes_eq, if◌then◌else◌}
 use Rattle.std.specs.List.{list_any, list_all}
 use Rattle.eip_text.specs.Names.{folded}
 use Rattle.eip_simple_read.specs.declared.tree.Test.{Test}

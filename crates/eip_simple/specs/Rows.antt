@@ -1,10 +1,9 @@
 -- Worked rows of the table of operators, and of values.
-use Rattle.std.specs.Prelude.{◌≡◌, ℕ, Bool, true, false, List, [], ◌∷◌, codes, Option, Some, None, refl}
+use Rattle.std.specs.Prelude.{◌≡◌, true, false, [], ◌∷◌, codes, Some, None, refl}
 use Rattle.memchr.specs.Find.{matches_from, first_of}
 use Rattle.eip_simple_read.specs.declared.tree.Function.TheVariants.{Body, Header, Property, RouteId}
 use Rattle.eip_simple_read.specs.declared.tree.Part.TheVariants.{Plain, Call}
-use Rattle.eip_simple_read.specs.declared.tree.Op.{Op}
-use Rattle.eip_simple_read.specs.declared.tree.Op.TheVariants.{Equal, NotEqual, EqualFold, Less, AtMost, Contains, NotContains, ContainsFold, StartsWith, EndsWith, In, NotIn, Range, NotRange}
+use Rattle.eip_simple_read.specs.declared.tree.Op.TheVariants.{Equal, NotEqual, EqualFold, Less, AtMost, Contains, NotContains, ContainsFold, StartsWith, EndsWith, In, Range, NotRange}
 use Rattle.eip_simple_read.specs.declared.tree.Side.TheVariants as side
 use Rattle.eip_simple_read.specs.declared.tree.Test.TheVariants.{Single, Compare}
 use Rattle.eip_simple.specs.Views.{Seen}

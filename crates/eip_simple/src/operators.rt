@@ -39,7 +39,10 @@ fn of_one(op: Op) -> bool
     ensures left { (a : List ℕ) → result ≡ spec.op_holds op (Some a) None }
     ensures right { (b : List ℕ) → result ≡ spec.op_holds op None (Some b) }
 {
-    matches!(op, Op::NotEqual | Op::NotContains | Op::NotIn | Op::NotRange)
+    matches!(
+        op,
+        Op::NotEqual | Op::NotContains | Op::NotIn | Op::NotRange
+    )
 }
 
 /// The same of two texts.

@@ -80,11 +80,7 @@ fn is_truthy(side: &Option<Found>) -> bool
 }
 
 /// Whether a side is there and matches the pattern as a whole.
-fn matches_pattern(
-    alloc: Global,
-    pattern: &Pattern,
-    side: &Option<Found>,
-) -> Result<bool, NoMemory>
+fn matches_pattern(alloc: Global, pattern: &Pattern, side: &Option<Found>) -> Result<bool, NoMemory>
     ensures { IfOk result (λ b. b ≡ matches_pattern pattern.now (option_map found_text side.now)) }
 {
     match side {

@@ -55,12 +55,7 @@ pub fn value(alloc: Global, template: &Template, view: &View) -> Result<Text, Va
 
 /// The value of a template, of at most so many bytes.
 #[tactic(auto, unfolding(crate::specs::Values::template_value))]
-fn joined(
-    alloc: Global,
-    template: &Template,
-    view: &View,
-    limit: usize,
-) -> Result<Text, ValueFault>
+fn joined(alloc: Global, template: &Template, view: &View, limit: usize) -> Result<Text, ValueFault>
     ensures value { IfOk result (λ t. t ≡ template_value template.now (seen view.now)) }
     ensures fits { IfOk result (λ t. length t ≤ limit) }
     ensures too_long { IsErrOf result ValueFault.TooLong → limit < length (template_value template.now (seen view.now)) }

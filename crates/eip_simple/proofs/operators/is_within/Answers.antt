@@ -1,4 +1,4 @@
-use Rattle.std.proofs.Common.{◌≡◌, rules}
+use Rattle.std.proofs.Common.{rules}
 use Rattle.eip_simple.specs.Operators.{is_within}
 use Rattle.eip_simple.proofs.Ranges.{within_law_at}
 use Rattle.eip_simple.proofs.operators.is_within.Goals as goal
