@@ -1,4 +1,5 @@
 pub mod Views
+pub mod Found
 pub mod Values
 pub mod Orders
 pub mod Matching

@@ -2,8 +2,6 @@
 use Rattle.std.specs.Prelude.{ℕ, List}
 use Rattle.eip_exchange.specs.declared.message.Message.{Message}
 use Rattle.eip_simple.specs.declared.view.View.{View}
-use Rattle.eip_simple.specs.declared.view.Found.{Found}
-use Rattle.eip_simple.specs.declared.view.Found.TheVariants.{Lent, Made}
 
 -- an exchange's message, its number, and the id of the route whose steps run
 pub record Seen : Type 0 where
@@ -14,8 +12,3 @@ pub record Seen : Type 0 where
 -- the same as a view lends it
 abbrev pub seen : View → Seen
 seen v = record { message = v.message.now; number = v.number; route = v.route.now }
-
--- the text that was found
-abbrev pub found_text : Found → List ℕ
-found_text (Lent t) = t.now
-found_text (Made t) = t

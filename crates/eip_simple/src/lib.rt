@@ -1,9 +1,12 @@
 // Evaluates Camel's Simple language, a profile of it.
 #![tactic(auto)]
 
+mod functions;
 mod operators;
 mod orders;
 pub mod predicates;
+mod sides;
+mod templates;
 #[cfg(test)]
 mod tests;
 pub mod values;

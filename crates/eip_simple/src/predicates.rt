@@ -1,12 +1,14 @@
 ghost use Rattle.std.specs.Prelude.{◌≡◌, IfOk, option_map, option_copied};
 ghost use Rattle.std.specs.List.{list_all};
-ghost use Rattle.eip_simple.specs.Views.{seen, found_text};
+ghost use Rattle.eip_simple.specs.Views.{seen};
+ghost use Rattle.eip_simple.specs.Found.{found_text};
 ghost use Rattle.eip_simple.specs.Matching.{is_whole_match};
 ghost use Rattle.eip_simple.specs.Holding.{is_truthy, matches_pattern, test_holds, predicate_holds};
 
+use crate::functions::Found;
 use crate::operators::op_holds;
-use crate::values::side_value;
-use crate::view::{Found, View};
+use crate::sides::side_value;
+use crate::view::View;
 use eip_simple_read::{Pattern, Predicate, Side, Test};
 use eip_text::{NoMemory, Text, same_name};
 use std::alloc::Global;

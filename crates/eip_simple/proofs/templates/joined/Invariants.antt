@@ -2,7 +2,7 @@ use Rattle.std.proofs.Common.{◌≡◌, ◌≤◌, ◌++◌, length, drop, stri
 use Rattle.std.specs.List.{flat_map}
 use Rattle.eip_simple.specs.Views.{seen}
 use Rattle.eip_simple.specs.Values.{part_value}
-use Rattle.eip_simple.proofs.values.joined.Given as goal
+use Rattle.eip_simple.proofs.templates.joined.Given as goal
 
 abbrev pub invariant-loop-part : goal.invariant-loop-part
 invariant-loop-part l = record {
