@@ -1,0 +1,6 @@
+pub mod Finding
+pub mod Numbers
+pub mod Patterns
+pub mod Among
+pub mod Bytes
+pub mod Ranges
