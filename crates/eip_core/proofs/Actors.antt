@@ -160,8 +160,8 @@ module _ (s : Plan) (laws : PlanLaws s) (w limit v : ℕ) (past : Past) where
   actor-taken (suc i) legal home ready held =
       let g : 1 + i ≡ suc i = omega arith in
       let P : ℕ → Type 0 = λ n. IsLegal s w limit ((record { worker = v; kind = Take n }) ∷ past) → place s past n ≡ Some place_is.Ready
-          → place s ((record { worker = v; kind = Take n }) ∷ past) n ≡ Some (place_is.InHand v)
-          → actor s ((record { worker = v; kind = Take n }) ∷ past) ≡ TheExchange n in
+      → place s ((record { worker = v; kind = Take n }) ∷ past) n ≡ Some (place_is.InHand v)
+      → actor s ((record { worker = v; kind = Take n }) ∷ past) ≡ TheExchange n in
       subst P g (λ l r h. actor-held i l home r h) legal ready held
 
 -- ---- the first unfinished source

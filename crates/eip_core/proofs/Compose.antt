@@ -54,8 +54,8 @@ calls-append s d past (e ∷ p) q =
     ∙ ap (λ xs. lane_calls s d past q ++ xs) (sym (calls-more s d (q ++ past) e p)))))
 
 -- the doors of a run are the same behind any calls and acts
-pub doors-same : {u v : BooksView} {js : List LaneCall} {ks : List InletAct} {l m : List LaneView} {i j : List InletView} → IsSameRun u v → LanesGrew 0 js l m → InletsGrew 0 ks i j → doors v m j ≡ doors u l i
-doors-same {u} {v} {js} {ks} {l} {m} {i} {j} same lanes inlets =
+pub doors-same : {u v : BooksView} (js : List LaneCall) (ks : List InletAct) (l m : List LaneView) (i j : List InletView) → IsSameRun u v → LanesGrew 0 js l m → InletsGrew 0 ks i j → doors v m j ≡ doors u l i
+doors-same {u} {v} js ks l m i j same lanes inlets =
     ap (λ s. doors_of s (lane_names m) (inlet_names j)) same.set
     ∙ (ap (λ ns. doors_of u.set ns (inlet_names j)) (sym (LanesGrew-names 0 js l m lanes))
     ∙ ap (λ ns. doors_of u.set (lane_names l) ns) (sym (InletsGrew-names 0 ks i j inlets)))
@@ -97,7 +97,7 @@ pub drains-add : {u v w : BooksView} {l m n : List LaneView} {i j k : List Inlet
     → LanesGrew 0 (lane_calls_in (plan v) (doors v m j) v.journal.past kind) m n → InletsGrew 0 (inlet_acts_in (doors v m j) kind) j k
     → IsTrue (is_of (actor (plan v) v.journal.past) kind) → Drains u w l n i k
 drains-add {u} {v} {w} {l} {m} {n} {i} {j} {k} {kind} d a lanes inlets acts =
-    let s = doors-same d.same d.lanes d.inlets in
+    let s = doors-same _ _ l m i j d.same d.lanes d.inlets in
     let p : plan v ≡ plan u = ap plan_of d.same.set in
     let e : Entry = record { worker = 0; kind = kind } in
     record {
@@ -116,7 +116,7 @@ drains-add {u} {v} {w} {l} {m} {n} {i} {j} {k} {kind} d a lanes inlets acts =
 
 pub drains-trans : {u v w : BooksView} {l m n : List LaneView} {i j k : List InletView} → Drains u v l m i j → Drains v w m n j k → Drains u w l n i k
 drains-trans {u} {v} {w} {l} {m} {n} {i} {j} {k} d e =
-    let s = doors-same d.same d.lanes d.inlets in
+    let s = doors-same _ _ l m i j d.same d.lanes d.inlets in
     let p : plan v ≡ plan u = ap plan_of d.same.set in
     record {
       behind = e.behind ++ d.behind;

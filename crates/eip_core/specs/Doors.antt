@@ -1,12 +1,16 @@
 -- By which inlet the source of a route is read, and by which lane a target is sent to.
-use Rattle.std.specs.Prelude.{ℕ, List, [], Option, Some, None, IsSome, option_and_then, map, slice_get}
+use Rattle.std.specs.Prelude.{ℕ, ◌≡◌, false, List, [], ◌∷◌, ◌++◌, Option, Some, None, IsSome, codes, map, slice_get}
 use Rattle.eip_uri.specs.Inlets.{inlet_of}
 use Rattle.eip_uri.specs.Printed.{printed}
+use Rattle.eip_uri.specs.declared.uri.Uri.TheVariants as uri
+use Rattle.eip_route.specs.declared.step.Step.{Step}
+use Rattle.eip_route.specs.declared.step.Step.TheVariants as step
 use Rattle.eip_route.specs.declared.route.Route.{Route}
 use Rattle.eip_route.specs.declared.route.RouteSet.{RouteSet}
 use Rattle.eip_frames.specs.declared.request.Target.{Target}
 use Rattle.eip_endpoint.specs.Lanes.{LaneView, first_named}
 use Rattle.eip_endpoint.specs.Inlets.{InletView}
+use Rattle.eip_meaning.specs.Meaning.{steps_of, is_told_route}
 use Rattle.eip_history.specs.Texts.{lane_of}
 use Rattle.eip_history.specs.Rules.{IsSource}
 use Rattle.eip_plan.specs.Plan.{plan_of}
@@ -50,3 +54,23 @@ doors_of set lanes inlets = record {
 -- each source of the set has its inlet
 abbrev pub HasInlets : RouteSet → List (List ℕ) → Type 0
 HasInlets set inlets = (t : ℕ) → IsSource (plan_of set) t → IsSome (inlet_at inlets (slice_get set.routes t))
+
+-- each lane that one of these steps sends to is among lanes of these names
+abbrev pub SendsWithin : List (List ℕ) → List Step → Type 0
+SendsWithin lanes [] = Unit {0}
+SendsWithin lanes (step.To (uri.Lane name) ∷ ss) = IsSome (first_named (codes "lane:" ++ name) lanes) × SendsWithin lanes ss
+SendsWithin lanes (s ∷ ss) = SendsWithin lanes ss
+
+-- each lane that the set sends to is handed in
+abbrev pub HasLanes : RouteSet → List (List ℕ) → Type 0
+HasLanes set lanes = (block : ℕ) → SendsWithin lanes (steps_of set block)
+
+-- no source of the set is to be told how its exchanges end: none reads files that are moved or deleted
+abbrev pub TellsNone : RouteSet → Type 0
+TellsNone set = (t : ℕ) → is_told_route (slice_get set.routes t) ≡ false
+
+-- the set can be run over lanes and inlets of these names
+pub record CanRun (set : RouteSet) (lanes inlets : List (List ℕ)) : Type 0 where
+  pub has_inlets : HasInlets set inlets
+  pub has_lanes : HasLanes set lanes
+  pub tells_none : TellsNone set

@@ -1,5 +1,5 @@
 -- What the entries of a journal say that inlets and lanes did.
-use Rattle.std.specs.Prelude.{ℕ, List, [], ◌∷◌, ◌++◌, Option, Some, None}
+use Rattle.std.specs.Prelude.{ℕ, List, [], ◌∷◌, ◌++◌, Option, Some, None, IsSome, Result, Bool, false, bytes_eq}
 use Rattle.eip_exchange.specs.declared.message.Message.{Message}
 use Rattle.eip_frames.specs.declared.request.Target.{Target}
 use Rattle.eip_frames.specs.declared.request.Request.{Request}
@@ -15,12 +15,14 @@ use Rattle.eip_endpoint.specs.declared.endpoint.Outcome.TheVariants as outcome
 use Rattle.eip_endpoint.specs.declared.source.Refusal.{Refusal}
 use Rattle.eip_endpoint.specs.declared.source.Refusal.TheVariants as refusal
 use Rattle.eip_endpoint.specs.declared.source.Pulled.TheVariants.{Item, Refused, End}
-use Rattle.eip_endpoint.specs.Calls.{call_of}
-use Rattle.eip_endpoint.specs.Lanes.{LaneCall, at_lane}
+use Rattle.eip_endpoint.specs.declared.endpoint.SendFault.{SendFault}
+use Rattle.eip_endpoint.specs.Calls.{call_of, made}
+use Rattle.eip_endpoint.specs.Lanes.{LaneCall, at_lane, first_named}
 use Rattle.eip_endpoint.specs.Inlets.{Act, Gave, Failed, InletAct, acts_at}
 use Rattle.eip_history.specs.Plan.{Plan}
 use Rattle.eip_history.specs.Own.{Past}
 use Rattle.eip_history.specs.Births.{Asked, asked}
+use Rattle.eip_history.specs.Texts.{lane_of}
 use Rattle.eip_core.specs.Doors.{Doors}
 
 -- the cause of a refusal in the words of a source
@@ -81,3 +83,20 @@ lane_calls_in s d past _ = []
 unfoldable pub lane_calls : Plan → Doors → Past → Past → List LaneCall
 lane_calls s d past [] = []
 lane_calls s d past (e ∷ behind) = lane_calls s d past behind ++ lane_calls_in s d (behind ++ past) e.kind
+
+-- ---- one call
+
+-- a send to a lane that is among lanes of these names
+abbrev pub IsSendable : List (List ℕ) → Request → Type 0
+IsSendable lanes (Send t m) = IsSome (first_named (lane_of t) lanes)
+IsSendable lanes _ = ⊥
+
+-- the call that an answer to a send tells of
+abbrev pub calls_sent : List (List ℕ) → Request → Result Unit SendFault → List LaneCall
+calls_sent lanes (Send t m) r = calls_by (first_named (lane_of t) lanes) (made t m r)
+calls_sent lanes _ r = []
+
+-- what stands behind the word is this name
+abbrev pub is_rest : Option (List ℕ) → List ℕ → Bool
+is_rest None name = false
+is_rest (Some rest) name = bytes_eq rest name

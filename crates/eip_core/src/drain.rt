@@ -1,4 +1,4 @@
-ghost use Rattle.std.specs.Prelude.{◌≡◌, ◌≤◌, ◌<◌, None, Some, OnOk, IfOk, IfSome, IfNone, map};
+ghost use Rattle.std.specs.Prelude.{◌≡◌, ◌≤◌, ◌<◌, true, None, Some, OnOk, IfOk, IfSome, IfNone, map};
 ghost use Rattle.eip_endpoint.specs.Lanes.{seen_lane};
 ghost use Rattle.eip_endpoint.specs.Inlets.{seen_inlet};
 ghost use Rattle.eip_history.specs.Own.{turns};
@@ -6,12 +6,14 @@ ghost use Rattle.eip_history.specs.Place.{hands, ready_numbers};
 ghost use Rattle.eip_history.specs.Rules.{IsBelow, first};
 ghost use Rattle.eip_history.specs.Stop.{stop_of};
 ghost use Rattle.eip_books.specs.View.{plan, IsLegalRun};
-ghost use Rattle.eip_core.specs.Doors.{HasInlets};
+ghost use Rattle.eip_books.specs.Outside.{is_among};
+ghost use Rattle.eip_core.specs.Doors.{CanRun};
 ghost use Rattle.eip_core.specs.Drain.{IsStop, Drains, Acts};
 
-use crate::outside::{pull_source, refused};
+use crate::outside::{pull_source, refused, send};
 use crate::registry::Registry;
-use eip_endpoint::{Endpoint, Inlet, Lane, PullFault, Pulled, Source};
+use eip_endpoint::{Endpoint, Inlet, Lane, PullFault, Pulled, SendFault, Source};
+use eip_frames::Answer;
 use eip_hub::{Hub, Inner};
 use eip_ledger::Stop;
 use eip_text::NoMemory;
@@ -23,9 +25,9 @@ fn pull_once(hub: &mut Hub, lanes: &mut [Lane], inlets: &mut [Inlet]) -> Result<
     requires home { hands (plan hub.old) hub.old.journal.past ≡ 0 }
     requires nobody { first (ready_numbers (plan hub.old) hub.old.journal.past) ≡ None }
     requires room { 1 ≤ hub.old.room }
-    requires inlets { HasInlets hub.old.set (map (λ i. i.name) inlets.old) }
+    requires can_run { CanRun hub.old.set (map (λ l. l.name) lanes.old) (map (λ i. i.name) inlets.old) }
     ensures legal { IsLegalRun hub.new }
-    ensures drains { Drains hub.old hub.new (map (seen_lane calls lane_faults) lanes.old) (map (seen_lane calls lane_faults) lanes.new) (map (seen_inlet given left commits inlet_faults) inlets.old) (map (seen_inlet given left commits inlet_faults) inlets.new) }
+    ensures drains { Drains hub.old hub.new (map (seen_lane (λ b. (⟦<dyn Endpoint as Endpoint>⟧ b.vtable).calls b.value) (λ b. (⟦<dyn Endpoint as Endpoint>⟧ b.vtable).lane_faults b.value)) lanes.old) (map (seen_lane (λ b. (⟦<dyn Endpoint as Endpoint>⟧ b.vtable).calls b.value) (λ b. (⟦<dyn Endpoint as Endpoint>⟧ b.vtable).lane_faults b.value)) lanes.new) (map (seen_inlet (λ b. (⟦<dyn Source as Source>⟧ b.vtable).given b.value) (λ b. (⟦<dyn Source as Source>⟧ b.vtable).left b.value) (λ b. (⟦<dyn Source as Source>⟧ b.vtable).commits b.value) (λ b. (⟦<dyn Source as Source>⟧ b.vtable).inlet_faults b.value)) inlets.old) (map (seen_inlet (λ b. (⟦<dyn Source as Source>⟧ b.vtable).given b.value) (λ b. (⟦<dyn Source as Source>⟧ b.vtable).left b.value) (λ b. (⟦<dyn Source as Source>⟧ b.vtable).commits b.value) (λ b. (⟦<dyn Source as Source>⟧ b.vtable).inlet_faults b.value)) inlets.new) }
     ensures acts { OnOk result (Acts hub.old hub.new) }
 {
     let _ = lanes.len();
@@ -42,20 +44,47 @@ fn pull_once(hub: &mut Hub, lanes: &mut [Lane], inlets: &mut [Inlet]) -> Result<
     Ok(())
 }
 
+/// Has the request of the least Ready exchange, which is one of the outside, answered by its lane. The exchange is in hand for
+/// the time of the call, which takes no memory from the hub, so the answer of a call that was made is always entered.
+fn serve(hub: &mut Hub, lanes: &mut [Lane], inlets: &mut [Inlet], number: u64)
+    requires waits { stop_of (plan hub.old) hub.old.journal.turns hub.old.journal.past ≡ None }
+    requires legal { IsLegalRun hub.old }
+    requires home { hands (plan hub.old) hub.old.journal.past ≡ 0 }
+    requires least { first (ready_numbers (plan hub.old) hub.old.journal.past) ≡ Some number }
+    requires known { is_among number hub.old.outside ≡ true }
+    requires room { 1 ≤ hub.old.room }
+    requires can_run { CanRun hub.old.set (map (λ l. l.name) lanes.old) (map (λ i. i.name) inlets.old) }
+    ensures legal { IsLegalRun hub.new }
+    ensures drains { Drains hub.old hub.new (map (seen_lane (λ b. (⟦<dyn Endpoint as Endpoint>⟧ b.vtable).calls b.value) (λ b. (⟦<dyn Endpoint as Endpoint>⟧ b.vtable).lane_faults b.value)) lanes.old) (map (seen_lane (λ b. (⟦<dyn Endpoint as Endpoint>⟧ b.vtable).calls b.value) (λ b. (⟦<dyn Endpoint as Endpoint>⟧ b.vtable).lane_faults b.value)) lanes.new) (map (seen_inlet (λ b. (⟦<dyn Source as Source>⟧ b.vtable).given b.value) (λ b. (⟦<dyn Source as Source>⟧ b.vtable).left b.value) (λ b. (⟦<dyn Source as Source>⟧ b.vtable).commits b.value) (λ b. (⟦<dyn Source as Source>⟧ b.vtable).inlet_faults b.value)) inlets.old) (map (seen_inlet (λ b. (⟦<dyn Source as Source>⟧ b.vtable).given b.value) (λ b. (⟦<dyn Source as Source>⟧ b.vtable).left b.value) (λ b. (⟦<dyn Source as Source>⟧ b.vtable).commits b.value) (λ b. (⟦<dyn Source as Source>⟧ b.vtable).inlet_faults b.value)) inlets.new) }
+    ensures acts { Acts hub.old hub.new }
+{
+    let _ = inlets.len();
+    let Some(ticket) = hub.take(0) else {
+        unreachable!()
+    };
+    match send(lanes, &ticket.request) {
+        Ok(()) => hub.settle(ticket, Answer::Done),
+        Err(SendFault::Failed) => hub.settle(ticket, Answer::SendFailed),
+        Err(SendFault::Exists) => hub.settle(ticket, Answer::Exists),
+        Err(SendFault::NoMemory) => hub.give_up(ticket),
+    }
+}
+
 /// Does what the least Ready exchange asks for, or ends it for want of memory.
 fn run_ready(hub: &mut Hub, lanes: &mut [Lane], inlets: &mut [Inlet], number: u64)
     requires waits { stop_of (plan hub.old) hub.old.journal.turns hub.old.journal.past ≡ None }
     requires legal { IsLegalRun hub.old }
     requires home { hands (plan hub.old) hub.old.journal.past ≡ 0 }
     requires least { first (ready_numbers (plan hub.old) hub.old.journal.past) ≡ Some number }
+    requires can_run { CanRun hub.old.set (map (λ l. l.name) lanes.old) (map (λ i. i.name) inlets.old) }
     requires room { 1 ≤ hub.old.room }
     ensures legal { IsLegalRun hub.new }
-    ensures drains { Drains hub.old hub.new (map (seen_lane calls lane_faults) lanes.old) (map (seen_lane calls lane_faults) lanes.new) (map (seen_inlet given left commits inlet_faults) inlets.old) (map (seen_inlet given left commits inlet_faults) inlets.new) }
+    ensures drains { Drains hub.old hub.new (map (seen_lane (λ b. (⟦<dyn Endpoint as Endpoint>⟧ b.vtable).calls b.value) (λ b. (⟦<dyn Endpoint as Endpoint>⟧ b.vtable).lane_faults b.value)) lanes.old) (map (seen_lane (λ b. (⟦<dyn Endpoint as Endpoint>⟧ b.vtable).calls b.value) (λ b. (⟦<dyn Endpoint as Endpoint>⟧ b.vtable).lane_faults b.value)) lanes.new) (map (seen_inlet (λ b. (⟦<dyn Source as Source>⟧ b.vtable).given b.value) (λ b. (⟦<dyn Source as Source>⟧ b.vtable).left b.value) (λ b. (⟦<dyn Source as Source>⟧ b.vtable).commits b.value) (λ b. (⟦<dyn Source as Source>⟧ b.vtable).inlet_faults b.value)) inlets.old) (map (seen_inlet (λ b. (⟦<dyn Source as Source>⟧ b.vtable).given b.value) (λ b. (⟦<dyn Source as Source>⟧ b.vtable).left b.value) (λ b. (⟦<dyn Source as Source>⟧ b.vtable).commits b.value) (λ b. (⟦<dyn Source as Source>⟧ b.vtable).inlet_faults b.value)) inlets.new) }
     ensures acts { Acts hub.old hub.new }
 {
     match hub.inner(0, number) {
         Ok(Inner::Did) => {}
-        Ok(Inner::Outside) => hub.starve(0, number),
+        Ok(Inner::Outside) => serve(hub, lanes, inlets, number),
         Err(NoMemory) => hub.starve(0, number),
     }
 }
@@ -65,9 +94,9 @@ fn act(hub: &mut Hub, lanes: &mut [Lane], inlets: &mut [Inlet]) -> Result<(), No
     requires waits { stop_of (plan hub.old) hub.old.journal.turns hub.old.journal.past ≡ None }
     requires legal { IsLegalRun hub.old }
     requires home { hands (plan hub.old) hub.old.journal.past ≡ 0 }
-    requires inlets { HasInlets hub.old.set (map (λ i. i.name) inlets.old) }
+    requires can_run { CanRun hub.old.set (map (λ l. l.name) lanes.old) (map (λ i. i.name) inlets.old) }
     ensures legal { IsLegalRun hub.new }
-    ensures drains { Drains hub.old hub.new (map (seen_lane calls lane_faults) lanes.old) (map (seen_lane calls lane_faults) lanes.new) (map (seen_inlet given left commits inlet_faults) inlets.old) (map (seen_inlet given left commits inlet_faults) inlets.new) }
+    ensures drains { Drains hub.old hub.new (map (seen_lane (λ b. (⟦<dyn Endpoint as Endpoint>⟧ b.vtable).calls b.value) (λ b. (⟦<dyn Endpoint as Endpoint>⟧ b.vtable).lane_faults b.value)) lanes.old) (map (seen_lane (λ b. (⟦<dyn Endpoint as Endpoint>⟧ b.vtable).calls b.value) (λ b. (⟦<dyn Endpoint as Endpoint>⟧ b.vtable).lane_faults b.value)) lanes.new) (map (seen_inlet (λ b. (⟦<dyn Source as Source>⟧ b.vtable).given b.value) (λ b. (⟦<dyn Source as Source>⟧ b.vtable).left b.value) (λ b. (⟦<dyn Source as Source>⟧ b.vtable).commits b.value) (λ b. (⟦<dyn Source as Source>⟧ b.vtable).inlet_faults b.value)) inlets.old) (map (seen_inlet (λ b. (⟦<dyn Source as Source>⟧ b.vtable).given b.value) (λ b. (⟦<dyn Source as Source>⟧ b.vtable).left b.value) (λ b. (⟦<dyn Source as Source>⟧ b.vtable).commits b.value) (λ b. (⟦<dyn Source as Source>⟧ b.vtable).inlet_faults b.value)) inlets.new) }
     ensures acts { OnOk result (Acts hub.old hub.new) }
 {
     hub.reserve()?;
@@ -87,9 +116,9 @@ fn take_turn(
     inlets: &mut [Inlet],
 ) -> Result<Option<Stop>, NoMemory>
     requires home { hands (plan hub.old) hub.old.journal.past ≡ 0 }
-    requires inlets { HasInlets hub.old.set (map (λ i. i.name) inlets.old) }
+    requires can_run { CanRun hub.old.set (map (λ l. l.name) lanes.old) (map (λ i. i.name) inlets.old) }
     ensures legal { IsLegalRun hub.new }
-    ensures drains { Drains hub.old hub.new (map (seen_lane calls lane_faults) lanes.old) (map (seen_lane calls lane_faults) lanes.new) (map (seen_inlet given left commits inlet_faults) inlets.old) (map (seen_inlet given left commits inlet_faults) inlets.new) }
+    ensures drains { Drains hub.old hub.new (map (seen_lane (λ b. (⟦<dyn Endpoint as Endpoint>⟧ b.vtable).calls b.value) (λ b. (⟦<dyn Endpoint as Endpoint>⟧ b.vtable).lane_faults b.value)) lanes.old) (map (seen_lane (λ b. (⟦<dyn Endpoint as Endpoint>⟧ b.vtable).calls b.value) (λ b. (⟦<dyn Endpoint as Endpoint>⟧ b.vtable).lane_faults b.value)) lanes.new) (map (seen_inlet (λ b. (⟦<dyn Source as Source>⟧ b.vtable).given b.value) (λ b. (⟦<dyn Source as Source>⟧ b.vtable).left b.value) (λ b. (⟦<dyn Source as Source>⟧ b.vtable).commits b.value) (λ b. (⟦<dyn Source as Source>⟧ b.vtable).inlet_faults b.value)) inlets.old) (map (seen_inlet (λ b. (⟦<dyn Source as Source>⟧ b.vtable).given b.value) (λ b. (⟦<dyn Source as Source>⟧ b.vtable).left b.value) (λ b. (⟦<dyn Source as Source>⟧ b.vtable).commits b.value) (λ b. (⟦<dyn Source as Source>⟧ b.vtable).inlet_faults b.value)) inlets.new) }
     ensures home { IfOk result (λ s. IfNone s (hands (plan hub.new) hub.new.journal.past ≡ 0)) }
     ensures turn { IfOk result (λ s. IfNone s (turns hub.old.journal.past < turns hub.new.journal.past)) }
     ensures stop { IfOk result (λ s. IfSome s (λ t. stop_of (plan hub.new) hub.new.journal.turns hub.new.journal.past ≡ Some t)) }
@@ -115,10 +144,10 @@ pub fn drain_alone(
     _registry: &Registry,
 ) -> Stop
     requires home { hands (plan hub.old) hub.old.journal.past ≡ 0 }
-    requires inlets { HasInlets hub.old.set (map (λ i. i.name) inlets.old) }
+    requires can_run { CanRun hub.old.set (map (λ l. l.name) lanes.old) (map (λ i. i.name) inlets.old) }
     ensures stop { IsStop hub.new result }
     ensures legal { IsLegalRun hub.new }
-    ensures drains { Drains hub.old hub.new (map (seen_lane calls lane_faults) lanes.old) (map (seen_lane calls lane_faults) lanes.new) (map (seen_inlet given left commits inlet_faults) inlets.old) (map (seen_inlet given left commits inlet_faults) inlets.new) }
+    ensures drains { Drains hub.old hub.new (map (seen_lane (λ b. (⟦<dyn Endpoint as Endpoint>⟧ b.vtable).calls b.value) (λ b. (⟦<dyn Endpoint as Endpoint>⟧ b.vtable).lane_faults b.value)) lanes.old) (map (seen_lane (λ b. (⟦<dyn Endpoint as Endpoint>⟧ b.vtable).calls b.value) (λ b. (⟦<dyn Endpoint as Endpoint>⟧ b.vtable).lane_faults b.value)) lanes.new) (map (seen_inlet (λ b. (⟦<dyn Source as Source>⟧ b.vtable).given b.value) (λ b. (⟦<dyn Source as Source>⟧ b.vtable).left b.value) (λ b. (⟦<dyn Source as Source>⟧ b.vtable).commits b.value) (λ b. (⟦<dyn Source as Source>⟧ b.vtable).inlet_faults b.value)) inlets.old) (map (seen_inlet (λ b. (⟦<dyn Source as Source>⟧ b.vtable).given b.value) (λ b. (⟦<dyn Source as Source>⟧ b.vtable).left b.value) (λ b. (⟦<dyn Source as Source>⟧ b.vtable).commits b.value) (λ b. (⟦<dyn Source as Source>⟧ b.vtable).inlet_faults b.value)) inlets.new) }
 {
     loop {
         match take_turn(hub, lanes, inlets) {

@@ -69,32 +69,48 @@ fn count_ends(hub: &Hub) -> Ends
     ends
 }
 
-/// Whether the entry accepts an item.
-fn accepts(entry: &Entry) -> bool
-    ensures { result ≡ accepts entry.now.kind }
+/// 1 for an entry that accepts an item.
+fn accepted_by(entry: &Entry) -> u64
+    ensures value { result ≡ accepted_in entry.now.kind }
+    ensures small { result ≤ 1 }
 {
-    matches!(entry.kind, Kind::Accept { .. })
-}
-
-/// Whether the entry refuses an item.
-fn refuses(entry: &Entry) -> bool
-    ensures { result ≡ refuses entry.now.kind }
-{
-    matches!(entry.kind, Kind::Refuse { .. })
+    match &entry.kind {
+        Kind::Accept { .. } => 1,
+        _ => 0,
+    }
 }
 
 /// How many entries accept an item.
 fn count_accepted(entries: &[Entry]) -> u64
-    ensures { result ≡ count_by (λ e. accepts e.kind) entries.now }
+    ensures { result ≡ accepted_count (reverse entries.now) }
 {
-    entries.iter().filter(|entry| accepts(*entry)).count() as u64
+    let mut count = 0;
+    for entry in entries {
+        count += accepted_by(entry);
+    }
+    count
+}
+
+/// 1 for an entry that refuses an item.
+fn refused_by(entry: &Entry) -> u64
+    ensures value { result ≡ refused_in entry.now.kind }
+    ensures small { result ≤ 1 }
+{
+    match &entry.kind {
+        Kind::Refuse { .. } => 1,
+        _ => 0,
+    }
 }
 
 /// How many entries refuse an item.
 fn count_refused(entries: &[Entry]) -> u64
-    ensures { result ≡ count_by (λ e. refuses e.kind) entries.now }
+    ensures { result ≡ refused_count (reverse entries.now) }
 {
-    entries.iter().filter(|entry| refuses(*entry)).count() as u64
+    let mut count = 0;
+    for entry in entries {
+        count += refused_by(entry);
+    }
+    count
 }
 
 /// The counts of a run, without memory.

@@ -1,0 +1,292 @@
+-- One act of the plain schedule, by the entries that it makes.
+use Rattle.std.proofs.Common.{◌≡◌, ◌≢◌, ℕ, ◌+◌, ◌<◌, ◌≤◌, ◌==◌, Bool, true, false, IsTrue, List, [], ◌∷◌, ◌++◌, Option, Some, None, map, refl, sym, ap, subst, ◌∙◌, arith, eq-eqb}
+use Rattle.std.specs.Option.{IsSome}
+use Rattle.std.specs.List.{slice_get}
+use Rattle.eip_route.specs.declared.route.RouteSet.{RouteSet}
+use Rattle.eip_frames.specs.declared.request.Request.{Request}
+use Rattle.eip_frames.specs.declared.request.Request.TheVariants as request
+use Rattle.eip_frames.specs.declared.answer.Answer.{Answer as Reply}
+use Rattle.eip_frames.specs.Fits.{is_outside}
+use Rattle.eip_ledger.specs.declared.entry.Entry.{Entry}
+use Rattle.eip_ledger.specs.declared.entry.Kind.{Kind}
+use Rattle.eip_ledger.specs.declared.entry.Kind.TheVariants.{Pull, Accept, Refuse, SourceEnd, SourceFault, Take, Answer, Starve, Return}
+use Rattle.eip_ledger.specs.declared.place.Place.TheVariants as place_is
+use Rattle.eip_endpoint.specs.Lanes.{LaneView, LaneCall, LanesGrew}
+use Rattle.eip_exchange.specs.declared.message.Message.{Message}
+use Rattle.eip_ledger.specs.declared.entry.Refused.{Refused as Cause}
+use Rattle.eip_endpoint.specs.declared.source.Pulled.TheVariants.{Item, Refused, End}
+use Rattle.eip_endpoint.specs.Inlets.{InletView, InletAct, Act, Gave, Failed, InletsGrew}
+use Rattle.eip_endpoint.proofs.LaneLaws.{LanesGrew-none}
+use Rattle.eip_endpoint.proofs.InletLaws.{InletsGrew-none}
+use Rattle.eip_history.specs.Plan.{Plan}
+use Rattle.eip_history.specs.Own.{Past, Out, SourceState, source_state, concerns, moved, is_out}
+use Rattle.eip_history.specs.Births.{Asked, asked}
+use Rattle.eip_history.specs.Place.{place, hands, ready_numbers}
+use Rattle.eip_history.specs.Rules.{IsLegal, May, IsSource, IsBelow, first, unfinished, outside_asked}
+use Rattle.eip_history.specs.Stop.{stop_of, is_of, actor, TheSource, TheExchange, Actor}
+use Rattle.eip_history.proofs.Limit.{source-after, not-same}
+use Rattle.eip_history.proofs.Allowed.{waits-below}
+use Rattle.eip_history.proofs.Unborn.{legal-may}
+use Rattle.eip_plan.specs.Plan.{plan_of}
+use Rattle.eip_plan.proofs.Laws.{plan-laws, plan-simple}
+use Rattle.eip_books.specs.View.{BooksView, plan, IsLegalRun, IsSameRun, Adds, AddsNone}
+use Rattle.eip_books.specs.declared.books.Inner.{Inner}
+use Rattle.eip_books.specs.declared.books.Inner.TheVariants.{Did, Outside}
+use Rattle.eip_books.specs.Places.{inner_of}
+use Rattle.eip_core.specs.Doors.{Doors, doors_of, lane_names, inlet_names, inlet_at, uri_at, HasInlets}
+use Rattle.eip_core.specs.Outside.{acts_by, acts_of, refusal_of, inlet_acts_in, lane_calls_in, calls_asked, calls_for}
+use Rattle.eip_core.specs.Drain.{Drains, Acts, Progresses, doors}
+use Rattle.eip_core.proofs.Actors.{actor-ready, actor-source, actor-out, unfinished-first, first-pullable}
+use Rattle.eip_core.proofs.Progress.{progress-one, progress-trans}
+use Rattle.eip_core.proofs.Quiet.{none-startable, next-source}
+use Rattle.eip_core.proofs.Home.{home-answer, home-starve, hand-pull, back-pull, ready-place}
+use Rattle.eip_core.proofs.Compose.{drains-refl, drains-add, drains-none}
+
+-- what holds of the set, the limit and the past stands behind a call that made no entry
+pub along : {u v : BooksView} (P : RouteSet → ℕ → ℕ → Past → Type 0) → AddsNone u v → P u.set u.journal.workers u.journal.turns u.journal.past → P v.set v.journal.workers v.journal.turns v.journal.past
+along P a h = rw (a.same.set, a.same.workers, a.same.turns, a.past) h
+
+-- a run that goes on, with no hand out
+pub record Rests (v : BooksView) : Type 0 where
+  pub legal : IsLegalRun v
+  pub home : hands (plan v) v.journal.past ≡ 0
+  pub waits : stop_of (plan v) v.journal.turns v.journal.past ≡ None
+
+pub rests-none : {u v : BooksView} → AddsNone u v → Rests u → Rests v
+rests-none a r = record {
+  legal = along (λ s w l p. IsLegal (plan_of s) w l p) a r.legal;
+  home = along (λ s w l p. hands (plan_of s) p ≡ 0) a r.home;
+  waits = along (λ s w l p. stop_of (plan_of s) l p ≡ None) a r.waits;
+}
+
+pub rests-below : (v : BooksView) → Rests v → IsBelow (plan v) v.journal.turns v.journal.past
+rests-below v r = (waits-below (plan v) v.journal.workers v.journal.turns v.journal.past r.legal r.home r.waits).1
+
+-- ---- a pull and what came of it
+
+-- with nobody Ready some source may be pulled
+pub pullable : (v : BooksView) → Rests v → first (ready_numbers (plan v) v.journal.past) ≡ None → (t : ℕ) × May (plan v) v.journal.turns v.journal.past 0 (Pull t)
+pullable v r nobody =
+    let n = next-source (plan v) (plan-laws v.set) (plan-simple v.set) v.journal.workers v.journal.turns v.journal.past r.legal r.home r.waits nobody in
+    (n.0, first-pullable (plan v) v.journal.turns 0 v.journal.past n.0 r.home (rests-below v r) n.1)
+
+-- the source that was pulled
+pub record Pulled (u v : BooksView) (t : ℕ) : Type 0 where
+  pub rests : Rests u
+  pub nobody : first (ready_numbers (plan u) u.journal.past) ≡ None
+  pub may : May (plan u) u.journal.turns u.journal.past 0 (Pull t)
+  pub least : (r : ℕ) → r < t → May (plan u) u.journal.turns u.journal.past 0 (Pull r) → ⊥
+  pub adds : Adds u v 0 (Pull t)
+  pub legal : IsLegalRun v
+
+-- behind a Pull the plan is the same and the past has one entry more
+pulled-past : {u v : BooksView} {t : ℕ} (P : Plan → ℕ → ℕ → Past → Type 0) → Pulled u v t → P (plan v) v.journal.workers v.journal.turns v.journal.past
+    → P (plan u) u.journal.workers u.journal.turns ((record { worker = 0; kind = Pull t }) ∷ u.journal.past)
+pulled-past {u} {v} {t} P p h =
+    subst (λ (q : Past). P (plan u) u.journal.workers u.journal.turns q) p.adds.past
+    (subst (λ (n : ℕ). P (plan u) u.journal.workers n v.journal.past) p.adds.same.turns
+    (subst (λ (n : ℕ). P (plan u) n v.journal.turns v.journal.past) p.adds.same.workers
+    (subst (λ (s : RouteSet). P (plan_of s) v.journal.workers v.journal.turns v.journal.past) p.adds.same.set h)))
+
+pulled-back : {u v : BooksView} {t : ℕ} (P : Plan → Past → Type 0) → Pulled u v t → P (plan u) ((record { worker = 0; kind = Pull t }) ∷ u.journal.past) → P (plan v) v.journal.past
+pulled-back {u} {v} {t} P p h =
+    subst (λ (s : RouteSet). P (plan_of s) v.journal.past) (sym p.adds.same.set) (subst (λ (q : Past). P (plan u) q) (sym p.adds.past) h)
+
+-- the pulled source is out, in the hand of worker 0
+pub pulled-out : {u v : BooksView} {t : ℕ} → Pulled u v t → (IsSource (plan v) t) × (source_state t v.journal.past ≡ Out 0)
+pulled-out {u} {v} {t} p =
+    pulled-back (λ s q. (IsSource s t) × (source_state t q ≡ Out 0)) p
+    (p.may.0, source-after 0 t (Pull t) u.journal.past ∙ moved_here)
+  where
+    moved_here : moved 0 t (Pull t) (source_state t u.journal.past) ≡ Out 0
+    moved_here = rw (eq-eqb t t refl) refl
+
+first-actor : {u v : BooksView} {t : ℕ} → Pulled u v t → actor (plan u) u.journal.past ≡ TheSource t
+first-actor {u} {v} {t} p =
+    actor-source (plan u) u.journal.past t p.rests.home p.nobody (none-startable (plan u) (plan-simple u.set) u.journal.past)
+    (unfinished-first (plan u) u.journal.turns 0 u.journal.past t p.rests.home p.may p.least)
+
+pulled-legal : {u v : BooksView} {t : ℕ} → Pulled u v t → IsLegal (plan u) u.journal.workers u.journal.turns ((record { worker = 0; kind = Pull t }) ∷ u.journal.past)
+pulled-legal p = pulled-past (λ s w l q. IsLegal s w l q) p p.legal
+
+second-actor : {u v : BooksView} {t : ℕ} → Pulled u v t → actor (plan v) v.journal.past ≡ TheSource t
+second-actor {u} {v} {t} p =
+    pulled-back (λ s q. actor s q ≡ TheSource t) p
+    (actor-out (plan u) (plan-laws u.set) u.journal.workers u.journal.turns 0 u.journal.past t (pulled-legal p) p.rests.home p.may.0)
+
+-- the drain behind a Pull
+pub drains-pull : {u v : BooksView} {t : ℕ} (l : List LaneView) (i : List InletView) → Pulled u v t → Drains u v l l i i
+drains-pull {u} {v} {t} l i p =
+    drains-add (drains-refl u l i) p.adds (LanesGrew-none 0 l) (InletsGrew-none 0 i)
+    (subst (λ (a : Actor). IsTrue (is_of a (Pull t))) (sym (first-actor p)) (eq-eqb t t refl))
+
+-- an entry that says what came of a pull of source t
+pub record EndsPull (t : ℕ) (k : Kind) (acts : List Act) : Type 0 where
+  pub of_source : is_of (TheSource t) k ≡ true
+  pub calls : (s : Plan) (d : Doors) (past : Past) → lane_calls_in s d past k ≡ []
+  pub acts_are : (d : Doors) → inlet_acts_in d k ≡ acts_of d t acts
+  pub nobody : (x : ℕ) → concerns x k ≡ false
+  pub others : (u : ℕ) (was : SourceState) → u ≢ t → moved 0 u k was ≡ was
+  pub back : (was : SourceState) → is_out (moved 0 t k was) ≡ false
+  pub stays : (x : ℕ) → k ≢ Return x
+
+-- the drain behind a pull and what came of it
+pub drains-pulled : {u v w : BooksView} {t : ℕ} (k : Kind) (acts : List Act) (l : List LaneView) (i j : List InletView) (names : List (List ℕ)) → Pulled u v t → Adds v w 0 k
+    → EndsPull t k acts → inlet_names i ≡ names
+    → InletsGrew 0 (acts_by (inlet_at names (slice_get v.set.routes t)) (uri_at (slice_get v.set.routes t)) acts) i j → Drains u w l l i j
+drains-pulled {u} {v} {w} {t} k acts l i j names p a ends same grew =
+    drains-add (drains-pull l i p) a
+    (subst (λ js. LanesGrew 0 js l l) (sym (ends.calls (plan v) (doors v l i) v.journal.past)) (LanesGrew-none 0 l))
+    (subst (λ js. InletsGrew 0 js i j) (sym (ends.acts_are (doors v l i)))
+    (subst (λ ns. InletsGrew 0 (acts_by (inlet_at ns (slice_get v.set.routes t)) (uri_at (slice_get v.set.routes t)) acts) i j) (sym same) grew))
+    (subst (λ (b : Actor). IsTrue (is_of b k)) (sym (second-actor p)) ends.of_source)
+
+-- a pull and what came of it is an act
+pub acts-pulled : {u v w : BooksView} {t : ℕ} (k : Kind) (acts : List Act) → Pulled u v t → Adds v w 0 k → IsLegalRun w → EndsPull t k acts → Acts u w
+acts-pulled {u} {v} {w} {t} k acts p a legal ends =
+    let e : Entry = record { worker = 0; kind = Pull t } in
+    let f : Entry = record { worker = 0; kind = k } in
+    let out = pulled-out p in
+    let here : IsLegal (plan v) v.journal.workers v.journal.turns (f ∷ v.journal.past) =
+    subst (λ (q : Past). IsLegal (plan v) v.journal.workers v.journal.turns q) a.past
+    (subst (λ (n : ℕ). IsLegal (plan v) v.journal.workers n w.journal.past) a.same.turns
+    (subst (λ (n : ℕ). IsLegal (plan v) n w.journal.turns w.journal.past) a.same.workers
+    (subst (λ (s : RouteSet). IsLegal (plan_of s) w.journal.workers w.journal.turns w.journal.past) a.same.set legal))) in
+    let one : hands (plan v) v.journal.past ≤ 1 = pulled-back (λ s q. hands s q ≤ 1) p
+    (hand-pull (plan u) u.journal.workers u.journal.turns 0 u.journal.past t (pulled-legal p) p.rests.home p.may.0) in
+    let home = back-pull (plan v) v.journal.workers v.journal.turns 0 v.journal.past t k here one out.0 out.1 ends.nobody ends.others (ends.back (source_state t v.journal.past)) in
+    let first_step = pulled-back (λ s q. Progresses s u.journal.past q) p
+    (progress-one (plan u) (plan-laws u.set) u.journal.workers u.journal.turns 0 (Pull t) u.journal.past (pulled-legal p) (λ x h. cc h)) in
+    let second_step = progress-one (plan v) (plan-laws v.set) v.journal.workers v.journal.turns 0 k v.journal.past here ends.stays in
+    record {
+      home = rw (a.same.set, a.past) home;
+      progress = rw (a.same.set, a.past) (progress-trans first_step second_step);
+    }
+
+-- what came of a pull, by kind
+pub ends-accept : (t : ℕ) (item : List ℕ) (m : Message) → EndsPull t (Accept t item m) (Gave (Item item m) ∷ [])
+ends-accept t item m = record {
+  of_source = eq-eqb t t refl;
+  calls = λ s d past. refl;
+  acts_are = λ d. refl;
+  nobody = λ x. refl;
+  others = λ u was ne. rw (not-same u t ne) refl;
+  back = λ was. rw (eq-eqb t t refl) refl;
+  stays = λ x h. cc h;
+}
+
+pub ends-refuse : (t : ℕ) (item : List ℕ) (c : Cause) → EndsPull t (Refuse t item c) (Gave (Refused item (refusal_of c)) ∷ [])
+ends-refuse t item c = record {
+  of_source = eq-eqb t t refl;
+  calls = λ s d past. refl;
+  acts_are = λ d. refl;
+  nobody = λ x. refl;
+  others = λ u was ne. rw (not-same u t ne) refl;
+  back = λ was. rw (eq-eqb t t refl) refl;
+  stays = λ x h. cc h;
+}
+
+pub ends-source_end : (t : ℕ) → EndsPull t (SourceEnd t) (Gave End ∷ [])
+ends-source_end t = record {
+  of_source = eq-eqb t t refl;
+  calls = λ s d past. refl;
+  acts_are = λ d. refl;
+  nobody = λ x. refl;
+  others = λ u was ne. rw (not-same u t ne) refl;
+  back = λ was. rw (eq-eqb t t refl) refl;
+  stays = λ x h. cc h;
+}
+
+pub ends-source_fault : (t : ℕ) → EndsPull t (SourceFault t) (Failed ∷ [])
+ends-source_fault t = record {
+  of_source = eq-eqb t t refl;
+  calls = λ s d past. refl;
+  acts_are = λ d. refl;
+  nobody = λ x. refl;
+  others = λ u was ne. rw (not-same u t ne) refl;
+  back = λ was. rw (eq-eqb t t refl) refl;
+  stays = λ x h. cc h;
+}
+
+-- the names of inlets, seen or not
+pub seen-names : {L : Type 0} (f : L → InletView) (name : L → List ℕ) (ls : List L) → ((x : L) → (f x).name ≡ name x) → inlet_names (map f ls) ≡ map name ls
+seen-names f name [] h = refl
+seen-names f name (x ∷ ls) h = rw (h x, seen-names f name ls h) refl
+
+-- a pull that found no memory is no act
+pub no-acts : (o : Option ℕ) (u : List ℕ) → acts_by o u [] ≡ []
+no-acts None u = refl
+no-acts (Some k) u = refl
+
+-- ---- an exchange that is answered by the hub, or starved
+
+-- the least Ready exchange of a run that goes on
+pub record Chosen (v : BooksView) (x : ℕ) : Type 0 where
+  pub rests : Rests v
+  pub least : first (ready_numbers (plan v) v.journal.past) ≡ Some x
+
+pub chosen-none : {u v : BooksView} {x : ℕ} → AddsNone u v → Chosen u x → Chosen v x
+chosen-none {u} {v} {x} a c = record { rests = rests-none a c.rests; least = along (λ s w l p. first (ready_numbers (plan_of s) p) ≡ Some x) a c.least }
+
+pub chosen-ready : {v : BooksView} {x : ℕ} → Chosen v x → place (plan v) v.journal.past x ≡ Some place_is.Ready
+chosen-ready {v} {x} c = ready-place (plan v) v.journal.past x c.least
+
+pub chosen-acts : {v : BooksView} {x : ℕ} (k : Kind) → Chosen v x → is_of (TheExchange x) k ≡ true → IsTrue (is_of (actor (plan v) v.journal.past) k)
+chosen-acts {v} {x} k c e = subst (λ (b : Actor). IsTrue (is_of b k)) (sym (actor-ready (plan v) v.journal.past x c.rests.home c.least)) e
+
+-- a legal past behind one entry, in the words before it
+pub added-legal : {u v : BooksView} {n : ℕ} {k : Kind} → Adds u v n k → IsLegalRun v → IsLegal (plan u) u.journal.workers u.journal.turns ((record { worker = n; kind = k }) ∷ u.journal.past)
+added-legal {u} {v} {n} {k} a legal =
+    subst (λ (q : Past). IsLegal (plan u) u.journal.workers u.journal.turns q) a.past
+    (subst (λ (m : ℕ). IsLegal (plan u) u.journal.workers m v.journal.past) a.same.turns
+    (subst (λ (m : ℕ). IsLegal (plan u) m v.journal.turns v.journal.past) a.same.workers
+    (subst (λ (s : RouteSet). IsLegal (plan_of s) v.journal.workers v.journal.turns v.journal.past) a.same.set legal)))
+
+-- an answer that no lane gave is no call
+pub no-calls : (d : Doors) (o : Option Asked) (a : Reply) → outside_asked o ≡ false → calls_asked d o a ≡ []
+no-calls d None a h = refl
+no-calls d (Some k) a h = by_request k.request h
+  where
+    by_request : (q : Request) → is_outside q ≡ false → calls_for d q a ≡ []
+    by_request (request.Send t m) g = absurd (cc g)
+    by_request _ g = refl
+
+pub not-outside : (b : Bool) → Did ≡ inner_of b → b ≡ false
+not-outside true h = absurd (cc h)
+not-outside false h = refl
+
+pub drains-inner : {u v : BooksView} {x : ℕ} (a : Reply) (l : List LaneView) (i : List InletView) → Chosen u x → Adds u v 0 (Answer x a) → outside_asked (asked (plan u) u.journal.past x) ≡ false → Drains u v l l i i
+drains-inner {u} {v} {x} a l i c adds inner =
+    drains-add (drains-refl u l i) adds
+    (subst (λ js. LanesGrew 0 js l l) (sym (no-calls (doors u l i) (asked (plan u) u.journal.past x) a inner)) (LanesGrew-none 0 l))
+    (InletsGrew-none 0 i) (chosen-acts (Answer x a) c (eq-eqb x x refl))
+
+pub acts-inner : {u v : BooksView} {x : ℕ} (a : Reply) → Chosen u x → Adds u v 0 (Answer x a) → IsLegalRun v → Acts u v
+acts-inner {u} {v} {x} a c adds legal =
+    let here = added-legal adds legal in
+    record {
+      home = rw (adds.same.set, adds.past) (home-answer (plan u) u.journal.workers u.journal.turns 0 u.journal.past x a place_is.Ready here c.rests.home (chosen-ready c));
+      progress = rw (adds.same.set, adds.past)
+          (progress-one (plan u) (plan-laws u.set) u.journal.workers u.journal.turns 0 (Answer x a) u.journal.past here (λ y h. cc h));
+    }
+
+pub drains-starved : {u v w : BooksView} {x : ℕ} (l : List LaneView) (i : List InletView) → Chosen u x → AddsNone u v → Adds v w 0 (Starve x) → Drains u w l l i i
+drains-starved {u} {v} {w} {x} l i c none adds =
+    drains-add (drains-none (drains-refl u l i) none) adds (LanesGrew-none 0 l) (InletsGrew-none 0 i)
+    (chosen-acts (Starve x) (chosen-none none c) (eq-eqb x x refl))
+
+pub acts-starved : {u v w : BooksView} {x : ℕ} → Chosen u x → AddsNone u v → Adds v w 0 (Starve x) → IsLegalRun w → Acts u w
+acts-starved {u} {v} {w} {x} c none adds legal =
+    let here = added-legal adds legal in
+    let chosen = chosen-none none c in
+    let progress : Progresses (plan v) v.journal.past ((record { worker = 0; kind = Starve x }) ∷ v.journal.past) =
+    progress-one (plan v) (plan-laws v.set) v.journal.workers v.journal.turns 0 (Starve x) v.journal.past here (λ y h. cc h) in
+    let home = home-starve (plan v) v.journal.workers v.journal.turns 0 v.journal.past x place_is.Ready here chosen.rests.home (chosen-ready chosen) in
+    record {
+      home = rw (adds.same.set, adds.past) home;
+      progress = rw (adds.same.set, adds.past) (subst (λ (q : Past). Progresses (plan v) q ((record { worker = 0; kind = Starve x }) ∷ v.journal.past)) none.past progress);
+    }
+
+-- an act behind a call that made no entry
+pub acts-none : {u v w : BooksView} → AddsNone u v → Acts v w → Acts u w
+acts-none {u} {v} {w} a h = record { home = h.home; progress = subst (λ (q : Past). Progresses (plan w) q w.journal.past) a.past h.progress }

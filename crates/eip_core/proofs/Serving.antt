@@ -1,0 +1,246 @@
+-- An exchange that is served by a lane: it is taken in hand, a call is made, and the answer is entered.
+use Rattle.std.proofs.Common.{◌≡◌, ◌≢◌, ℕ, zero, suc, ◌+◌, ◌<◌, ◌≤◌, ◌==◌, ◌||◌, Bool, true, false, IsTrue, cond, List, [], ◌∷◌, ◌++◌, Option, Some, None, map, filter, Result, Ok, Err, refl, sym, ap, subst, ◌∙◌, ◌⊎◌, inl, inr, arith, eq-eqb, nat_lt}
+use Rattle.std.specs.List.{slice_get}
+use Rattle.std.proofs.lemmas.Bool.{cases_Bool, ltb-true, ltb-false}
+use Rattle.std.proofs.lemmas.List.{append-nil}
+use Rattle.eip_exchange.specs.declared.birth.Birth.{Birth}
+use Rattle.eip_route.specs.declared.route.RouteSet.{RouteSet}
+use Rattle.eip_frames.specs.declared.request.Request.{Request}
+use Rattle.eip_frames.specs.declared.request.Request.TheVariants as request
+use Rattle.eip_frames.specs.declared.answer.Answer.{Answer as Reply}
+use Rattle.eip_frames.specs.declared.answer.Answer.TheVariants as reply
+use Rattle.eip_frames.specs.Fits.{is_outside}
+use Rattle.eip_ledger.specs.declared.entry.Entry.{Entry}
+use Rattle.eip_ledger.specs.declared.entry.Kind.{Kind}
+use Rattle.eip_ledger.specs.declared.entry.Kind.TheVariants.{Take, Answer, Starve}
+use Rattle.eip_ledger.specs.declared.place.Place.TheVariants as place_is
+use Rattle.eip_endpoint.specs.declared.endpoint.SendFault.{SendFault}
+use Rattle.eip_endpoint.specs.declared.endpoint.SendFault.TheVariants as fault
+use Rattle.eip_endpoint.specs.Lanes.{LaneView, LaneCall, LanesGrew, first_named}
+use Rattle.eip_endpoint.specs.Inlets.{InletView, InletsGrew}
+use Rattle.eip_endpoint.proofs.LaneLaws.{LanesGrew-none}
+use Rattle.eip_endpoint.proofs.InletLaws.{InletsGrew-none}
+use Rattle.eip_history.specs.Plan.{Plan}
+use Rattle.eip_history.specs.Own.{Past, numbered}
+use Rattle.eip_history.specs.Births.{births, Asked, asked}
+use Rattle.eip_history.specs.Place.{place, place_of, hands, is_ready, ready_numbers, numbers_at, number_of}
+use Rattle.eip_history.specs.Rules.{IsLegal, first}
+use Rattle.eip_history.specs.Stop.{is_of, actor, TheExchange, Actor}
+use Rattle.eip_history.specs.Tables.{AreNumberedFrom, put_in, without}
+use Rattle.eip_history.specs.Texts.{lane_of}
+use Rattle.eip_history.proofs.Lists.{numbered-at}
+use Rattle.eip_history.proofs.Told.{births-numbered}
+use Rattle.eip_history.proofs.Unborn.{place-born}
+use Rattle.eip_history.proofs.Parts.{numbered-number}
+use Rattle.eip_plan.specs.Plan.{plan_of}
+use Rattle.eip_plan.proofs.Laws.{plan-laws}
+use Rattle.eip_books.specs.View.{BooksView, plan, IsLegalRun, Adds}
+use Rattle.eip_books.specs.Outside.{is_among, with_number, IsAsked}
+use Rattle.eip_core.specs.Doors.{Doors, doors_of, lane_names, inlet_names, HasLanes, TellsNone}
+use Rattle.eip_core.specs.Outside.{calls_by, calls_for, calls_asked, calls_sent, lane_calls_in, IsSendable}
+use Rattle.eip_core.specs.Drain.{Drains, Acts, Progresses, doors}
+use Rattle.eip_core.proofs.Actors.{actor-taken}
+use Rattle.eip_core.proofs.Progress.{progress-one, progress-trans}
+use Rattle.eip_core.proofs.Home.{hand-take, back-answer, back-starve}
+use Rattle.eip_core.proofs.Compose.{drains-refl, drains-add, drains-still}
+use Rattle.eip_core.proofs.Sends.{asked-sendable}
+use Rattle.eip_core.proofs.Acts.{Rests, Chosen, chosen-ready, chosen-acts, added-legal}
+
+-- ---- which exchange is taken
+
+among-put : (x : ℕ) (ys : List ℕ) → is_among x (put_in x ys) ≡ true
+among-put x [] = rw (eq-eqb x x refl) refl
+among-put x (y ∷ ys) = by_test (cases_Bool (nat_lt x y)) (among-put x ys)
+  where
+    by_test : (nat_lt x y ≡ true) ⊎ (nat_lt x y ≡ false) → is_among x (put_in x ys) ≡ true → is_among x (put_in x (y ∷ ys)) ≡ true
+    by_test (inl t) later = rw (t, eq-eqb x x refl) refl
+    by_test (inr f) later = rw f (by_head (y == x) later)
+      where
+        by_head : (v : Bool) → is_among x (put_in x ys) ≡ true → (v || is_among x (put_in x ys)) ≡ true
+        by_head true h = refl
+        by_head false h = h
+
+-- a number that was looked at is among those known as Outside
+pub among-with : (x : ℕ) (xs : List ℕ) → is_among x (with_number x xs) ≡ true
+among-with x xs = among-put x (without x xs)
+
+first-least : (p : Birth → Bool) (n : ℕ) (bs : List Birth) (x j : ℕ) (b : Birth) → AreNumberedFrom n bs → first (map number_of (filter p bs)) ≡ Some x → slice_get bs j ≡ Some b → p b ≡ true → x ≤ b.number
+first-least p n [] x j b ns h at t = absurd (cc at)
+first-least p n (c ∷ bs) x zero b ns h at t =
+    let e : c ≡ b = cc in
+    let here : p c ≡ true = ap p e ∙ t in
+    let g : Some (number_of c) ≡ Some x = rw here at h in
+    let same : c.number ≡ x = cc in
+    let m : c.number ≡ b.number = ap number_of e in
+    omega (arith, same, m)
+first-least p n (c ∷ bs) x (suc j) b ns h at t = by_test (cases_Bool (p c)) (λ g. first-least p (n + 1) bs x j b ns.1 g at t)
+  where
+    by_test : (p c ≡ true) ⊎ (p c ≡ false) → (first (map number_of (filter p bs)) ≡ Some x → x ≤ b.number) → x ≤ b.number
+    by_test (inl y) later =
+        let g : Some (number_of c) ≡ Some x = rw y at h in
+        let same : c.number ≡ x = cc in
+        let m = numbered-at (n + 1) bs j b ns.1 at in
+        omega (arith, same, m, ns.0)
+    by_test (inr y) later = later (rw y at h)
+
+-- the first Ready number is the least
+pub ready-least : (s : Plan) (past : Past) (x y : ℕ) → first (ready_numbers s past) ≡ Some x → place s past y ≡ Some place_is.Ready → x ≤ y
+unfolding numbers_at
+ready-least s past x zero h at = absurd (let b = place-born s past 0 place_is.Ready at in let g = b.1 in cc g)
+ready-least s past x (suc j) h at =
+    let b = place-born s past (suc j) place_is.Ready at in
+    let n = numbered-number s past (suc j) b.0 b.1 in
+    let l = first-least (λ (d : Birth). is_ready (place_of s past d)) 1 (births s past) x j b.0 (births-numbered s past) h b.1 (ap is_ready b.2) in
+    omega (arith, n, l)
+
+-- the taken number is the one that was looked at, the least Ready one
+pub taken-number : (s : Plan) (past : Past) (x n : ℕ) (outside : List ℕ) → first (ready_numbers s past) ≡ Some x → is_among x outside ≡ true → place s past n ≡ Some place_is.Ready
+    → ((y : ℕ) → y < n → is_among y outside ≡ false) → n ≡ x
+taken-number s past x n outside h known ready least =
+    let l = ready-least s past x n h ready in
+    by_order (cases_Bool (nat_lt x n)) l
+  where
+    by_order : (nat_lt x n ≡ true) ⊎ (nat_lt x n ≡ false) → x ≤ n → n ≡ x
+    by_order (inl t) l = absurd (let g = least x (ltb-true x n t) in cc)
+    by_order (inr f) l = omega (arith, l, ltb-false x n f)
+
+-- ---- taken
+
+-- the least Ready exchange was taken in hand by worker 0, and asks a request
+pub record Taken (u v : BooksView) (n : ℕ) (q : Request) : Type 0 where
+  pub chosen : Chosen u n
+  pub adds : Adds u v 0 (Take n)
+  pub held : place (plan v) v.journal.past n ≡ Some (place_is.InHand 0)
+  pub asks : IsAsked (plan v) v.journal.past n q
+  pub legal : IsLegalRun v
+
+pub drains-taken : {u v : BooksView} {n : ℕ} {q : Request} (l : List LaneView) (i : List InletView) → Taken u v n q → Drains u v l l i i
+drains-taken {u} {v} {n} {q} l i t =
+    drains-add (drains-refl u l i) t.adds (LanesGrew-none 0 l) (InletsGrew-none 0 i) (chosen-acts (Take n) t.chosen (eq-eqb n n refl))
+
+behind : {u v : BooksView} {n : ℕ} {q : Request} (P : Plan → Past → Type 0) → Taken u v n q → P (plan u) ((record { worker = 0; kind = Take n }) ∷ u.journal.past) → P (plan v) v.journal.past
+behind {u} {v} P t h = subst (λ (s : RouteSet). P (plan_of s) v.journal.past) (sym t.adds.same.set) (subst (λ (p : Past). P (plan u) p) (sym t.adds.past) h)
+
+before : {u v : BooksView} {n : ℕ} {q : Request} (P : Plan → Past → Type 0) → Taken u v n q → P (plan v) v.journal.past → P (plan u) ((record { worker = 0; kind = Take n }) ∷ u.journal.past)
+before {u} {v} P t h = subst (λ (p : Past). P (plan u) p) t.adds.past (subst (λ (s : RouteSet). P (plan_of s) v.journal.past) t.adds.same.set h)
+
+taken-actor : {u v : BooksView} {n : ℕ} {q : Request} → Taken u v n q → actor (plan v) v.journal.past ≡ TheExchange n
+taken-actor {u} {v} {n} t =
+    behind (λ s p. actor s p ≡ TheExchange n) t
+    (actor-taken (plan u) (plan-laws u.set) u.journal.workers u.journal.turns 0 u.journal.past n (added-legal t.adds t.legal) t.chosen.rests.home (chosen-ready t.chosen)
+    (before (λ s p. place s p n ≡ Some (place_is.InHand 0)) t t.held))
+
+acts-held : {u v : BooksView} {n : ℕ} {q : Request} (k : Kind) → Taken u v n q → is_of (TheExchange n) k ≡ true → IsTrue (is_of (actor (plan v) v.journal.past) k)
+acts-held k t e = subst (λ (b : Actor). IsTrue (is_of b k)) (sym (taken-actor t)) e
+
+one-hand : {u v : BooksView} {n : ℕ} {q : Request} → Taken u v n q → hands (plan v) v.journal.past ≤ 1
+one-hand {u} {v} {n} t =
+    behind (λ s p. hands s p ≤ 1) t
+    (hand-take (plan u) u.journal.workers u.journal.turns 0 u.journal.past n place_is.Ready (added-legal t.adds t.legal) t.chosen.rests.home (chosen-ready t.chosen))
+
+first-progress : {u v : BooksView} {n : ℕ} {q : Request} → Taken u v n q → Progresses (plan v) u.journal.past v.journal.past
+first-progress {u} {v} {n} t =
+    behind (λ s p. Progresses s u.journal.past p) t
+    (progress-one (plan u) (plan-laws u.set) u.journal.workers u.journal.turns 0 (Take n) u.journal.past (added-legal t.adds t.legal) (λ x h. cc h))
+
+-- ---- answered
+
+calls-are : {u v : BooksView} {n : ℕ} {q : Request} (d : Doors) (a : Reply) → Taken u v n q → lane_calls_in (plan v) d v.journal.past (Answer n a) ≡ calls_for d q a
+calls-are d a t = ap (λ o. calls_asked d o a) t.asks.1.0 ∙ ap (λ r. calls_for d r a) t.asks.1.1
+
+pub drains-answered : {u v w : BooksView} {n : ℕ} {q : Request} (a : Reply) (l m : List LaneView) (i : List InletView) → Taken u v n q → Adds v w 0 (Answer n a)
+    → LanesGrew 0 (calls_for (doors v l i) q a) l m → Drains u w l m i i
+drains-answered {u} {v} {w} {n} {q} a l m i t adds grew =
+    drains-add (drains-taken l i t) adds
+    (subst (λ js. LanesGrew 0 js l m) (sym (calls-are (doors v l i) a t)) grew)
+    (InletsGrew-none 0 i) (acts-held (Answer n a) t (eq-eqb n n refl))
+
+pub acts-answered : {u v w : BooksView} {n : ℕ} {q : Request} (a : Reply) → Taken u v n q → Adds v w 0 (Answer n a) → IsLegalRun w → Acts u w
+acts-answered {u} {v} {w} {n} a t adds legal =
+    let here = added-legal adds legal in
+    record {
+      home = rw (adds.same.set, adds.past) (back-answer (plan v) v.journal.workers v.journal.turns 0 v.journal.past n 0 a here (one-hand t) t.held);
+      progress = rw (adds.same.set, adds.past)
+          (progress-trans (first-progress t) (progress-one (plan v) (plan-laws v.set) v.journal.workers v.journal.turns 0 (Answer n a) v.journal.past here (λ y h. cc h)));
+    }
+
+-- ---- given up
+
+pub drains-given_up : {u v w : BooksView} {n : ℕ} {q : Request} (l m : List LaneView) (i : List InletView) → Taken u v n q → Adds v w 0 (Starve n) → LanesGrew 0 [] l m → Drains u w l m i i
+drains-given_up {u} {v} {w} {n} l m i t adds grew =
+    drains-add (drains-still (drains-taken l i t) grew (InletsGrew-none 0 i)) adds
+    (LanesGrew-none 0 m) (InletsGrew-none 0 i) (acts-held (Starve n) t (eq-eqb n n refl))
+
+pub acts-given_up : {u v w : BooksView} {n : ℕ} {q : Request} → Taken u v n q → Adds v w 0 (Starve n) → IsLegalRun w → Acts u w
+acts-given_up {u} {v} {w} {n} t adds legal =
+    let here = added-legal adds legal in
+    record {
+      home = rw (adds.same.set, adds.past) (back-starve (plan v) v.journal.workers v.journal.turns 0 v.journal.past n 0 here (one-hand t) t.held);
+      progress = rw (adds.same.set, adds.past)
+          (progress-trans (first-progress t) (progress-one (plan v) (plan-laws v.set) v.journal.workers v.journal.turns 0 (Starve n) v.journal.past here (λ y h. cc h)));
+    }
+
+-- ---- the call
+
+-- what is asked behind the Take is a send to one of the lanes
+pub taken-sendable : {u v : BooksView} {n : ℕ} {q : Request} (lanes : List (List ℕ)) → Taken u v n q → HasLanes u.set lanes → TellsNone u.set → is_outside q ≡ true → IsSendable lanes q
+taken-sendable {u} {v} {n} {q} lanes t has none outside =
+    let k = t.asks.0 in
+    let o : is_outside k.request ≡ true = ap is_outside t.asks.1.1 ∙ outside in
+    subst (IsSendable lanes) t.asks.1.1
+    (asked-sendable lanes v.set (subst (λ (s : RouteSet). HasLanes s lanes) (sym t.adds.same.set) has) (subst TellsNone (sym t.adds.same.set) none) v.journal.past n k t.asks.1.0 o)
+
+-- the answer that is entered for what a call came to
+abbrev pub answer_of : Result Unit SendFault → Reply
+answer_of (Ok u) = reply.Done
+answer_of (Err fault.Failed) = reply.SendFailed
+answer_of (Err fault.Exists) = reply.Exists
+answer_of (Err fault.NoMemory) = reply.Done
+
+-- a call that was made is the one that its answer tells of
+pub calls-match : (set : RouteSet) (names inlets : List (List ℕ)) (q : Request) (a : Reply) (r : Result Unit SendFault) → IsSendable names q → r ≢ Err fault.NoMemory → a ≡ answer_of r
+    → calls_sent names q r ≡ calls_for (doors_of set names inlets) q a
+calls-match set names inlets (request.Send t m) a (Ok u) h made e = rw e refl
+calls-match set names inlets (request.Send t m) a (Err fault.Failed) h made e = rw e refl
+calls-match set names inlets (request.Send t m) a (Err fault.Exists) h made e = rw e refl
+calls-match set names inlets (request.Send t m) a (Err fault.NoMemory) h made e = absurd (made refl)
+calls-match set names inlets _ a r h made e = absurd h
+
+no-call : (o : Option ℕ) → calls_by o [] ≡ []
+no-call None = refl
+no-call (Some k) = refl
+
+-- a call that found no memory is none
+pub calls-none : (names : List (List ℕ)) (q : Request) → calls_sent names q (Err fault.NoMemory) ≡ []
+calls-none names (request.Send t m) = no-call (first_named (lane_of t) names)
+calls-none names _ = refl
+
+-- the names of lanes, seen or not
+pub seen-lanes : {L : Type 0} (f : L → LaneView) (name : L → List ℕ) (ls : List L) → ((x : L) → (f x).name ≡ name x) → lane_names (map f ls) ≡ map name ls
+seen-lanes f name [] h = refl
+seen-lanes f name (x ∷ ls) h = rw (h x, seen-lanes f name ls h) refl
+
+-- what a take gave, where the least Ready exchange is known to wait for somebody outside
+pub taken : (u v : BooksView) (x n : ℕ) (q : Request) → Rests u → first (ready_numbers (plan u) u.journal.past) ≡ Some x → is_among x u.outside ≡ true
+    → place (plan u) u.journal.past n ≡ Some place_is.Ready → ((y : ℕ) → y < n → is_among y u.outside ≡ false) → Adds u v 0 (Take n)
+    → place (plan v) v.journal.past n ≡ Some (place_is.InHand 0) → IsAsked (plan v) v.journal.past n q → IsLegalRun v → Taken u v n q
+taken u v x n q rests h known ready least adds held asks legal =
+    let same = taken-number (plan u) u.journal.past x n u.outside h known ready least in
+    record { chosen = record { rests = rests; least = h ∙ ap Some (sym same) }; adds = adds; held = held; asks = asks; legal = legal }
+
+-- the call that was made is what the entry of its answer says
+pub grew-answered : (set : RouteSet) (names inlets : List (List ℕ)) (q : Request) (a : Reply) (r : Result Unit SendFault) (l m : List LaneView) → IsSendable names q → r ≢ Err fault.NoMemory
+    → a ≡ answer_of r → lane_names l ≡ names → LanesGrew 0 (calls_sent names q r) l m → LanesGrew 0 (calls_for (doors_of set (lane_names l) inlets) q a) l m
+grew-answered set names inlets q a r l m sendable made e same grew =
+    subst (λ ns. LanesGrew 0 (calls_for (doors_of set ns inlets) q a) l m) (sym same)
+    (subst (λ js. LanesGrew 0 js l m) (calls-match set names inlets q a r sendable made e) grew)
+
+-- a call that found no memory left the lanes
+pub grew-none : (names : List (List ℕ)) (q : Request) (l m : List LaneView) → LanesGrew 0 (calls_sent names q (Err fault.NoMemory)) l m → LanesGrew 0 [] l m
+grew-none names q l m grew = subst (λ js. LanesGrew 0 js l m) (calls-none names q) grew
+
+-- the drain behind a call that was made
+pub drains-sent : {u v w : BooksView} {n : ℕ} {q : Request} (names : List (List ℕ)) (a : Reply) (r : Result Unit SendFault) (l m : List LaneView) (i : List InletView) → Taken u v n q → Adds v w 0 (Answer n a)
+    → IsSendable names q → r ≢ Err fault.NoMemory → a ≡ answer_of r → lane_names l ≡ names → LanesGrew 0 (calls_sent names q r) l m → Drains u w l m i i
+drains-sent {u} {v} {w} {n} {q} names a r l m i t adds sendable made e same grew =
+    drains-answered a l m i t adds (grew-answered v.set names (inlet_names i) q a r l m sendable made e same grew)

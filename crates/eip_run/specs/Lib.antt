@@ -1,0 +1,6 @@
+pub mod Routes
+pub mod Prepared
+pub mod Outcomes
+pub mod Reports
+pub mod Printed
+pub mod Drained

@@ -1,0 +1,71 @@
+ghost use Rattle.std.specs.Prelude.{◌≡◌, IfOk, codes, string_bytes};
+ghost use Rattle.eip_books.specs.View.{plan};
+ghost use Rattle.eip_run.specs.Reports.{Told, run_text};
+ghost use Rattle.eip_run.specs.Printed.{TellsRefusal, TellsRun};
+
+use crate::prepare::Refusal;
+use crate::report::Outcome;
+use eip_command::fault_line;
+use eip_endbook::{book_text, log_text};
+use eip_endpoint::{Sink, SinkFault};
+use eip_hub::Hub;
+use eip_ledger::Stop;
+use eip_text::NoMemory;
+use std::alloc::Global;
+
+/// Writes the text of an outcome, by one call. Answers the outcome, or what a failing sink leaves of it.
+fn tell<O: Sink>(out: &mut O, text: &str, told: Outcome) -> Outcome
+    ensures { Told told text.now (O.bytes out.old) (O.bytes out.new) (O.sink_faults out.old) (O.sink_faults out.new) result }
+{
+    match out.write(text.as_bytes()) {
+        Ok(()) => told,
+        Err(SinkFault::Failed) => told.unwritten(),
+        Err(SinkFault::NoMemory) => Outcome::NoMemory,
+    }
+}
+
+/// Says that no memory was left.
+pub fn tell_memory<O: Sink>(out: &mut O, told: Outcome) -> Outcome
+    ensures { Told told (codes "error memory\n") (O.bytes out.old) (O.bytes out.new) (O.sink_faults out.old) (O.sink_faults out.new) result }
+{
+    tell(out, "error memory\n", told)
+}
+
+/// Says why nothing runs.
+pub fn tell_refusal<O: Sink>(alloc: Global, out: &mut O, refusal: Refusal) -> Outcome
+    ensures { TellsRefusal refusal (O.bytes out.old) (O.bytes out.new) (O.sink_faults out.old) (O.sink_faults out.new) result }
+{
+    match refusal {
+        Refusal::Words => tell(out, "error words\n", Outcome::Words),
+        Refusal::FilesFault => tell(out, "error files\n", Outcome::FilesFault),
+        Refusal::NoMemory => tell_memory(out, Outcome::NoMemory),
+        Refusal::Routes(fault) => match fault_line(alloc, &fault) {
+            Ok(line) => tell(out, line.as_str(), Outcome::Routes(fault)),
+            Err(NoMemory) => tell_memory(out, Outcome::NoMemory),
+        },
+    }
+}
+
+/// The log, and behind it the book.
+fn text_of(alloc: Global, hub: &Hub, stop: Stop) -> Result<String, NoMemory>
+    ensures { IfOk result (λ t. string_bytes t ≡ run_text hub.now.set hub.now.journal.past stop) }
+{
+    let log = log_text(alloc, hub)?;
+    let book = book_text(alloc, hub, &stop)?;
+    let mut text = String::from_str(alloc, log.as_str())?;
+    text.push_str(book.as_str())?;
+    Ok(text)
+}
+
+/// Writes log and book of a run that came to a stop.
+pub fn tell_run<O: Sink>(alloc: Global, hub: &Hub, stop: Stop, out: &mut O) -> Outcome
+    ensures { TellsRun hub.now.set hub.now.journal.past stop (O.bytes out.old) (O.bytes out.new) (O.sink_faults out.old) (O.sink_faults out.new) result }
+{
+    if stop == Stop::NoMemory {
+        return tell_memory(out, Outcome::Ran(Stop::NoMemory));
+    }
+    match text_of(alloc, hub, stop) {
+        Ok(text) => tell(out, text.as_str(), Outcome::Ran(stop)),
+        Err(NoMemory) => tell_memory(out, Outcome::NoMemory),
+    }
+}

@@ -1,0 +1,71 @@
+ghost use Rattle.std.specs.Prelude.{◌≡◌};
+ghost use Rattle.eip_run.specs.Outcomes.{stop_status, status_of, unwritten};
+
+use eip_command::RouteFault;
+use eip_ledger::{Journal, Stop};
+
+/// What a command came to.
+#[derive(Drop)]
+pub enum Outcome {
+    /// The words are no command.
+    Words,
+    /// The route file is refused for its first fault.
+    Routes(RouteFault),
+    /// The files failed.
+    FilesFault,
+    /// The routes ran until this stop.
+    Ran(Stop),
+    /// The sink failed, and there was no earlier cause.
+    SinkFault,
+    /// No memory was left.
+    NoMemory,
+}
+
+/// The report of a command: its exit status, its outcome, and the journal of the run, which is empty where nothing ran.
+#[derive(Drop)]
+pub struct Report {
+    pub status: u8,
+    pub outcome: Outcome,
+    pub journal: Journal,
+}
+
+/// The status of a run by its stop.
+fn stop_status(stop: Stop) -> u8
+    ensures { result ≡ stop_status stop }
+{
+    match stop {
+        Stop::Drained => 0,
+        Stop::SourceFault(_) => 2,
+        Stop::Held(_) => 3,
+        Stop::Spent => 4,
+        Stop::NoMemory => 5,
+    }
+}
+
+impl Outcome {
+    /// The exit status: 0 drained, 1 words or routes refused, 2 a fault of files, a source or the sink, 3 groups held, 4 turns
+    /// spent, 5 out of memory.
+    pub fn status(&self) -> u8
+        ensures { result ≡ status_of self.now }
+    {
+        match self {
+            Outcome::Words => 1,
+            Outcome::Routes(_) => 1,
+            Outcome::FilesFault => 2,
+            Outcome::Ran(stop) => stop_status(*stop),
+            Outcome::SinkFault => 2,
+            Outcome::NoMemory => 5,
+        }
+    }
+
+    /// What is left of an outcome whose text could not be written: the failure of the sink where the run was drained, else
+    /// the outcome, whose cause came earlier.
+    pub fn unwritten(self) -> Outcome
+        ensures { result ≡ unwritten self }
+    {
+        match self {
+            Outcome::Ran(Stop::Drained) => Outcome::SinkFault,
+            other => other,
+        }
+    }
+}

@@ -1,0 +1,86 @@
+ghost use Rattle.std.specs.Prelude.{◌≡◌, ◌≤◌, length, map};
+ghost use Rattle.eip_endpoint.specs.Lanes.{seen_lane};
+ghost use Rattle.eip_endpoint.specs.Inlets.{seen_inlet};
+ghost use Rattle.eip_run.specs.Outcomes.{status_of};
+ghost use Rattle.eip_core.specs.Doors.{HasInlets};
+ghost use Rattle.eip_run.specs.Reports.{Reports};
+ghost use Rattle.eip_run.specs.Drained.{Drained};
+
+use crate::prepare::prepare;
+use crate::print::{tell_memory, tell_refusal, tell_run};
+use crate::report::{Outcome, Report};
+use eip_core::Registry;
+use eip_core::drain::drain_alone;
+use eip_endpoint::{Endpoint, Files, Inlet, Lane, Sink, Source};
+use eip_hub::Hub;
+use eip_ledger::Journal;
+use eip_route::RouteSet;
+use eip_text::Text;
+use std::alloc::Global;
+
+/// The limit on turns of a run whose words name none.
+const TURN_LIMIT: u32 = 100_000;
+
+/// Runs a set of routes and tells its log and its book.
+fn drain<O: Sink>(
+    alloc: Global,
+    set: RouteSet,
+    lanes: &mut [Lane],
+    inlets: &mut [Inlet],
+    registry: &Registry,
+    out: &mut O,
+) -> (Outcome, Journal)
+    requires few { length set.routes ≤ 256 }
+    requires inlets { HasInlets set (map (λ i. i.name) inlets.old) }
+    ensures { Drained set result.1 (map (seen_lane calls lane_faults) lanes.old) (map (seen_lane calls lane_faults) lanes.new) (map (seen_inlet given left commits inlet_faults) inlets.old) (map (seen_inlet given left commits inlet_faults) inlets.new) (O.bytes out.old) (O.bytes out.new) (O.sink_faults out.old) (O.sink_faults out.new) result.0 }
+{
+    let Ok(mut hub) = Hub::new(alloc, set, 0, TURN_LIMIT) else {
+        let outcome = tell_memory(out, Outcome::NoMemory);
+        return (outcome, Journal::new(alloc, 0, TURN_LIMIT));
+    };
+    let stop = drain_alone(&mut hub, lanes, inlets, registry);
+    let outcome = tell_run(alloc, &hub, stop, out);
+    (outcome, hub.into_journal())
+}
+
+/// Runs the command of these words: reads its route file from `files`, drains its routes over the lanes and inlets that are
+/// handed in, and writes log and book to `out` by one call. The first cause that applies decides the outcome: the words, the
+/// reading of the route file, the routes, the stop of the run, the sink. Want of memory ends the command where it is met.
+pub fn run<F: Files, O: Sink>(
+    alloc: Global,
+    words: &[Text],
+    files: &mut F,
+    lanes: &mut Vec<Lane>,
+    inlets: &mut Vec<Inlet>,
+    registry: &Registry,
+    out: &mut O,
+) -> Report
+    ensures report { Reports (record {
+        words = words.now; files = F.files files.old; files_before = F.files_faults files.old; files_after = F.files_faults files.new;
+        lanes_before = map (seen_lane calls lane_faults) lanes.old.items; lanes_after = map (seen_lane calls lane_faults) lanes.new.items;
+        inlets_before = map (seen_inlet given left commits inlet_faults) inlets.old.items; inlets_after = map (seen_inlet given left commits inlet_faults) inlets.new.items;
+        journal = result.journal })
+        (O.bytes out.old) (O.bytes out.new) (O.sink_faults out.old) (O.sink_faults out.new) result.outcome }
+    ensures status { result.status ≡ status_of result.outcome }
+    ensures files { F.files files.new ≡ F.files files.old }
+{
+    let (outcome, journal) = match prepare(alloc, words, files, lanes.as_slice(), inlets.as_slice()) {
+        Ok(set) => drain(
+            alloc,
+            set,
+            lanes.as_mut_slice(),
+            inlets.as_mut_slice(),
+            registry,
+            out,
+        ),
+        Err(refusal) => (
+            tell_refusal(alloc, out, refusal),
+            Journal::new(alloc, 0, TURN_LIMIT),
+        ),
+    };
+    Report {
+        status: outcome.status(),
+        outcome,
+        journal,
+    }
+}
