@@ -1,17 +1,16 @@
 -- Who acts next in the plain schedule, by what is known of a past.
-use Rattle.std.proofs.Common.{◌≡◌, ◌≢◌, ℕ, zero, suc, ◌+◌, ◌<◌, ◌≤◌, ◌==◌, ◌&&◌, not, Bool, true, false, IsTrue, List, [], ◌∷◌, ◌++◌, Option, Some, None, length, filter, map, refl, sym, ap, subst, ◌∙◌, arith, cond, ◌⊎◌, inl, inr, eq-eqb}
+use Rattle.std.proofs.Common.{◌≡◌, ◌≢◌, ℕ, zero, suc, ◌+◌, ◌<◌, ◌==◌, ◌&&◌, not, Bool, true, false, List, [], ◌∷◌, ◌++◌, Some, None, filter, map, refl, sym, ap, subst, ◌∙◌, arith, cond, ◌⊎◌, inl, inr, eq-eqb}
 use Rattle.std.specs.List.{slice_get}
 use Rattle.std.proofs.lemmas.Bool.{ne_eqb, cases_Bool, eqb-true}
 use Rattle.std.proofs.lemmas.List.{append-nil}
 use Rattle.eip_exchange.specs.declared.birth.Birth.{Birth}
 use Rattle.eip_ledger.specs.declared.entry.Entry.{Entry}
-use Rattle.eip_ledger.specs.declared.entry.Kind.{Kind}
 use Rattle.eip_ledger.specs.declared.entry.Kind.TheVariants.{Pull, Take}
 use Rattle.eip_ledger.specs.declared.place.Place.{Place}
 use Rattle.eip_ledger.specs.declared.place.Place.TheVariants as place_is
 use Rattle.eip_history.specs.Plan.{Plan}
-use Rattle.eip_history.specs.Own.{Past, SourceState, Idle, Out, Done, numbers_below, source_state, is_out, is_done, moved, numbered, concerns}
-use Rattle.eip_history.specs.Births.{births, fate}
+use Rattle.eip_history.specs.Own.{Past, SourceState, Idle, Out, Done, numbers_below, source_state, is_out, is_done, numbered}
+use Rattle.eip_history.specs.Births.{births}
 use Rattle.eip_history.specs.Place.{place, place_of, numbers_at, number_of, ready_numbers, is_held, is_taken, pulls_out, takes_out, hands, end_of}
 use Rattle.eip_history.specs.Rules.{IsLegal, May, IsSource, IsBelow, first, unfinished, startable}
 use Rattle.eip_history.specs.Stop.{Actor, TheExchange, TheSource, TheQueue, first_or, actor}

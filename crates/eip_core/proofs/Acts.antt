@@ -1,6 +1,5 @@
 -- One act of the plain schedule, by the entries that it makes.
-use Rattle.std.proofs.Common.{◌≡◌, ◌≢◌, ℕ, ◌+◌, ◌<◌, ◌≤◌, ◌==◌, Bool, true, false, IsTrue, List, [], ◌∷◌, ◌++◌, Option, Some, None, map, refl, sym, ap, subst, ◌∙◌, arith, eq-eqb}
-use Rattle.std.specs.Option.{IsSome}
+use Rattle.std.proofs.Common.{◌≡◌, ◌≢◌, ℕ, ◌<◌, ◌≤◌, Bool, true, false, IsTrue, List, [], ◌∷◌, Option, Some, None, map, refl, sym, subst, ◌∙◌, eq-eqb}
 use Rattle.std.specs.List.{slice_get}
 use Rattle.eip_route.specs.declared.route.RouteSet.{RouteSet}
 use Rattle.eip_frames.specs.declared.request.Request.{Request}
@@ -9,31 +8,29 @@ use Rattle.eip_frames.specs.declared.answer.Answer.{Answer as Reply}
 use Rattle.eip_frames.specs.Fits.{is_outside}
 use Rattle.eip_ledger.specs.declared.entry.Entry.{Entry}
 use Rattle.eip_ledger.specs.declared.entry.Kind.{Kind}
-use Rattle.eip_ledger.specs.declared.entry.Kind.TheVariants.{Pull, Accept, Refuse, SourceEnd, SourceFault, Take, Answer, Starve, Return}
+use Rattle.eip_ledger.specs.declared.entry.Kind.TheVariants.{Pull, Accept, Refuse, SourceEnd, SourceFault, Answer, Starve, Return}
 use Rattle.eip_ledger.specs.declared.place.Place.TheVariants as place_is
-use Rattle.eip_endpoint.specs.Lanes.{LaneView, LaneCall, LanesGrew}
+use Rattle.eip_endpoint.specs.Lanes.{LaneView, LanesGrew}
 use Rattle.eip_exchange.specs.declared.message.Message.{Message}
 use Rattle.eip_ledger.specs.declared.entry.Refused.{Refused as Cause}
 use Rattle.eip_endpoint.specs.declared.source.Pulled.TheVariants.{Item, Refused, End}
-use Rattle.eip_endpoint.specs.Inlets.{InletView, InletAct, Act, Gave, Failed, InletsGrew}
+use Rattle.eip_endpoint.specs.Inlets.{InletView, Act, Gave, Failed, InletsGrew}
 use Rattle.eip_endpoint.proofs.LaneLaws.{LanesGrew-none}
 use Rattle.eip_endpoint.proofs.InletLaws.{InletsGrew-none}
 use Rattle.eip_history.specs.Plan.{Plan}
 use Rattle.eip_history.specs.Own.{Past, Out, SourceState, source_state, concerns, moved, is_out}
 use Rattle.eip_history.specs.Births.{Asked, asked}
 use Rattle.eip_history.specs.Place.{place, hands, ready_numbers}
-use Rattle.eip_history.specs.Rules.{IsLegal, May, IsSource, IsBelow, first, unfinished, outside_asked}
+use Rattle.eip_history.specs.Rules.{IsLegal, May, IsSource, IsBelow, first, outside_asked}
 use Rattle.eip_history.specs.Stop.{stop_of, is_of, actor, TheSource, TheExchange, Actor}
 use Rattle.eip_history.proofs.Limit.{source-after, not-same}
 use Rattle.eip_history.proofs.Allowed.{waits-below}
-use Rattle.eip_history.proofs.Unborn.{legal-may}
 use Rattle.eip_plan.specs.Plan.{plan_of}
 use Rattle.eip_plan.proofs.Laws.{plan-laws, plan-simple}
-use Rattle.eip_books.specs.View.{BooksView, plan, IsLegalRun, IsSameRun, Adds, AddsNone}
-use Rattle.eip_books.specs.declared.books.Inner.{Inner}
-use Rattle.eip_books.specs.declared.books.Inner.TheVariants.{Did, Outside}
+use Rattle.eip_books.specs.View.{BooksView, plan, IsLegalRun, Adds, AddsNone}
+use Rattle.eip_books.specs.declared.books.Inner.TheVariants.{Did}
 use Rattle.eip_books.specs.Places.{inner_of}
-use Rattle.eip_core.specs.Doors.{Doors, doors_of, lane_names, inlet_names, inlet_at, uri_at, HasInlets}
+use Rattle.eip_core.specs.Doors.{Doors, inlet_names, inlet_at, uri_at}
 use Rattle.eip_core.specs.Outside.{acts_by, acts_of, refusal_of, inlet_acts_in, lane_calls_in, calls_asked, calls_for}
 use Rattle.eip_core.specs.Drain.{Drains, Acts, Progresses, doors}
 use Rattle.eip_core.proofs.Actors.{actor-ready, actor-source, actor-out, unfinished-first, first-pullable}

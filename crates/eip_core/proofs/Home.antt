@@ -1,22 +1,21 @@
 -- Behind an act no hand is out.
-use Rattle.std.proofs.Common.{◌≡◌, ◌≢◌, ℕ, ◌+◌, ◌<◌, ◌≤◌, ◌==◌, Bool, true, false, List, [], ◌∷◌, Option, Some, None, map, filter, suc, ◌⊎◌, inl, inr, refl, sym, ap, subst, ◌∙◌, arith, eq-eqb}
+use Rattle.std.proofs.Common.{◌≡◌, ◌≢◌, ℕ, ◌+◌, ◌≤◌, Bool, true, false, List, [], ◌∷◌, Some, map, filter, suc, ◌⊎◌, inl, inr, refl, ap, arith, eq-eqb}
 use Rattle.std.specs.List.{slice_get}
 use Rattle.std.proofs.lemmas.Bool.{cases_Bool}
 use Rattle.eip_exchange.specs.declared.birth.Birth.{Birth}
 use Rattle.eip_frames.specs.declared.answer.Answer.{Answer as Reply}
-use Rattle.eip_ledger.specs.declared.entry.Entry.{Entry}
 use Rattle.eip_ledger.specs.declared.entry.Kind.{Kind}
-use Rattle.eip_ledger.specs.declared.entry.Kind.TheVariants.{Pull, Accept, Refuse, SourceEnd, SourceFault, Take, Answer, Starve}
+use Rattle.eip_ledger.specs.declared.entry.Kind.TheVariants.{Pull, Take, Answer, Starve}
 use Rattle.eip_ledger.specs.declared.place.Place.{Place}
 use Rattle.eip_ledger.specs.declared.place.Place.TheVariants as place_is
 use Rattle.eip_history.specs.Plan.{Plan}
-use Rattle.eip_history.specs.Own.{Past, SourceState, Out, numbered, concerns, taken_by, moved, is_out, source_state}
+use Rattle.eip_history.specs.Own.{Past, SourceState, Out, numbered, concerns, moved, is_out, source_state}
 use Rattle.eip_history.specs.Births.{births}
 use Rattle.eip_history.specs.Place.{place, place_of, hands, is_taken, is_ready, ready_numbers, numbers_at, number_of}
 use Rattle.eip_history.specs.Rules.{IsLegal, IsSource, first}
 use Rattle.eip_history.specs.Tables.{AreNumberedFrom, bit}
 use Rattle.eip_history.proofs.Limit.{within-own, within-source, within-take, within-pull, in-hand-taken, not-same}
-use Rattle.eip_history.proofs.Unborn.{place-born, birth-stays}
+use Rattle.eip_history.proofs.Unborn.{place-born}
 use Rattle.eip_history.proofs.Told.{births-numbered}
 
 -- an answer or a starving of somebody who is not in hand

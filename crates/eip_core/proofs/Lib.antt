@@ -6,3 +6,4 @@ pub mod Home
 pub mod Acts
 pub mod Sends
 pub mod Serving
+pub mod Turns

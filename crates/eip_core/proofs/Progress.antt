@@ -1,10 +1,10 @@
 -- An entry is a turn, or leaves less to do.
-use Rattle.std.proofs.Common.{◌≡◌, ◌≢◌, ℕ, ◌+◌, ◌<◌, ◌≤◌, ◌∷◌, refl, sym, ap, ◌∙◌, arith, ◌⊎◌, inl, inr}
+use Rattle.std.proofs.Common.{◌≢◌, ℕ, ◌∷◌, arith, inl, inr}
 use Rattle.eip_ledger.specs.declared.entry.Entry.{Entry}
 use Rattle.eip_ledger.specs.declared.entry.Kind.{Kind}
 use Rattle.eip_ledger.specs.declared.entry.Kind.TheVariants.{Return}
 use Rattle.eip_history.specs.Plan.{Plan}
-use Rattle.eip_history.specs.Own.{Past, turns}
+use Rattle.eip_history.specs.Own.{Past}
 use Rattle.eip_history.specs.Rules.{IsLegal}
 use Rattle.eip_history.specs.Laws.{PlanLaws}
 use Rattle.eip_history.proofs.Main.{turns-or-falls}

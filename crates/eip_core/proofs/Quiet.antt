@@ -1,21 +1,17 @@
 -- With simple requests alone nobody sleeps and no group is open, so no clock and no force acts.
-use Rattle.std.proofs.Common.{◌≡◌, ℕ, Bool, true, false, List, [], ◌∷◌, ◌++◌, Option, Some, None, filter_map, refl, sym, ap, subst, ◌∙◌, ◌⊎◌, ◌&&◌, inl, inr}
-use Rattle.std.specs.List.{slice_get}
+use Rattle.std.proofs.Common.{◌≡◌, ℕ, true, false, List, [], ◌∷◌, Option, Some, None, filter_map, refl, sym, ap, subst, ◌∙◌, ◌⊎◌, ◌&&◌, inl, inr}
 use Rattle.std.proofs.lemmas.Bool.{cases_Bool}
 use Rattle.eip_exchange.specs.declared.birth.Birth.{Birth}
 use Rattle.eip_frames.specs.declared.answer.Answer.{Answer as Reply}
 use Rattle.eip_frames.specs.declared.answer.Answer.TheVariants as reply
-use Rattle.eip_ledger.specs.declared.entry.Entry.{Entry}
 use Rattle.eip_ledger.specs.declared.entry.Kind.{Kind}
-use Rattle.eip_ledger.specs.declared.entry.Kind.TheVariants.{Pull, Accept, Refuse, SourceEnd, SourceFault, Start, Take, Answer, Tick, Force, Starve, Return}
-use Rattle.eip_ledger.specs.declared.place.Place.{Place}
-use Rattle.eip_ledger.specs.declared.place.Place.TheVariants as place_is
+use Rattle.eip_ledger.specs.declared.entry.Kind.TheVariants.{Answer}
 use Rattle.eip_history.specs.Plan.{Plan}
 use Rattle.eip_history.specs.Own.{Past, own, concerns, last_answer, or_answer}
-use Rattle.eip_history.specs.Groups.{due_of, is_forced}
+use Rattle.eip_history.specs.Groups.{is_forced}
 use Rattle.eip_history.specs.Births.{births, groups}
 use Rattle.eip_history.specs.Place.{place_of, hands, ready_numbers, is_startable}
-use Rattle.eip_history.specs.Rules.{IsLegal, May, MayAnswer, IsQuiet, dues, retry_due, least, first, any_group, startable, unfinished}
+use Rattle.eip_history.specs.Rules.{IsLegal, May, dues, retry_due, first, any_group, startable, unfinished}
 use Rattle.eip_history.proofs.Told.{own-here, own-other}
 use Rattle.eip_history.proofs.Unborn.{legal-tail, legal-may, own-none}
 use Rattle.eip_history.proofs.Stuck.{Standing, standing, InEnd, InQueue, Held, Asleep, Waits, Able}

@@ -1,7 +1,6 @@
 -- What is asked of the outside is a send to a lane that is handed in.
-use Rattle.std.proofs.Common.{◌≡◌, ℕ, Bool, true, false, cond, List, [], ◌∷◌, ◌++◌, Option, Some, None, refl, sym, ap, subst, ◌∙◌, ◌⊎◌, inl, inr}
+use Rattle.std.proofs.Common.{◌≡◌, ℕ, Bool, true, false, cond, List, [], ◌∷◌, Option, Some, None, refl, ap, subst, ◌∙◌, inl, inr}
 use Rattle.std.specs.Option.{IsSome}
-use Rattle.std.specs.List.{slice_get}
 use Rattle.std.proofs.lemmas.Bool.{cases_Bool}
 use Rattle.eip_exchange.specs.declared.message.Message.{Message}
 use Rattle.eip_exchange.specs.declared.end.Fault.{Fault}
@@ -28,8 +27,8 @@ use Rattle.eip_frames.specs.declared.answer.Answer.{Answer as Reply}
 use Rattle.eip_frames.specs.declared.answer.Answer.TheVariants as reply
 use Rattle.eip_endpoint.specs.Lanes.{first_named}
 use Rattle.eip_meaning.specs.Outcomes.{Outcome, Asks, Goes, Stops, Faults, Stray, Runner, followed, caught, answered_by, ask, fault_in}
-use Rattle.eip_meaning.specs.Meaning.{mean, steps_mean, step_mean, to_mean, one_try, goes_unless_long, is_too_long, value_of, with_body, ends_failed, finished, finish_by, ends_or_strays, end_by, work_mean, steps_of, is_committed, is_told_origin, item_of, place_of}
-use Rattle.eip_meaning.specs.Asked.{IsOfStep, Logs, Sends, IsAskable, OfStep, Finishes}
+use Rattle.eip_meaning.specs.Meaning.{mean, steps_mean, step_mean, to_mean, is_too_long, value_of, with_body, ends_failed, finished, finish_by, ends_or_strays, end_by, work_mean, steps_of, is_committed, is_told_origin, item_of, place_of}
+use Rattle.eip_meaning.specs.Asked.{Logs, Sends, IsAskable, OfStep, Finishes}
 use Rattle.eip_meaning.proofs.Laws.{asked-finish}
 use Rattle.eip_meaning.proofs.Laws as laws
 use Rattle.eip_history.specs.Own.{Past, own, answers, starved}

@@ -1,8 +1,7 @@
 -- An exchange that is served by a lane: it is taken in hand, a call is made, and the answer is entered.
-use Rattle.std.proofs.Common.{◌≡◌, ◌≢◌, ℕ, zero, suc, ◌+◌, ◌<◌, ◌≤◌, ◌==◌, ◌||◌, Bool, true, false, IsTrue, cond, List, [], ◌∷◌, ◌++◌, Option, Some, None, map, filter, Result, Ok, Err, refl, sym, ap, subst, ◌∙◌, ◌⊎◌, inl, inr, arith, eq-eqb, nat_lt}
+use Rattle.std.proofs.Common.{◌≡◌, ◌≢◌, ℕ, zero, suc, ◌+◌, ◌<◌, ◌≤◌, ◌==◌, ◌||◌, Bool, true, false, IsTrue, List, [], ◌∷◌, Option, Some, None, map, filter, Result, Ok, Err, refl, sym, ap, subst, ◌∙◌, ◌⊎◌, inl, inr, arith, eq-eqb, nat_lt}
 use Rattle.std.specs.List.{slice_get}
 use Rattle.std.proofs.lemmas.Bool.{cases_Bool, ltb-true, ltb-false}
-use Rattle.std.proofs.lemmas.List.{append-nil}
 use Rattle.eip_exchange.specs.declared.birth.Birth.{Birth}
 use Rattle.eip_route.specs.declared.route.RouteSet.{RouteSet}
 use Rattle.eip_frames.specs.declared.request.Request.{Request}
@@ -10,21 +9,20 @@ use Rattle.eip_frames.specs.declared.request.Request.TheVariants as request
 use Rattle.eip_frames.specs.declared.answer.Answer.{Answer as Reply}
 use Rattle.eip_frames.specs.declared.answer.Answer.TheVariants as reply
 use Rattle.eip_frames.specs.Fits.{is_outside}
-use Rattle.eip_ledger.specs.declared.entry.Entry.{Entry}
 use Rattle.eip_ledger.specs.declared.entry.Kind.{Kind}
 use Rattle.eip_ledger.specs.declared.entry.Kind.TheVariants.{Take, Answer, Starve}
 use Rattle.eip_ledger.specs.declared.place.Place.TheVariants as place_is
 use Rattle.eip_endpoint.specs.declared.endpoint.SendFault.{SendFault}
 use Rattle.eip_endpoint.specs.declared.endpoint.SendFault.TheVariants as fault
-use Rattle.eip_endpoint.specs.Lanes.{LaneView, LaneCall, LanesGrew, first_named}
-use Rattle.eip_endpoint.specs.Inlets.{InletView, InletsGrew}
+use Rattle.eip_endpoint.specs.Lanes.{LaneView, LanesGrew, first_named}
+use Rattle.eip_endpoint.specs.Inlets.{InletView}
 use Rattle.eip_endpoint.proofs.LaneLaws.{LanesGrew-none}
 use Rattle.eip_endpoint.proofs.InletLaws.{InletsGrew-none}
 use Rattle.eip_history.specs.Plan.{Plan}
-use Rattle.eip_history.specs.Own.{Past, numbered}
-use Rattle.eip_history.specs.Births.{births, Asked, asked}
+use Rattle.eip_history.specs.Own.{Past}
+use Rattle.eip_history.specs.Births.{births}
 use Rattle.eip_history.specs.Place.{place, place_of, hands, is_ready, ready_numbers, numbers_at, number_of}
-use Rattle.eip_history.specs.Rules.{IsLegal, first}
+use Rattle.eip_history.specs.Rules.{first}
 use Rattle.eip_history.specs.Stop.{is_of, actor, TheExchange, Actor}
 use Rattle.eip_history.specs.Tables.{AreNumberedFrom, put_in, without}
 use Rattle.eip_history.specs.Texts.{lane_of}

@@ -1,5 +1,5 @@
 -- What a drain on one thread leaves.
-use Rattle.std.specs.Prelude.{ℕ, ◌≡◌, ◌<◌, ◌≤◌, ◌⊎◌, ◌++◌, List, Some}
+use Rattle.std.specs.Prelude.{◌≡◌, ◌<◌, ◌≤◌, ◌⊎◌, ◌++◌, List, Some}
 use Rattle.eip_ledger.specs.declared.place.Stop.{Stop}
 use Rattle.eip_ledger.specs.declared.place.Stop.TheVariants.{NoMemory}
 use Rattle.eip_endpoint.specs.Lanes.{LaneView, LanesGrew}

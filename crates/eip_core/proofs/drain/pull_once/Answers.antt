@@ -1,5 +1,4 @@
-use Rattle.std.proofs.Common.{rules, arith, refl, sym, ◌∙◌, [], ◌∷◌, map, subst, ap}
-use Rattle.eip_ledger.specs.declared.entry.Kind.TheVariants.{Accept, Refuse, SourceEnd, SourceFault}
+use Rattle.std.proofs.Common.{refl, map}
 use Rattle.eip_core.proofs.Acts.{Rests, pullable, Pulled, pulled-out, drains-pull, drains-pulled, acts-pulled, ends-accept, ends-refuse, ends-source_end, ends-source_fault, seen-names, no-acts}
 use Rattle.eip_core.proofs.Compose.{drains-still}
 use Rattle.eip_endpoint.proofs.LaneLaws.{LanesGrew-none}

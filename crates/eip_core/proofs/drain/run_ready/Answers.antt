@@ -1,5 +1,6 @@
-use Rattle.std.proofs.Common.{refl, sym, ◌∙◌}
-use Rattle.eip_core.proofs.Acts.{Rests, rests-below, Chosen, chosen-ready, chosen-none, not-outside, drains-inner, acts-inner, drains-starved, acts-starved}
+use Rattle.std.proofs.Common.{refl}
+use Rattle.eip_core.proofs.Acts.{rests-below, Chosen, chosen-ready, chosen-none, not-outside, drains-inner, acts-inner, drains-starved, acts-starved}
+use Rattle.eip_core.proofs.Serving.{among-with}
 use Rattle.eip_core.proofs.drain.run_ready.Goals as goal
 
 pub inner-requires-clause-ready : goal.inner-requires-clause-ready
@@ -36,3 +37,6 @@ pub returns-in-Err-clause-acts : goal.returns-in-Err-clause-acts
 returns-in-Err-clause-acts g c =
     let h : Chosen c.args.hub.now c.args.number = record { rests = record { legal = c.requires.legal; home = c.requires.home; waits = c.requires.waits }; least = c.requires.least } in
     acts-starved h c.in-Err.ensures.err c.starve.ensures.adds c.starve.ensures.legal
+
+pub serve-requires-clause-known : goal.serve-requires-clause-known
+serve-requires-clause-known g c = rw (rw c.in-Ok-Outside.field-0-is at c.in-Ok-Outside.ensures.listed) (among-with c.args.number c.args.hub.now.outside)

@@ -1,4 +1,4 @@
-use Rattle.std.proofs.Common.{refl, sym, ap, ◌∙◌, map, Ok, Err, None}
+use Rattle.std.proofs.Common.{refl, map, Ok, Err}
 use Rattle.eip_frames.specs.declared.answer.Answer.TheVariants as reply
 use Rattle.eip_endpoint.specs.declared.endpoint.SendFault.TheVariants as fault
 use Rattle.eip_core.proofs.Acts.{Rests, rests-below}
