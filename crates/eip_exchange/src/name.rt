@@ -4,6 +4,8 @@ use eip_text::{NoMemory, Text};
 use std::hash::{Hash, Hasher};
 use std::marker::Model;
 
+// The keys own their text: no trait object can be made of what holds a type with a lifetime, and lanes hold messages.
+
 /// A header's name as a key, which is compared up to ASCII case.
 #[derive(Drop)]
 pub struct HeaderName {

@@ -211,7 +211,7 @@ fn place(map: &PropertyMap, name: &[u8]) -> Option<usize>
     index_of(map, name)
 }
 
-/// The index of a name, by a look at each key: a key that is asked for would have to borrow its bytes.
+/// The index of a name, by a look at each key: a key to ask the map with would have to borrow its bytes.
 fn index_of(map: &PropertyMap, name: &[u8]) -> Option<usize>
     ensures { result ≡ index_of_by (same_property (name.now, false)) map.now }
 {
