@@ -1,0 +1,5 @@
+pub mod Known
+pub mod Lines
+pub mod Sources
+pub mod Outputs
+pub mod Paths

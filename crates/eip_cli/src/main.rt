@@ -1,0 +1,7 @@
+// The program: its adapters of files, standard input and standard output, and its words.
+#![tactic(auto)]
+
+mod buffer;
+
+fn main(rt: HostRuntime) {
+}
