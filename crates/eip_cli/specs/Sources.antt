@@ -1,5 +1,5 @@
 -- What a source of lines gives.
-use Rattle.std.specs.Prelude.{ℕ, ◌≡◌, ◌+◌, ◌<◌, ◌≤◌, ◌++◌, List, [], Option, Some, None, Result, Ok, Err, length, decimal}
+use Rattle.std.specs.Prelude.{ℕ, ◌≡◌, ◌+◌, ◌<◌, ◌≤◌, ◌++◌, List, [], ◌∷◌, Option, Some, None, Result, Ok, Err, length, decimal}
 use Rattle.std.specs.Str.{IsUtf8}
 use Rattle.eip_exchange.specs.declared.message.Message.{Message}
 use Rattle.eip_endpoint.specs.Counters.{risen}
@@ -8,6 +8,7 @@ use Rattle.eip_endpoint.specs.declared.source.Pulled.TheVariants.{Item, Refused,
 use Rattle.eip_endpoint.specs.declared.source.Refusal.{Refusal}
 use Rattle.eip_endpoint.specs.declared.source.Refusal.TheVariants.{NotText, TooLong}
 use Rattle.eip_endpoint.specs.declared.source.PullFault.{PullFault}
+use Rattle.eip_endpoint.specs.declared.source.PullFault.TheVariants.{Failed, NoMemory}
 use Rattle.eip_cli.specs.Lines.{Next, Line, Nothing, Endless, next_line}
 
 -- the message of a line: the line is the body, and there are no headers and no properties
@@ -24,6 +25,17 @@ abbrev pub IsLine : ℕ → List ℕ → Pulled → Type 0
 IsLine number line (Item item message) = (item ≡ decimal number) × (message ≡ message_of line) × (length line ≤ 65536) × IsUtf8 line
 IsLine number line (Refused item cause) = (item ≡ decimal number) × IsRefusedFor line cause
 IsLine number line End = ⊥
+
+-- a line was taken out of a buffer and counted, or there was no memory and nothing was done
+abbrev pub TookLine : ℕ → List ℕ → List ℕ → List ℕ → Result Pulled PullFault → ℕ → List ℕ → Type 0
+TookLine lines buffer line rest (Ok p) lines' buffer' = IsLine (risen lines) line p × (lines' ≡ risen lines) × (buffer' ≡ rest)
+TookLine lines buffer line rest (Err NoMemory) lines' buffer' = (lines' ≡ lines) × (buffer' ≡ buffer)
+TookLine lines buffer line rest (Err Failed) lines' buffer' = ⊥
+
+-- the last bytes were taken out of a buffer as a line, or it is empty, and nothing is left
+abbrev pub TookLast : ℕ → List ℕ → Result Pulled PullFault → ℕ → List ℕ → Type 0
+TookLast lines [] r lines' buffer' = (r ≡ Ok End) × (lines' ≡ lines) × (buffer' ≡ [])
+TookLast lines (b ∷ bytes) r lines' buffer' = TookLine lines (b ∷ bytes) (b ∷ bytes) [] r lines' buffer'
 
 -- a pull that answers gave the next line and counted it, or found nothing left
 abbrev pub Gave : ℕ → Next → Pulled → ℕ → List ℕ → Type 0

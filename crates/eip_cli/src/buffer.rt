@@ -42,7 +42,8 @@ fn line_length_behind(bytes: &[u8], searched: usize) -> usize
     requires { searched ≤ line_length bytes.now }
     ensures { result ≡ line_length bytes.now }
 {
-    match memchr(b'\n', &bytes[searched..]) {
+    let (_, unseen) = bytes.split_at(searched);
+    match memchr(b'\n', unseen) {
         Some(index) => searched + index,
         None => bytes.len(),
     }
@@ -118,15 +119,21 @@ impl LineBuffer {
         self.searched = 0;
     }
 
-    /// Reads once, and puts what came behind the bytes: whether any came, which at the reader's end is false.
-    /// Before that the room of bytes that were taken is used again, once they are more than half of all.
-    fn refill<R: Read>(&mut self, reader: &mut R) -> Result<bool, PullFault>
-        ensures { Refilled self.old (R.remaining reader.old) result self.new (R.remaining reader.new) }
+    /// Uses the room of the bytes that were taken again, once they are more than half of all.
+    fn reuse_room(&mut self)
+        ensures { self.new ≡ self.old }
     {
         if self.start > self.bytes.len() / 2 {
             drop_front(&mut self.bytes, self.start);
             self.start = 0;
         }
+    }
+
+    /// Reads once, and puts what came behind the bytes: whether any came, which at the reader's end is false.
+    fn refill<R: Read>(&mut self, reader: &mut R) -> Result<bool, PullFault>
+        ensures { Refilled self.old (R.remaining reader.old) result self.new (R.remaining reader.new) }
+    {
+        self.reuse_room();
         read_behind(&mut self.bytes, self.piece.as_mut_slice(), reader)
     }
 

@@ -2,6 +2,7 @@
 #![tactic(auto)]
 
 mod buffer;
+mod lines;
 
 fn main(rt: HostRuntime) {
 }
