@@ -2,7 +2,7 @@ ghost use Rattle.std.specs.Prelude.{◌≡◌, ◌≤◌, ◌<◌, ◌++◌, [],
 ghost use Rattle.eip_cli.specs.Known.{Refilled};
 ghost use Rattle.eip_cli.specs.Lines.{line_length, Gathered};
 
-use eip_endpoint::PullFault;
+use crate::reading::{PIECE, ReadFault, read_behind};
 use eip_text::NoMemory;
 use memchr::memchr;
 use std::alloc::Global;
@@ -11,9 +11,6 @@ use std::marker::Model;
 
 /// The number of bytes, 1,048,576, within which a line must end.
 pub const LONGEST: usize = 1_048_576;
-
-/// How many bytes are asked of a reader at once.
-const PIECE: usize = 65_536;
 
 /// The bytes that came from a reader and belong to no line yet.
 #[derive(Drop)]
@@ -57,26 +54,6 @@ fn drop_front(bytes: &mut Vec<u8>, count: usize)
     let kept = bytes.len() - count;
     bytes.rotate_left(count);
     bytes.truncate(kept);
-}
-
-/// Reads once, and puts what came behind the bytes: whether any came, which at the reader's end is false. Room is
-/// made before the reading, so that no byte is lost for want of memory.
-fn read_behind<R: Read>(
-    bytes: &mut Vec<u8>,
-    piece: &mut [u8],
-    reader: &mut R,
-) -> Result<bool, PullFault>
-    requires { 0 < length piece.old }
-    ensures { Refilled bytes.old.items (R.remaining reader.old) result bytes.new.items (R.remaining reader.new) }
-{
-    if bytes.reserve(piece.len()).is_err() {
-        return Err(PullFault::NoMemory);
-    }
-    let Ok(count) = reader.read(piece) else {
-        return Err(PullFault::Failed);
-    };
-    bytes.extend_from_slice(&piece[..count]).unwrap();
-    Ok(count > 0)
 }
 
 impl LineBuffer {
@@ -130,7 +107,7 @@ impl LineBuffer {
     }
 
     /// Reads once, and puts what came behind the bytes: whether any came, which at the reader's end is false.
-    fn refill<R: Read>(&mut self, reader: &mut R) -> Result<bool, PullFault>
+    fn refill<R: Read>(&mut self, reader: &mut R) -> Result<bool, ReadFault>
         ensures { Refilled self.old (R.remaining reader.old) result self.new (R.remaining reader.new) }
     {
         self.reuse_room();
@@ -139,7 +116,7 @@ impl LineBuffer {
 
     /// Reads until an LF, 1,048,576 bytes or the reader's end came, and answers how many bytes stand before the
     /// first LF, or all of them where there is none. `Failed` comes where the reader failed; what came stays.
-    pub fn gather<R: Read>(&mut self, reader: &mut R) -> Result<usize, PullFault>
+    pub fn gather<R: Read>(&mut self, reader: &mut R) -> Result<usize, ReadFault>
         ensures { Gathered self.old (R.remaining reader.old) result self.new (R.remaining reader.new) }
     {
         'pieces: loop {

@@ -1,4 +1,4 @@
-ghost use Rattle.std.specs.Prelude.{◌≡◌, ◌+◌, ◌<◌, [], length, take, drop, IfOk};
+ghost use Rattle.std.specs.Prelude.{◌≡◌, ◌+◌, ◌<◌, [], None, length, take, drop, IfOk};
 ghost use Rattle.std.specs.Io.KnownBytes.{prepend_known};
 ghost use Rattle.eip_endpoint.specs.Counters.{risen};
 ghost use Rattle.eip_endpoint.specs.Pulls.{IsFair, pull_failure};
@@ -7,6 +7,7 @@ ghost use Rattle.eip_cli.specs.Lines.{without_return};
 ghost use Rattle.eip_cli.specs.Sources.{IsLine, TookLine, TookLast, TookKnown};
 
 use crate::buffer::{LONGEST, LineBuffer};
+use crate::reading::ReadFault;
 use eip_endpoint::{CommitFault, PullFault, Pulled, Refusal, Source};
 use eip_exchange::{End, Message};
 use eip_text::{NoMemory, Text, TextFault, decimal};
@@ -86,6 +87,7 @@ impl<R: Read> LineSource<R> {
     /// Counts a fault.
     fn fail(&mut self) -> PullFault
         ensures fault { result ≡ PullFault.Failed }
+        ensures rose { Rises 1 self.old.faults self.new.faults }
         ensures counted { self.new ≡ record self.old { faults = risen self.old.faults } }
     {
         self.faults = self.faults.saturating_add(1);
@@ -139,8 +141,8 @@ impl<R: Read> LineSource<R> {
     {
         let end = match self.buffer.gather(&mut self.reader) {
             Ok(end) => end,
-            Err(PullFault::Failed) => return Err(self.fail()),
-            Err(PullFault::NoMemory) => return Err(PullFault::NoMemory),
+            Err(ReadFault::Failed) => return Err(self.fail()),
+            Err(ReadFault::NoMemory) => return Err(PullFault::NoMemory),
         };
         if end >= LONGEST {
             return Err(self.fail());

@@ -2,7 +2,10 @@
 #![tactic(auto)]
 
 mod buffer;
+mod files;
 mod lines;
+mod output;
+mod reading;
 
 fn main(rt: HostRuntime) {
 }
