@@ -81,3 +81,19 @@ at-end n n' bytes kept o r ended took ys e =
     let now : bytes ≡ bytes ++ ys = rw none (sym (append-nil bytes)) in
     let later : kept ≡ kept ++ ys = rw none (sym (append-nil kept)) in
     subst (λ (bs : List ℕ). Took n bs r n' (kept ++ ys)) now (subst (λ (bs : List ℕ). Took n bytes r n' bs) later took)
+
+-- a line that was taken out of a buffer, behind readings that put enough into it
+pub known-ended : (n n' e : ℕ) (b0 b1 more kept : List ℕ) (o0 o1 : Option (List ℕ)) (r : Result Pulled PullFault)
+    → b1 ≡ b0 ++ more → Consumes o0 o1 more → e ≡ line_length b1 → e < 1048576 → e < length b1
+    → TookLine n b1 (without_return (take e b1)) (drop (e + 1) b1) r n' kept → TookKnown n (prepend_known b0 o0) r n' (prepend_known kept o1)
+known-ended n n' e b0 b1 more kept o0 o1 r behind taken first small ended took =
+    let now = subst (λ (k : ℕ). TookLine n b1 (without_return (take k b1)) (drop (k + 1) b1) r n' kept) first took in
+    took-known n n' b0 b1 more kept o0 o1 r behind taken (λ ys _. took-ended n n' b1 ys kept r (omega (arith, first, small)) (omega (arith, first, ended)) now)
+
+-- the last line, or none, behind readings to the reader's end
+pub known-last : (n n' e : ℕ) (b0 b1 more kept : List ℕ) (o0 o1 : Option (List ℕ)) (r : Result Pulled PullFault)
+    → b1 ≡ b0 ++ more → Consumes o0 o1 more → e ≡ line_length b1 → (e < 1048576 → length b1 ≤ e → IsAtEnd o1) → e < 1048576 → length b1 ≤ e
+    → TookLast n b1 r n' kept → TookKnown n (prepend_known b0 o0) r n' (prepend_known kept o1)
+known-last n n' e b0 b1 more kept o0 o1 r behind taken first ended small all took =
+    took-known n n' b0 b1 more kept o0 o1 r behind taken
+    (at-end n n' b1 kept o1 r (ended small all) (took-last n n' b1 kept r (omega (arith, first, small)) (omega (arith, first, all)) took))

@@ -1,6 +1,5 @@
-use Rattle.std.proofs.Common.{ℕ, ◌≡◌, ◌<◌, ◌≤◌, List, length, arith, sym}
-use Rattle.eip_cli.specs.Lines.{line_length}
-use Rattle.eip_cli.proofs.SourceLaws.{took-ended, took-last, took-known, at-end}
+use Rattle.std.proofs.Common.{length}
+use Rattle.eip_cli.proofs.SourceLaws.{known-ended, known-last}
 use Rattle.eip_cli.proofs.lines.LineSource.next.Goals as goal
 
 pub returns-in-Err-Failed-clause-faults : goal.returns-in-Err-Failed-clause-faults
@@ -10,7 +9,15 @@ pub returns-then-end-ge-LONGEST-clause-faults : goal.returns-then-end-ge-LONGEST
 returns-then-end-ge-LONGEST-clause-faults g c = rw c.fail-then-end-ge-LONGEST.ensures.fault c.fail-then-end-ge-LONGEST.ensures.rose
 
 pub returns-then-end-bytes-clause-took : goal.returns-then-end-bytes-clause-took
-returns-then-end-bytes-clause-took g c = ?
+returns-then-end-bytes-clause-took g c =
+    rw c.give_ended.ensures.reader
+    (known-ended _ _ c.in-Ok.end c.args.self.now.buffer c.gather.new.self c.gather.ensures.more c.give_ended.new.self.buffer _ _ _
+        c.gather.ensures.behind c.gather.ensures.consumed c.in-Ok.ensures.enough.first c.if-end-ge-LONGEST.false
+        (rw c.bytes.ensures at c.if-end-bytes.true) c.give_ended.ensures.took)
 
 pub returns-clause-took : goal.returns-clause-took
-returns-clause-took g c = ?
+returns-clause-took g c =
+    rw c.give_last.ensures.reader
+    (known-last _ _ c.in-Ok.end c.args.self.now.buffer c.gather.new.self c.gather.ensures.more c.give_last.new.self.buffer _ _ _
+        c.gather.ensures.behind c.gather.ensures.consumed c.in-Ok.ensures.enough.first c.in-Ok.ensures.enough.all c.if-end-ge-LONGEST.false
+        (rw c.bytes.ensures at c.if-end-bytes.false) c.give_last.ensures.took)
