@@ -1,2 +1,3 @@
+pub mod KnownLaws
 pub mod LineLaws
 pub mod SourceLaws

@@ -3,3 +3,4 @@ pub mod Lines
 pub mod Sources
 pub mod Outputs
 pub mod Paths
+pub mod Words

@@ -2,7 +2,7 @@ ghost use Rattle.std.specs.Prelude.{◌≡◌, ◌≤◌, ◌<◌, ◌++◌, [],
 ghost use Rattle.eip_cli.specs.Known.{Refilled};
 ghost use Rattle.eip_cli.specs.Lines.{line_length, Gathered};
 
-use crate::reading::{PIECE, ReadFault, read_behind};
+use crate::reading::{ReadFault, new_piece, read_behind};
 use eip_text::NoMemory;
 use memchr::memchr;
 use std::alloc::Global;
@@ -65,7 +65,7 @@ impl LineBuffer {
             bytes: Vec::new(alloc),
             start: 0,
             searched: 0,
-            piece: vec![in alloc; 0; PIECE]?,
+            piece: new_piece(alloc)?,
         })
     }
 

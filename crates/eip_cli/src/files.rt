@@ -1,9 +1,9 @@
-ghost use Rattle.std.specs.Prelude.{◌≡◌, ◌≢◌, Some, None, IfOk, IfSome, string_bytes};
+ghost use Rattle.std.specs.Prelude.{◌≡◌, ◌≢◌, ◌<◌, Some, None, length, IfOk, IfSome, string_bytes};
 ghost use Rattle.std.specs.IoError.{error_kind};
 ghost use Rattle.eip_endpoint.specs.Files.{read_of, IsWithin};
 ghost use Rattle.eip_cli.specs.Paths.{path_of};
 
-use crate::reading::{PIECE, ReadFault, read_behind};
+use crate::reading::{ReadFault, new_piece, read_behind};
 use eip_endpoint::{FileRead, Files, FilesFault};
 use eip_text::{NoMemory, Series, Text};
 use std::alloc::Global;
@@ -34,7 +34,32 @@ fn unopened(error: &Error) -> Result<FileRead, FilesFault>
     }
 }
 
-/// All bytes of a reader that has at most `limit`. Of a longer one no more than `limit` and one are read.
+/// All bytes of a reader that has at most `limit`, read piece by piece. Of a longer one no more than `limit` and one
+/// are read.
+fn read_by_pieces<R: Read>(
+    alloc: Global,
+    reader: &mut R,
+    piece: &mut [u8],
+    limit: usize,
+) -> Result<FileRead, FilesFault>
+    requires { 0 < length piece.old }
+    ensures read { IfOk result (λ r. IfSome (R.remaining reader.old) (λ all. r ≡ read_of limit (Some all))) }
+    ensures within { IfOk result (IsWithin limit) }
+{
+    let mut bytes = Vec::new(alloc);
+    'pieces: loop {
+        let wanted = (limit - bytes.len()).min(piece.len() - 1) + 1;
+        match read_behind(&mut bytes, &mut piece[..wanted], reader) {
+            Ok(true) if bytes.len() > limit => return Ok(FileRead::TooLong),
+            Ok(true) => {}
+            Ok(false) => return Ok(FileRead::Bytes(Series::of(bytes))),
+            Err(ReadFault::Failed) => return Err(FilesFault::Failed),
+            Err(ReadFault::NoMemory) => return Err(FilesFault::NoMemory),
+        }
+    }
+}
+
+/// All bytes of a reader that has at most `limit`.
 fn read_within<R: Read>(
     alloc: Global,
     reader: &mut R,
@@ -43,19 +68,9 @@ fn read_within<R: Read>(
     ensures read { IfOk result (λ r. IfSome (R.remaining reader.old) (λ all. r ≡ read_of limit (Some all))) }
     ensures within { IfOk result (IsWithin limit) }
 {
-    let mut bytes = Vec::new(alloc);
-    let Ok(mut piece) = vec![in alloc; 0; PIECE] else {
-        return Err(FilesFault::NoMemory);
-    };
-    'pieces: loop {
-        let wanted = (limit - bytes.len()).min(PIECE - 1) + 1;
-        match read_behind(&mut bytes, &mut piece[..wanted], reader) {
-            Ok(true) if bytes.len() > limit => return Ok(FileRead::TooLong),
-            Ok(true) => {}
-            Ok(false) => return Ok(FileRead::Bytes(Series::of(bytes))),
-            Err(ReadFault::Failed) => return Err(FilesFault::Failed),
-            Err(ReadFault::NoMemory) => return Err(FilesFault::NoMemory),
-        }
+    match new_piece(alloc) {
+        Ok(mut piece) => read_by_pieces(alloc, reader, piece.as_mut_slice(), limit),
+        Err(NoMemory) => Err(FilesFault::NoMemory),
     }
 }
 

@@ -12,10 +12,14 @@ fn put_all<W: Write>(writer: &mut W, bytes: &[u8]) -> bool
 {
     let mut rest = bytes;
     'parts: while !rest.is_empty() {
-        match writer.write(rest) {
-            Ok(count) if count > 0 => rest = &rest[count..],
-            _ => return false,
+        let Ok(count) = writer.write(rest) else {
+            return false;
+        };
+        if count == 0 {
+            return false;
         }
+        let (_, more) = rest.split_at(count);
+        rest = more;
     }
     true
 }

@@ -1,10 +1,12 @@
-ghost use Rattle.std.specs.Prelude.{◌<◌, length};
+ghost use Rattle.std.specs.Prelude.{◌<◌, length, vec_len, IfOk};
 ghost use Rattle.eip_cli.specs.Known.{Refilled};
 
+use eip_text::NoMemory;
+use std::alloc::Global;
 use std::io::Read;
 
 /// How many bytes are asked of a reader at once.
-pub const PIECE: usize = 65_536;
+const PIECE: usize = 65_536;
 
 /// Why nothing more was read.
 #[derive(Clone, Copy, Debug, PartialEq, Eq)]
@@ -13,6 +15,13 @@ pub enum ReadFault {
     Failed,
     /// There was no memory, and nothing was read.
     NoMemory,
+}
+
+/// Room for what one reading gives.
+pub fn new_piece(alloc: Global) -> Result<Vec<u8>, NoMemory>
+    ensures { IfOk result (λ piece. 0 < vec_len piece) }
+{
+    Ok(vec![in alloc; 0; PIECE]?)
 }
 
 /// Reads once, and puts what came behind the bytes: whether any came, which at the reader's end is false. Room is
