@@ -5,11 +5,19 @@ use Rattle.eip_exchange.specs.declared.message.Message.{Message}
 use Rattle.eip_endpoint.specs.Counters.{risen}
 use Rattle.eip_endpoint.specs.declared.source.Pulled.{Pulled}
 use Rattle.eip_endpoint.specs.declared.source.Pulled.TheVariants.{Item, Refused, End}
+use Rattle.eip_endpoint.specs.declared.source.Commit.{Commit}
 use Rattle.eip_endpoint.specs.declared.source.Refusal.{Refusal}
 use Rattle.eip_endpoint.specs.declared.source.Refusal.TheVariants.{NotText, TooLong}
 use Rattle.eip_endpoint.specs.declared.source.PullFault.{PullFault}
 use Rattle.eip_endpoint.specs.declared.source.PullFault.TheVariants.{Failed, NoMemory}
 use Rattle.eip_cli.specs.Lines.{Next, Line, Nothing, Endless, next_line}
+
+-- a source of lines tells neither what it gave nor what it was told
+abbrev pub untold_items : Option (List Pulled)
+untold_items = None
+
+abbrev pub untold_commits : Option (List Commit)
+untold_commits = None
 
 -- the message of a line: the line is the body, and there are no headers and no properties
 abbrev pub message_of : List ℕ → Message

@@ -60,7 +60,7 @@ fn read_by_pieces<R: Read>(
 }
 
 /// All bytes of a reader that has at most `limit`.
-fn read_within<R: Read>(
+pub fn read_within<R: Read>(
     alloc: Global,
     reader: &mut R,
     limit: usize,

@@ -1,10 +1,12 @@
-ghost use Rattle.std.specs.Prelude.{◌≡◌, ◌+◌, ◌<◌, [], None, length, take, drop, IfOk};
+ghost use Rattle.std.specs.Prelude.{◌≡◌, ◌+◌, ◌<◌, ℕ, List, [], length, take, drop, IfOk};
 ghost use Rattle.std.specs.Io.KnownBytes.{prepend_known};
 ghost use Rattle.eip_endpoint.specs.Counters.{risen};
-ghost use Rattle.eip_endpoint.specs.Pulls.{IsFair, pull_failure};
+ghost use Rattle.eip_endpoint.specs.Pulls.{given_by, all_taken, EndsAtEnd, IsFair, pull_failure, committed, commit_failure};
+ghost use Rattle.eip_endpoint.specs.Content.{extended, preceded, where_same};
+ghost use Rattle.eip_uri.specs.Printed.{printed};
 ghost use Rattle.eip_text.specs.Causes.{Rises};
 ghost use Rattle.eip_cli.specs.Lines.{without_return};
-ghost use Rattle.eip_cli.specs.Sources.{IsLine, TookLine, TookLast, TookKnown};
+ghost use Rattle.eip_cli.specs.Sources.{untold_items, untold_commits, IsLine, TookLine, TookLast, TookKnown};
 
 use crate::buffer::{LONGEST, LineBuffer};
 use crate::reading::ReadFault;
@@ -155,20 +157,37 @@ impl<R: Read> LineSource<R> {
 }
 
 impl<R: Read + Send + Drop> Source for LineSource<R> {
-    ghost given = { λ _ _. None };
+    ghost given = { λ _ _. untold_items };
 
-    ghost left = { λ _ _. None };
+    ghost left = { λ _ _. untold_items };
 
-    ghost commits = { λ _ _. None };
+    ghost commits = { λ _ _. untold_commits };
 
     ghost inlet_faults = { λ s. s.faults };
 
-    fn pull(&mut self, _from: &Uri) -> Result<Pulled, PullFault> {
+    /// Gives the next line, or the end where no byte is left. `Failed` comes where the reader failed, or where
+    /// 1,048,576 bytes came and hold no LF; no line is lost by it, nor by want of memory.
+    fn pull(&mut self, _from: &Uri) -> Result<Pulled, PullFault>
+        ensures given { (u : List ℕ) → untold_items ≡ extended untold_items (where_same u (printed _from.now) (given_by result)) }
+        ensures left { (u : List ℕ) → untold_items ≡ preceded (all_taken (where_same u (printed _from.now) (given_by result))) untold_items }
+        ensures ends { IfOk result (EndsAtEnd untold_items) }
+        ensures commits { (u : List ℕ) → untold_commits ≡ untold_commits }
+        ensures fair { IfOk result IsFair }
+        ensures faults { Rises (pull_failure result) self.old.faults self.new.faults }
+        ensures took { TookKnown self.old.lines (prepend_known self.old.buffer (R.remaining self.old.reader)) result self.new.lines (prepend_known self.new.buffer (R.remaining self.new.reader)) }
+    {
         self.next()
     }
 
     /// Does nothing, since no line can be given back.
-    fn commit(&mut self, _from: &Uri, _item: &Text, _end: &End) -> Result<(), CommitFault> {
+    fn commit(&mut self, _from: &Uri, _item: &Text, _end: &End) -> Result<(), CommitFault>
+        ensures given { (u : List ℕ) → untold_items ≡ untold_items }
+        ensures left { (u : List ℕ) → untold_items ≡ untold_items }
+        ensures commits { (u : List ℕ) → untold_commits ≡ extended untold_commits (where_same u (printed _from.now) (committed _item.now _end.now result)) }
+        ensures faults { Rises (commit_failure result) self.old.faults self.new.faults }
+        ensures done { result ≡ Ok tt }
+        ensures same { self.new ≡ self.old }
+    {
         Ok(())
     }
 }

@@ -12,6 +12,9 @@ mod output;
 mod reading;
 mod words;
 
+#[cfg(test)]
+mod tests;
+
 use eip_endpoint::{Inlet, Lane, Sink, SinkFault};
 use eip_text::{NoMemory, Text};
 use files::HostFiles;
@@ -39,7 +42,8 @@ The status tells how a run came out:
   5  there was no memory
 
 Example, with a file routes.json that holds
-  [{\"from\":{\"uri\":\"stream:in\",\"steps\":[{\"to\":\"log:out\"}]}}]
+  [{\"from\": {\"uri\": \"stream:in\", \"steps\": [
+    {\"setBody\": {\"constant\": \"hi\"}}, {\"to\": \"log:out\"}]}}]
   eip drain routes.json < lines.txt
 ";
 
