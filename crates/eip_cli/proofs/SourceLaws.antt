@@ -7,7 +7,7 @@ use Rattle.eip_endpoint.specs.declared.source.Pulled.{Pulled}
 use Rattle.eip_endpoint.specs.declared.source.Pulled.TheVariants.{Item, Refused, End}
 use Rattle.eip_endpoint.specs.declared.source.PullFault.{PullFault}
 use Rattle.eip_endpoint.specs.declared.source.PullFault.TheVariants.{Failed, NoMemory}
-use Rattle.eip_cli.specs.Lines.{Next, Line, Nothing, Endless, line_length, without_return, last_line, next_line}
+use Rattle.eip_cli.specs.Lines.{Next, Line, Nothing, Endless, HasLine, line_length, without_return, last_line, next_line}
 use Rattle.eip_cli.specs.Sources.{TookLine, TookLast, Gave, Took, TookKnown}
 use Rattle.eip_cli.proofs.LineLaws.{line_length-le, line_length-ended}
 
@@ -97,3 +97,9 @@ pub known-last : (n n' e : ℕ) (b0 b1 more kept : List ℕ) (o0 o1 : Option (Li
 known-last n n' e b0 b1 more kept o0 o1 r behind taken first ended small all took =
     took-known n n' b0 b1 more kept o0 o1 r behind taken
     (at-end n n' b1 kept o1 r (ended small all) (took-last n n' b1 kept r (omega (arith, first, small)) (omega (arith, first, all)) took))
+
+-- a whole line that was there is as long as it was, behind more readings
+pub still-short : (old more new : List ℕ) (e : ℕ) → new ≡ old ++ more → e ≡ line_length new → HasLine old → e < 1048576
+still-short old more new e behind first (ended, short) =
+    let same : line_length new ≡ line_length old = ap line_length behind ∙ line_length-ended old more ended in
+    omega (arith, first, same, short)

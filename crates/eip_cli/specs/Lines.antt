@@ -43,3 +43,7 @@ pub record Gathered {E : Type 0} (old : List ℕ) (was : Option (List ℕ)) (r :
   pub behind : new ≡ old ++ more
   pub consumed : Consumes was now more
   pub enough : IfOk r (Enough new now)
+
+-- the bytes hold a whole line, whose LF stands early enough
+abbrev pub HasLine : List ℕ → Type 0
+HasLine bytes = (line_length bytes < length bytes) × (line_length bytes < 1048576)

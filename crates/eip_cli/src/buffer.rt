@@ -1,4 +1,4 @@
-ghost use Rattle.std.specs.Prelude.{◌≡◌, ◌≤◌, ◌<◌, ◌++◌, [], length, drop, vec_len, IfOk};
+ghost use Rattle.std.specs.Prelude.{◌≡◌, ◌≤◌, ◌<◌, ◌++◌, [], length, drop, vec_len, IfOk, IsOk};
 ghost use Rattle.eip_cli.specs.Known.{Refilled};
 ghost use Rattle.eip_cli.specs.Lines.{line_length, Gathered};
 
@@ -115,9 +115,11 @@ impl LineBuffer {
     }
 
     /// Reads until an LF, 1,048,576 bytes or the reader's end came, and answers how many bytes stand before the
-    /// first LF, or all of them where there is none. `Failed` comes where the reader failed; what came stays.
+    /// first LF, or all of them where there is none. An LF that is there already is found without a reading. `Failed`
+    /// comes where the reader failed; what came stays.
     pub fn gather<R: Read>(&mut self, reader: &mut R) -> Result<usize, ReadFault>
-        ensures { Gathered self.old (R.remaining reader.old) result self.new (R.remaining reader.new) }
+        ensures gathered { Gathered self.old (R.remaining reader.old) result self.new (R.remaining reader.new) }
+        ensures ready { line_length self.old < length self.old → IsOk result }
     {
         'pieces: loop {
             let length = self.line_length();

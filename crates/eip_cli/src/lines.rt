@@ -1,11 +1,11 @@
-ghost use Rattle.std.specs.Prelude.{◌≡◌, ◌+◌, ◌<◌, ℕ, List, [], length, take, drop, IfOk};
+ghost use Rattle.std.specs.Prelude.{◌≡◌, ◌+◌, ◌<◌, ℕ, List, [], length, take, drop, IfOk, IsErrOf};
 ghost use Rattle.std.specs.Io.KnownBytes.{prepend_known};
 ghost use Rattle.eip_endpoint.specs.Counters.{risen};
 ghost use Rattle.eip_endpoint.specs.Pulls.{given_by, all_taken, EndsAtEnd, IsFair, pull_failure, committed, commit_failure};
 ghost use Rattle.eip_endpoint.specs.Content.{extended, preceded, where_same};
 ghost use Rattle.eip_uri.specs.Printed.{printed};
 ghost use Rattle.eip_text.specs.Causes.{Rises};
-ghost use Rattle.eip_cli.specs.Lines.{without_return};
+ghost use Rattle.eip_cli.specs.Lines.{without_return, HasLine};
 ghost use Rattle.eip_cli.specs.Sources.{untold_items, untold_commits, IsLine, TookLine, TookLast, TookKnown};
 
 use crate::buffer::{LONGEST, LineBuffer};
@@ -137,6 +137,7 @@ impl<R: Read> LineSource<R> {
 
     /// Gives the next line, or the end where no byte is left.
     fn next(&mut self) -> Result<Pulled, PullFault>
+        ensures ready { HasLine self.old.buffer → ¬ (IsErrOf result PullFault.Failed) }
         ensures took { TookKnown self.old.lines (prepend_known self.old.buffer (R.remaining self.old.reader)) result self.new.lines (prepend_known self.new.buffer (R.remaining self.new.reader)) }
         ensures fair { IfOk result IsFair }
         ensures faults { Rises (pull_failure result) self.old.faults self.new.faults }
@@ -166,7 +167,8 @@ impl<R: Read + Send + Drop> Source for LineSource<R> {
     ghost inlet_faults = { λ s. s.faults };
 
     /// Gives the next line, or the end where no byte is left. `Failed` comes where the reader failed, or where
-    /// 1,048,576 bytes came and hold no LF; no line is lost by it, nor by want of memory.
+    /// 1,048,576 bytes came and hold no LF, and never where a line is in the buffer already. No line is lost by it, nor
+    /// by want of memory.
     fn pull(&mut self, _from: &Uri) -> Result<Pulled, PullFault>
         ensures given { (u : List ℕ) → untold_items ≡ extended untold_items (where_same u (printed _from.now) (given_by result)) }
         ensures left { (u : List ℕ) → untold_items ≡ preceded (all_taken (where_same u (printed _from.now) (given_by result))) untold_items }
@@ -174,6 +176,7 @@ impl<R: Read + Send + Drop> Source for LineSource<R> {
         ensures commits { (u : List ℕ) → untold_commits ≡ untold_commits }
         ensures fair { IfOk result IsFair }
         ensures faults { Rises (pull_failure result) self.old.faults self.new.faults }
+        ensures ready { HasLine self.old.buffer → ¬ (IsErrOf result PullFault.Failed) }
         ensures took { TookKnown self.old.lines (prepend_known self.old.buffer (R.remaining self.old.reader)) result self.new.lines (prepend_known self.new.buffer (R.remaining self.new.reader)) }
     {
         self.next()

@@ -1,4 +1,4 @@
-ghost use Rattle.std.specs.Prelude.{◌≡◌, None, IsErrOf, is_ok};
+ghost use Rattle.std.specs.Prelude.{◌≡◌, [], None, IsErrOf, IsOk, IsTrue, is_ok};
 ghost use Rattle.eip_text.specs.Causes.{Rises};
 ghost use Rattle.eip_endpoint.specs.Sinks.{Wrote, sink_failure};
 ghost use Rattle.eip_cli.specs.Outputs.{Put};
@@ -8,7 +8,8 @@ use std::io::Write;
 
 /// Writes all of the bytes, and says whether that was done. Where it was not, the front of them may be written.
 fn put_all<W: Write>(writer: &mut W, bytes: &[u8]) -> bool
-    ensures { Put (W.contents writer.old) bytes.now result (W.contents writer.new) }
+    ensures put { Put (W.contents writer.old) bytes.now result (W.contents writer.new) }
+    ensures empty { bytes.now ≡ [] → IsTrue result }
 {
     let mut rest = bytes;
     'parts: while !rest.is_empty() {
@@ -46,12 +47,13 @@ impl<W: Write> Sink for Output<W> {
 
     ghost sink_faults = { λ s. s.faults };
 
-    /// Writes all of a piece. Where the writer answers an error, or takes nothing of what is left, the piece has
-    /// failed, and the front of it may be written.
+    /// Writes all of a piece, and for an empty one asks nothing of the writer. Where the writer answers an error, or
+    /// takes nothing of what is left, the piece has failed, and the front of it may be written.
     fn write(&mut self, piece: &[u8]) -> Result<(), SinkFault>
         ensures content { Wrote None piece.now result None }
         ensures memory { ¬ (IsErrOf result SinkFault.NoMemory) }
         ensures faults { Rises (sink_failure result) self.old.faults self.new.faults }
+        ensures empty { piece.now ≡ [] → IsOk result }
         ensures put { Put (W.contents self.old.writer) piece.now (is_ok result) (W.contents self.new.writer) }
     {
         if put_all(&mut self.writer, piece) {
