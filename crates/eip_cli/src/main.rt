@@ -15,7 +15,9 @@ mod words;
 #[cfg(test)]
 mod tests;
 
+use eip_core::Registry;
 use eip_endpoint::{Inlet, Lane, Sink, SinkFault};
+use eip_run::run::run as run_command;
 use eip_text::{NoMemory, Text};
 use files::HostFiles;
 use lines::LineSource;
@@ -73,21 +75,31 @@ fn say<S: Sink>(out: &mut S, text: &str, status: u8) -> u8
     }
 }
 
-/// Makes the objects of the outside, and runs a command over them. No word is a command's yet.
+/// Makes the objects of the outside, and runs a command over them.
 fn run<R: rt::Files + AllocGlobal>(
     rt: &R,
+    words: &[Text],
     input: Stdin,
     out: &mut Output<Stdout>,
 ) -> Result<u8, NoMemory> {
     let alloc = rt.alloc();
-    let _files = HostFiles::new(alloc, rt);
+    let mut files = HostFiles::new(alloc, rt);
     let mut inlets = Vec::new(alloc);
     inlets.push(Inlet {
         name: Text::of_str(alloc, "stream")?,
         object: Box::new(alloc, LineSource::new(alloc, input)?)?,
     })?;
-    let _lanes: Vec<Lane> = Vec::new(alloc);
-    Ok(say(out, "error words\n", REFUSED))
+    let mut lanes: Vec<Lane> = Vec::new(alloc);
+    let report = run_command(
+        alloc,
+        words,
+        &mut files,
+        &mut lanes,
+        &mut inlets,
+        &Registry::new(),
+        out,
+    );
+    Ok(report.status)
 }
 
 /// Answers the words that ask of the program itself, and runs the others as a command.
@@ -102,7 +114,7 @@ fn answer<R: rt::Files + Env + AllocGlobal>(
     match question_of(words.as_slice()) {
         Some(Question::Help) => Ok(say(out, HELP, 0)),
         Some(Question::Version) => Ok(say(out, VERSION, 0)),
-        None => run(rt, input, out),
+        None => run(rt, words.as_slice(), input, out),
     }
 }
 
