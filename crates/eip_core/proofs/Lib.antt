@@ -7,3 +7,4 @@ pub mod Acts
 pub mod Sends
 pub mod Serving
 pub mod Turns
+pub mod Rows

@@ -1,11 +1,14 @@
 -- What stands from turn to turn of a drain.
-use Rattle.std.proofs.Common.{◌≡◌, ℕ, ◌-◌, ◌<◌, List, sym, subst, ◌∙◌, arith}
+use Rattle.std.proofs.Common.{[], ◌≡◌, ℕ, ◌-◌, ◌<◌, List, sym, subst, ◌∙◌, arith}
 use Rattle.eip_route.specs.declared.route.RouteSet.{RouteSet}
 use Rattle.eip_endpoint.specs.Lanes.{LaneView}
 use Rattle.eip_endpoint.specs.Inlets.{InletView}
 use Rattle.eip_endpoint.proofs.LaneLaws.{LanesGrew-names}
 use Rattle.eip_endpoint.proofs.InletLaws.{InletsGrew-names}
 use Rattle.eip_history.specs.Own.{turns}
+use Rattle.eip_history.specs.Place.{hands}
+use Rattle.eip_history.specs.Plan.{Plan}
+use Rattle.eip_history.specs.Rules.{IsLegal}
 use Rattle.eip_history.proofs.Limit.{legal-within}
 use Rattle.eip_books.specs.View.{BooksView, plan, IsLegalRun}
 use Rattle.eip_core.specs.Doors.{CanRun, lane_names, inlet_names}
@@ -26,3 +29,11 @@ pub fewer-turns : {u v : BooksView} {l m : List LaneView} {i j : List InletView}
 fewer-turns {u} {v} d legal more =
     let within = legal-within (plan v) v.journal.workers v.journal.turns v.journal.past legal in
     omega (arith, within, more, d.same.turns)
+
+-- before the first entry no hand is out
+none-yet : (s : Plan) → hands s [] ≡ 0
+unfolding IsLegal
+none-yet s = let within = legal-within s 0 0 [] tt in omega (arith, within)
+
+pub none-out : (v : BooksView) → v.journal.past ≡ [] → hands (plan v) v.journal.past ≡ 0
+none-out v none = rw none (none-yet (plan v))

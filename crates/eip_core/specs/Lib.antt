@@ -1,3 +1,4 @@
 pub mod Doors
 pub mod Outside
 pub mod Drain
+pub mod Rows

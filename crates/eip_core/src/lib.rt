@@ -5,4 +5,7 @@ pub mod drain;
 pub mod outside;
 pub mod registry;
 
+#[cfg(test)]
+mod tests;
+
 pub use registry::Registry;
