@@ -1,24 +1,12 @@
 -- How the ends of exchanges are counted one by one.
-use Rattle.std.specs.Prelude.{ℕ, ◌≡◌, ◌+◌, Bool, true, false, Option, Some, None}
+use Rattle.std.specs.Prelude.{ℕ, ◌≡◌, ◌+◌, Option, Some, None}
 use Rattle.eip_exchange.specs.declared.end.Ending.{Ending}
 use Rattle.eip_exchange.specs.declared.end.Ending.TheVariants as ending
-use Rattle.eip_ledger.specs.declared.entry.Kind.{Kind}
-use Rattle.eip_ledger.specs.declared.entry.Kind.TheVariants.{Accept, Refuse}
 use Rattle.eip_history.specs.Plan.{Plan}
 use Rattle.eip_history.specs.Own.{Past}
 use Rattle.eip_history.specs.Texts.{is_completed, is_handled}
 use Rattle.eip_history.specs.Counts.{is_failed, is_waiting, count_of_first}
 use Rattle.eip_endbook.specs.declared.counts.Ends.{Ends}
-
--- an entry that takes an item in
-abbrev pub accepts : Kind → Bool
-accepts (Accept t item m) = true
-accepts _ = false
-
--- an entry that turns an item away
-abbrev pub refuses : Kind → Bool
-refuses (Refuse t item c) = true
-refuses _ = false
 
 -- one more exchange, which ended so or has not ended
 abbrev pub counted : Option Ending → Ends → Ends

@@ -19,8 +19,8 @@ loop-entry-preserved c =
     let next = ap accepted_count (past-more es k e within)
     ∙ (accepted-more (get_or es k e) (past_at es k) ∙ ap (λ (x : Entry). accepted_count (past_at es k) + accepted_in x.kind) (sym c.entry-item.is)) in
     record {
-      count = omega (arith, next, c.loop-entry.invariant.count, c.accepted_by.ensures.value);
-      few = omega (arith, c.loop-entry.invariant.few, c.accepted_by.ensures.small);
+      count = omega (arith, next, c.loop-entry.invariant.count, c.accepted_by-count.ensures.value);
+      few = omega (arith, c.loop-entry.invariant.few, c.accepted_by-count.ensures.small);
     }
 
 pub returns : goal.returns

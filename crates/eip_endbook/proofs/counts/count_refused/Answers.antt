@@ -19,8 +19,8 @@ loop-entry-preserved c =
     let next = ap refused_count (past-more es k e within)
     ∙ (refused-more (get_or es k e) (past_at es k) ∙ ap (λ (x : Entry). refused_count (past_at es k) + refused_in x.kind) (sym c.entry-item.is)) in
     record {
-      count = omega (arith, next, c.loop-entry.invariant.count, c.refused_by.ensures.value);
-      few = omega (arith, c.loop-entry.invariant.few, c.refused_by.ensures.small);
+      count = omega (arith, next, c.loop-entry.invariant.count, c.refused_by-count.ensures.value);
+      few = omega (arith, c.loop-entry.invariant.few, c.refused_by-count.ensures.small);
     }
 
 pub returns : goal.returns

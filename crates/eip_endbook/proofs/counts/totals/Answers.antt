@@ -1,16 +1,16 @@
 use Rattle.std.proofs.Common.{◌∙◌}
+use Rattle.std.proofs.lemmas.List.{reverse-reverse}
 use Rattle.eip_history.specs.Texts.{is_completed, is_handled}
 use Rattle.eip_history.specs.Counts.{is_failed, is_waiting}
 use Rattle.eip_history.proofs.Totals.{count-first-all}
 use Rattle.eip_books.specs.View.{plan}
-use Rattle.eip_endbook.proofs.Entries.{accepted-are, refused-are}
 use Rattle.eip_endbook.proofs.counts.totals.Goals as goal
 
 pub returns-clause-accepted : goal.returns-clause-accepted
-returns-clause-accepted c = c.count_accepted.ensures ∙ rw (c.entries-entries.ensures, c.journal.ensures.journal) (accepted-are c.args.hub.now.journal.past)
+returns-clause-accepted c = c.count_accepted.ensures ∙ rw (c.entries-entries.ensures, c.journal.ensures.journal, reverse-reverse)
 
 pub returns-clause-refused : goal.returns-clause-refused
-returns-clause-refused c = c.count_refused.ensures ∙ rw (c.entries-entries.ensures, c.journal.ensures.journal) (refused-are c.args.hub.now.journal.past)
+returns-clause-refused c = c.count_refused.ensures ∙ rw (c.entries-entries.ensures, c.journal.ensures.journal, reverse-reverse)
 
 pub returns-clause-completed : goal.returns-clause-completed
 returns-clause-completed c = c.count_ends-ends.ensures.completed ∙ count-first-all (plan c.args.hub.now) c.args.hub.now.journal.past is_completed
