@@ -2,7 +2,7 @@ ghost use Rattle.std.specs.Prelude.{◌≡◌, ◌≤◌, length, map};
 ghost use Rattle.eip_endpoint.specs.Lanes.{seen_lane};
 ghost use Rattle.eip_endpoint.specs.Inlets.{seen_inlet};
 ghost use Rattle.eip_run.specs.Outcomes.{status_of};
-ghost use Rattle.eip_core.specs.Doors.{HasInlets};
+ghost use Rattle.eip_core.specs.Doors.{CanRun};
 ghost use Rattle.eip_run.specs.Reports.{Reports};
 ghost use Rattle.eip_run.specs.Drained.{Drained};
 
@@ -31,8 +31,8 @@ fn drain<O: Sink>(
     out: &mut O,
 ) -> (Outcome, Journal)
     requires few { length set.routes ≤ 256 }
-    requires inlets { HasInlets set (map (λ i. i.name) inlets.old) }
-    ensures { Drained set result.1 (map (seen_lane calls lane_faults) lanes.old) (map (seen_lane calls lane_faults) lanes.new) (map (seen_inlet given left commits inlet_faults) inlets.old) (map (seen_inlet given left commits inlet_faults) inlets.new) (O.bytes out.old) (O.bytes out.new) (O.sink_faults out.old) (O.sink_faults out.new) result.0 }
+    requires can_run { CanRun set (map (λ l. l.name) lanes.old) (map (λ i. i.name) inlets.old) }
+    ensures { Drained set result.1 (map (seen_lane (λ b. (⟦<dyn Endpoint as Endpoint>⟧ b.vtable).calls b.value) (λ b. (⟦<dyn Endpoint as Endpoint>⟧ b.vtable).lane_faults b.value)) lanes.old) (map (seen_lane (λ b. (⟦<dyn Endpoint as Endpoint>⟧ b.vtable).calls b.value) (λ b. (⟦<dyn Endpoint as Endpoint>⟧ b.vtable).lane_faults b.value)) lanes.new) (map (seen_inlet (λ b. (⟦<dyn Source as Source>⟧ b.vtable).given b.value) (λ b. (⟦<dyn Source as Source>⟧ b.vtable).left b.value) (λ b. (⟦<dyn Source as Source>⟧ b.vtable).commits b.value) (λ b. (⟦<dyn Source as Source>⟧ b.vtable).inlet_faults b.value)) inlets.old) (map (seen_inlet (λ b. (⟦<dyn Source as Source>⟧ b.vtable).given b.value) (λ b. (⟦<dyn Source as Source>⟧ b.vtable).left b.value) (λ b. (⟦<dyn Source as Source>⟧ b.vtable).commits b.value) (λ b. (⟦<dyn Source as Source>⟧ b.vtable).inlet_faults b.value)) inlets.new) (O.bytes out.old) (O.bytes out.new) (O.sink_faults out.old) (O.sink_faults out.new) result.0 }
 {
     let Ok(mut hub) = Hub::new(alloc, set, 0, TURN_LIMIT) else {
         let outcome = tell_memory(out, Outcome::NoMemory);
@@ -41,6 +41,39 @@ fn drain<O: Sink>(
     let stop = drain_alone(&mut hub, lanes, inlets, registry);
     let outcome = tell_run(alloc, &hub, stop, out);
     (outcome, hub.into_journal())
+}
+
+/// Runs the routes that the words ask for, or tells why nothing runs.
+fn carry_out<F: Files, O: Sink>(
+    alloc: Global,
+    words: &[Text],
+    files: &mut F,
+    lanes: &mut [Lane],
+    inlets: &mut [Inlet],
+    registry: &Registry,
+    out: &mut O,
+) -> (Outcome, Journal)
+    ensures report { Reports (record {
+      words = words.now;
+      files = F.files files.old;
+      files_before = F.files_faults files.old;
+      files_after = F.files_faults files.new;
+      lanes_before = map (seen_lane (λ b. (⟦<dyn Endpoint as Endpoint>⟧ b.vtable).calls b.value) (λ b. (⟦<dyn Endpoint as Endpoint>⟧ b.vtable).lane_faults b.value)) lanes.old;
+      lanes_after = map (seen_lane (λ b. (⟦<dyn Endpoint as Endpoint>⟧ b.vtable).calls b.value) (λ b. (⟦<dyn Endpoint as Endpoint>⟧ b.vtable).lane_faults b.value)) lanes.new;
+      inlets_before = map (seen_inlet (λ b. (⟦<dyn Source as Source>⟧ b.vtable).given b.value) (λ b. (⟦<dyn Source as Source>⟧ b.vtable).left b.value) (λ b. (⟦<dyn Source as Source>⟧ b.vtable).commits b.value) (λ b. (⟦<dyn Source as Source>⟧ b.vtable).inlet_faults b.value)) inlets.old;
+      inlets_after = map (seen_inlet (λ b. (⟦<dyn Source as Source>⟧ b.vtable).given b.value) (λ b. (⟦<dyn Source as Source>⟧ b.vtable).left b.value) (λ b. (⟦<dyn Source as Source>⟧ b.vtable).commits b.value) (λ b. (⟦<dyn Source as Source>⟧ b.vtable).inlet_faults b.value)) inlets.new;
+      journal = result.1;
+    })
+        (O.bytes out.old) (O.bytes out.new) (O.sink_faults out.old) (O.sink_faults out.new) result.0 }
+    ensures files { F.files files.new ≡ F.files files.old }
+{
+    match prepare(alloc, words, files, lanes, inlets) {
+        Ok(set) => drain(alloc, set, lanes, inlets, registry, out),
+        Err(refusal) => (
+            tell_refusal(alloc, out, refusal),
+            Journal::new(alloc, 0, TURN_LIMIT),
+        ),
+    }
 }
 
 /// Runs the command of these words: reads its route file from `files`, drains its routes over the lanes and inlets that are
@@ -56,28 +89,29 @@ pub fn run<F: Files, O: Sink>(
     out: &mut O,
 ) -> Report
     ensures report { Reports (record {
-        words = words.now; files = F.files files.old; files_before = F.files_faults files.old; files_after = F.files_faults files.new;
-        lanes_before = map (seen_lane calls lane_faults) lanes.old.items; lanes_after = map (seen_lane calls lane_faults) lanes.new.items;
-        inlets_before = map (seen_inlet given left commits inlet_faults) inlets.old.items; inlets_after = map (seen_inlet given left commits inlet_faults) inlets.new.items;
-        journal = result.journal })
+      words = words.now;
+      files = F.files files.old;
+      files_before = F.files_faults files.old;
+      files_after = F.files_faults files.new;
+      lanes_before = map (seen_lane (λ b. (⟦<dyn Endpoint as Endpoint>⟧ b.vtable).calls b.value) (λ b. (⟦<dyn Endpoint as Endpoint>⟧ b.vtable).lane_faults b.value)) lanes.old.items;
+      lanes_after = map (seen_lane (λ b. (⟦<dyn Endpoint as Endpoint>⟧ b.vtable).calls b.value) (λ b. (⟦<dyn Endpoint as Endpoint>⟧ b.vtable).lane_faults b.value)) lanes.new.items;
+      inlets_before = map (seen_inlet (λ b. (⟦<dyn Source as Source>⟧ b.vtable).given b.value) (λ b. (⟦<dyn Source as Source>⟧ b.vtable).left b.value) (λ b. (⟦<dyn Source as Source>⟧ b.vtable).commits b.value) (λ b. (⟦<dyn Source as Source>⟧ b.vtable).inlet_faults b.value)) inlets.old.items;
+      inlets_after = map (seen_inlet (λ b. (⟦<dyn Source as Source>⟧ b.vtable).given b.value) (λ b. (⟦<dyn Source as Source>⟧ b.vtable).left b.value) (λ b. (⟦<dyn Source as Source>⟧ b.vtable).commits b.value) (λ b. (⟦<dyn Source as Source>⟧ b.vtable).inlet_faults b.value)) inlets.new.items;
+      journal = result.journal;
+    })
         (O.bytes out.old) (O.bytes out.new) (O.sink_faults out.old) (O.sink_faults out.new) result.outcome }
     ensures status { result.status ≡ status_of result.outcome }
     ensures files { F.files files.new ≡ F.files files.old }
 {
-    let (outcome, journal) = match prepare(alloc, words, files, lanes.as_slice(), inlets.as_slice()) {
-        Ok(set) => drain(
-            alloc,
-            set,
-            lanes.as_mut_slice(),
-            inlets.as_mut_slice(),
-            registry,
-            out,
-        ),
-        Err(refusal) => (
-            tell_refusal(alloc, out, refusal),
-            Journal::new(alloc, 0, TURN_LIMIT),
-        ),
-    };
+    let (outcome, journal) = carry_out(
+        alloc,
+        words,
+        files,
+        lanes.as_mut_slice(),
+        inlets.as_mut_slice(),
+        registry,
+        out,
+    );
     Report {
         status: outcome.status(),
         outcome,
