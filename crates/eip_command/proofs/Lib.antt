@@ -1,4 +1,4 @@
-mod Exact
+pub mod Exact
 mod Paths
 mod Shapes
 mod Steps

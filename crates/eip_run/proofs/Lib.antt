@@ -1,0 +1,3 @@
+pub mod Runnable
+pub mod Telling
+pub mod Ending

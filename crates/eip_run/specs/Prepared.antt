@@ -4,6 +4,7 @@ use Rattle.eip_text.specs.Causes.{Rises}
 use Rattle.eip_route.specs.declared.route.RouteSet.{RouteSet}
 use Rattle.eip_command.specs.Words.{command_of}
 use Rattle.eip_command.specs.declared.words.Path.{Path}
+use Rattle.eip_command.specs.declared.words.Command.{Command}
 use Rattle.eip_command.specs.declared.words.Command.TheVariants.{Drain}
 use Rattle.eip_command.specs.declared.fault.Cause.{Cause}
 use Rattle.eip_command.specs.declared.fault.RouteFault.{RouteFault}
@@ -13,6 +14,10 @@ use Rattle.eip_endpoint.specs.declared.files.FileRead.{FileRead}
 use Rattle.eip_run.specs.declared.prepare.Refusal.{Refusal}
 use Rattle.eip_run.specs.declared.prepare.Refusal.TheVariants as refusal
 use Rattle.eip_run.specs.Routes.{file_limit, found}
+
+-- the path of the route file that a command names
+abbrev pub path_in : Command → Path
+path_in (Drain p) = p
 
 -- a fault of the whole file
 abbrev pub whole_file : Cause → RouteFault

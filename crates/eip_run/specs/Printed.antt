@@ -17,7 +17,8 @@ pub data OfRefusal : Refusal → Outcome → List ℕ → Type 0 where
   OfWords : OfRefusal refusal.Words outcome.Words (codes "error words\n")
   OfFiles : OfRefusal refusal.FilesFault outcome.FilesFault (codes "error files\n")
   OfRoutes : (f : RouteFault) → OfRefusal (refusal.Routes f) (outcome.Routes f) (fault_line f)
-  OfMemory : (r : Refusal) → OfRefusal r outcome.NoMemory (codes "error memory\n")
+  OfNoLine : (f : RouteFault) → OfRefusal (refusal.Routes f) outcome.NoMemory (codes "error memory\n")
+  OfMemory : OfRefusal refusal.NoMemory outcome.NoMemory (codes "error memory\n")
 
 -- the outcome and the text of a run
 pub data OfRun (set : RouteSet) (past : Past) : Stop → Outcome → List ℕ → Type 0 where

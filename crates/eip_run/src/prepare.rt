@@ -1,9 +1,11 @@
 ghost use Rattle.std.specs.Prelude.{◌≡◌, Ok, Err, IfOk, map, cond};
 ghost use Rattle.eip_command.specs.Form.{read_routes};
 ghost use Rattle.eip_run.specs.Routes.{found, with_stream, has_stream};
-ghost use Rattle.eip_run.specs.Prepared.{Answers, Prepares};
+ghost use Rattle.eip_run.specs.Prepared.{path_in, Answers, Prepares};
 
-use eip_command::{Cause, Command, FormRefusal, RouteFault, WordsFault, read_form, read_words};
+use eip_command::{
+    Cause, Command, FormRefusal, Path, RouteFault, WordsFault, read_form, read_words,
+};
 use eip_endpoint::{FileRead, Files, FilesFault, Inlet, Lane, find_inlet};
 use eip_route::RouteSet;
 use eip_text::{NoMemory, Text};
@@ -37,7 +39,7 @@ pub fn prepare<F: Files>(
     ensures files { F.files files.new ≡ F.files files.old }
 {
     let path = match read_words(alloc, words) {
-        Ok(Command::Drain { routes }) => routes,
+        Ok(command) => routes_path(command),
         Err(WordsFault::Refused) => return Err(Refusal::Words),
         Err(WordsFault::NoMemory) => return Err(Refusal::NoMemory),
     };
@@ -46,6 +48,14 @@ pub fn prepare<F: Files>(
         Err(FilesFault::Failed) => Err(Refusal::FilesFault),
         Err(FilesFault::NoMemory) => Err(Refusal::NoMemory),
     }
+}
+
+/// The path of the route file that a command names.
+fn routes_path(command: Command) -> Path
+    ensures { result ≡ path_in command }
+{
+    let Command::Drain { routes } = command;
+    routes
 }
 
 /// The routes of a file that was read.

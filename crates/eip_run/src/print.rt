@@ -61,11 +61,11 @@ fn text_of(alloc: Global, hub: &Hub, stop: Stop) -> Result<String, NoMemory>
 pub fn tell_run<O: Sink>(alloc: Global, hub: &Hub, stop: Stop, out: &mut O) -> Outcome
     ensures { TellsRun hub.now.set hub.now.journal.past stop (O.bytes out.old) (O.bytes out.new) (O.sink_faults out.old) (O.sink_faults out.new) result }
 {
-    if stop == Stop::NoMemory {
-        return tell_memory(out, Outcome::Ran(Stop::NoMemory));
-    }
-    match text_of(alloc, hub, stop) {
-        Ok(text) => tell(out, text.as_str(), Outcome::Ran(stop)),
-        Err(NoMemory) => tell_memory(out, Outcome::NoMemory),
+    match stop {
+        Stop::NoMemory => tell_memory(out, Outcome::Ran(Stop::NoMemory)),
+        _ => match text_of(alloc, hub, stop) {
+            Ok(text) => tell(out, text.as_str(), Outcome::Ran(stop)),
+            Err(NoMemory) => tell_memory(out, Outcome::NoMemory),
+        },
     }
 }

@@ -43,6 +43,39 @@ fn drain<O: Sink>(
     (outcome, hub.into_journal())
 }
 
+/// Runs the routes that the words ask for, or tells why nothing runs.
+fn carry_out<F: Files, O: Sink>(
+    alloc: Global,
+    words: &[Text],
+    files: &mut F,
+    lanes: &mut [Lane],
+    inlets: &mut [Inlet],
+    registry: &Registry,
+    out: &mut O,
+) -> (Outcome, Journal)
+    ensures report { Reports (record {
+      words = words.now;
+      files = F.files files.old;
+      files_before = F.files_faults files.old;
+      files_after = F.files_faults files.new;
+      lanes_before = map (seen_lane (λ b. (⟦<dyn Endpoint as Endpoint>⟧ b.vtable).calls b.value) (λ b. (⟦<dyn Endpoint as Endpoint>⟧ b.vtable).lane_faults b.value)) lanes.old;
+      lanes_after = map (seen_lane (λ b. (⟦<dyn Endpoint as Endpoint>⟧ b.vtable).calls b.value) (λ b. (⟦<dyn Endpoint as Endpoint>⟧ b.vtable).lane_faults b.value)) lanes.new;
+      inlets_before = map (seen_inlet (λ b. (⟦<dyn Source as Source>⟧ b.vtable).given b.value) (λ b. (⟦<dyn Source as Source>⟧ b.vtable).left b.value) (λ b. (⟦<dyn Source as Source>⟧ b.vtable).commits b.value) (λ b. (⟦<dyn Source as Source>⟧ b.vtable).inlet_faults b.value)) inlets.old;
+      inlets_after = map (seen_inlet (λ b. (⟦<dyn Source as Source>⟧ b.vtable).given b.value) (λ b. (⟦<dyn Source as Source>⟧ b.vtable).left b.value) (λ b. (⟦<dyn Source as Source>⟧ b.vtable).commits b.value) (λ b. (⟦<dyn Source as Source>⟧ b.vtable).inlet_faults b.value)) inlets.new;
+      journal = result.1;
+    })
+        (O.bytes out.old) (O.bytes out.new) (O.sink_faults out.old) (O.sink_faults out.new) result.0 }
+    ensures files { F.files files.new ≡ F.files files.old }
+{
+    match prepare(alloc, words, files, lanes, inlets) {
+        Ok(set) => drain(alloc, set, lanes, inlets, registry, out),
+        Err(refusal) => (
+            tell_refusal(alloc, out, refusal),
+            Journal::new(alloc, 0, TURN_LIMIT),
+        ),
+    }
+}
+
 /// Runs the command of these words: reads its route file from `files`, drains its routes over the lanes and inlets that are
 /// handed in, and writes log and book to `out` by one call. The first cause that applies decides the outcome: the words, the
 /// reading of the route file, the routes, the stop of the run, the sink. Want of memory ends the command where it is met.
@@ -56,28 +89,29 @@ pub fn run<F: Files, O: Sink>(
     out: &mut O,
 ) -> Report
     ensures report { Reports (record {
-        words = words.now; files = F.files files.old; files_before = F.files_faults files.old; files_after = F.files_faults files.new;
-        lanes_before = map (seen_lane (λ b. (⟦<dyn Endpoint as Endpoint>⟧ b.vtable).calls b.value) (λ b. (⟦<dyn Endpoint as Endpoint>⟧ b.vtable).lane_faults b.value)) lanes.old.items; lanes_after = map (seen_lane (λ b. (⟦<dyn Endpoint as Endpoint>⟧ b.vtable).calls b.value) (λ b. (⟦<dyn Endpoint as Endpoint>⟧ b.vtable).lane_faults b.value)) lanes.new.items;
-        inlets_before = map (seen_inlet (λ b. (⟦<dyn Source as Source>⟧ b.vtable).given b.value) (λ b. (⟦<dyn Source as Source>⟧ b.vtable).left b.value) (λ b. (⟦<dyn Source as Source>⟧ b.vtable).commits b.value) (λ b. (⟦<dyn Source as Source>⟧ b.vtable).inlet_faults b.value)) inlets.old.items; inlets_after = map (seen_inlet (λ b. (⟦<dyn Source as Source>⟧ b.vtable).given b.value) (λ b. (⟦<dyn Source as Source>⟧ b.vtable).left b.value) (λ b. (⟦<dyn Source as Source>⟧ b.vtable).commits b.value) (λ b. (⟦<dyn Source as Source>⟧ b.vtable).inlet_faults b.value)) inlets.new.items;
-        journal = result.journal })
+      words = words.now;
+      files = F.files files.old;
+      files_before = F.files_faults files.old;
+      files_after = F.files_faults files.new;
+      lanes_before = map (seen_lane (λ b. (⟦<dyn Endpoint as Endpoint>⟧ b.vtable).calls b.value) (λ b. (⟦<dyn Endpoint as Endpoint>⟧ b.vtable).lane_faults b.value)) lanes.old.items;
+      lanes_after = map (seen_lane (λ b. (⟦<dyn Endpoint as Endpoint>⟧ b.vtable).calls b.value) (λ b. (⟦<dyn Endpoint as Endpoint>⟧ b.vtable).lane_faults b.value)) lanes.new.items;
+      inlets_before = map (seen_inlet (λ b. (⟦<dyn Source as Source>⟧ b.vtable).given b.value) (λ b. (⟦<dyn Source as Source>⟧ b.vtable).left b.value) (λ b. (⟦<dyn Source as Source>⟧ b.vtable).commits b.value) (λ b. (⟦<dyn Source as Source>⟧ b.vtable).inlet_faults b.value)) inlets.old.items;
+      inlets_after = map (seen_inlet (λ b. (⟦<dyn Source as Source>⟧ b.vtable).given b.value) (λ b. (⟦<dyn Source as Source>⟧ b.vtable).left b.value) (λ b. (⟦<dyn Source as Source>⟧ b.vtable).commits b.value) (λ b. (⟦<dyn Source as Source>⟧ b.vtable).inlet_faults b.value)) inlets.new.items;
+      journal = result.journal;
+    })
         (O.bytes out.old) (O.bytes out.new) (O.sink_faults out.old) (O.sink_faults out.new) result.outcome }
     ensures status { result.status ≡ status_of result.outcome }
     ensures files { F.files files.new ≡ F.files files.old }
 {
-    let (outcome, journal) = match prepare(alloc, words, files, lanes.as_slice(), inlets.as_slice()) {
-        Ok(set) => drain(
-            alloc,
-            set,
-            lanes.as_mut_slice(),
-            inlets.as_mut_slice(),
-            registry,
-            out,
-        ),
-        Err(refusal) => (
-            tell_refusal(alloc, out, refusal),
-            Journal::new(alloc, 0, TURN_LIMIT),
-        ),
-    };
+    let (outcome, journal) = carry_out(
+        alloc,
+        words,
+        files,
+        lanes.as_mut_slice(),
+        inlets.as_mut_slice(),
+        registry,
+        out,
+    );
     Report {
         status: outcome.status(),
         outcome,
