@@ -2,7 +2,9 @@ use crate::files::{HostFiles, read_within};
 use crate::lines::LineSource;
 use crate::output::Output;
 use crate::say;
-use eip_endpoint::{FileRead, Files, FilesFault, PullFault, Pulled, Refusal, Sink, SinkFault, Source};
+use eip_endpoint::{
+    FileRead, Files, FilesFault, PullFault, Pulled, Refusal, Sink, SinkFault, Source,
+};
 use eip_exchange::End;
 use eip_text::Text;
 use eip_uri::Uri;
@@ -181,7 +183,11 @@ fn a_failed_reading_is_counted_and_loses_no_byte(rt: HostRuntime) -> Result<(), 
     assert!(rt; is_item(&next(&mut source)?, "1", "ab"));
     assert!(rt; is_item(&next(&mut source)?, "2", "cd"));
     let item = Text::of_str(rt.alloc(), "1")?;
-    assert!(rt; source.commit(&Uri::StreamIn, &item, &End::Completed).is_ok());
+    assert!(rt;
+        source
+            .commit(&Uri::StreamIn, &item, &End::Completed)
+            .is_ok()
+    );
     assert!(rt; is_end(&next(&mut source)?));
     assert_eq!(rt; source.faults, 1);
     Ok(())
@@ -232,7 +238,12 @@ fn a_reader_is_read_within_the_limit(rt: HostRuntime) -> Result<(), Fail> {
     let mut whole = source_of(rt.alloc(), b"abcde", 2, 0)?;
     assert!(rt; is_bytes(&read_within(rt.alloc(), &mut whole.reader, 5)?, b"abcde"));
     let mut longer = source_of(rt.alloc(), b"abcde", 100, 0)?;
-    assert!(rt; matches!(read_within(rt.alloc(), &mut longer.reader, 3)?, FileRead::TooLong));
+    assert!(rt;
+        matches!(
+            read_within(rt.alloc(), &mut longer.reader, 3)?,
+            FileRead::TooLong
+        )
+    );
     assert_eq!(rt; longer.reader.bytes, b"e".as_slice());
     let mut broken = source_of(rt.alloc(), b"abcde", 2, 2)?;
     assert!(rt; read_within(rt.alloc(), &mut broken.reader, 5).err() == Some(FilesFault::Failed));
