@@ -1,4 +1,4 @@
-use Rattle.std.proofs.Common.{arith, ap, ◌∙◌, ◌≡◌, ◌+◌, length, vec_len}
+use Rattle.std.proofs.Common.{arith, ap, ◌∙◌, length}
 use Rattle.std.proofs.lemmas.List.{length-append}
 use Rattle.eip_cli.proofs.LineLaws.{searched-still}
 use Rattle.eip_cli.proofs.buffer.LineBuffer.refill.Goals as goal

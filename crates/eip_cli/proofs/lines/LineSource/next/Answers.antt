@@ -1,4 +1,4 @@
-use Rattle.std.proofs.Common.{◌<◌, length, arith}
+use Rattle.std.proofs.Common.{◌<◌, arith}
 use Rattle.eip_cli.proofs.SourceLaws.{known-ended, known-last, still-short}
 use Rattle.eip_cli.proofs.lines.LineSource.next.Goals as goal
 
