@@ -1,11 +1,11 @@
 -- Laws of the length of a line.
-use Rattle.std.proofs.Common.{ℕ, ◌≡◌, ◌+◌, ◌-◌, ◌<◌, ◌≤◌, Bool, true, false, not, cond, List, [], ◌++◌, Option, Some, None, refl, sym, subst, length, drop, get_or, arith, ⊎_elim}
+use Rattle.std.proofs.Common.{ℕ, ◌≡◌, ◌+◌, ◌-◌, ◌<◌, ◌≤◌, Bool, true, false, not, List, ◌++◌, Some, None, refl, sym, subst, length, drop, get_or, arith, ⊎_elim}
 use Rattle.std.proofs.lemmas.Bool.{cases_lt, false_from_ne_true}
 use Rattle.std.proofs.lemmas.Bool.Decides.{nat_tests}
-use Rattle.std.proofs.lemmas.List.{get_or-drop, length-append, length-drop, drop-append-le}
+use Rattle.std.proofs.lemmas.List.{get_or-drop, length-drop, drop-append-le}
 use Rattle.std.proofs.lemmas.List.Sums.{position_or_len_is, fails_before_first, prefix_len-le-length}
 use Rattle.std.proofs.lemmas.List.Folds.{prefix_len-append}
-use Rattle.memchr.specs.Find.{IsFirstByte, NoneBefore, Nowhere, Passes, is_byte}
+use Rattle.memchr.specs.Find.{IsFirstByte, Nowhere, Passes, is_byte}
 use Rattle.eip_cli.specs.Lines.{is_end, line_length}
 
 pub line_length-le : (bytes : List ℕ) → line_length bytes ≤ length bytes
@@ -18,9 +18,9 @@ none-before bytes from n h none k below =
     ⊎_elim
     (λ (early : k < from). fails_before_first is_end bytes k 0 (omega arith))
     (λ (late : from ≤ k).
-        let e : from + (k - from) ≡ k = omega arith in
-        let at : get_or (drop from bytes) (k - from) 0 ≡ get_or bytes k 0 = rw (get_or-drop from bytes (k - from) 0, e) refl in
-        false_from_ne_true (is_end (get_or bytes k 0)) (λ yes. none (k - from) (omega arith) (omega arith) (subst (λ (b : ℕ). is_end b ≡ true) (sym at) yes)))
+    let e : from + (k - from) ≡ k = omega arith in
+    let at : get_or (drop from bytes) (k - from) 0 ≡ get_or bytes k 0 = rw (get_or-drop from bytes (k - from) 0, e) refl in
+    false_from_ne_true (is_end (get_or bytes k 0)) (λ yes. none (k - from) (omega arith) (omega arith) (subst (λ (b : ℕ). is_end b ≡ true) (sym at) yes)))
     (cases_lt k from)
 
 -- the first LF behind bytes that hold none ends the line
@@ -37,7 +37,7 @@ line_length-none bytes from h none =
     let le : line_length bytes ≤ length bytes = line_length-le bytes in
     let e : from + length (drop from bytes) ≡ length bytes = omega (arith, length-drop from bytes) in
     sym (position_or_len_is is_end bytes (length bytes) 0 (omega arith)
-        (λ k below. none-before bytes from (length (drop from bytes)) h none k (omega arith)) (λ never. absurd (omega arith)))
+    (λ k below. none-before bytes from (length (drop from bytes)) h none k (omega arith)) (λ never. absurd (omega arith)))
 
 -- more bytes behind make no line shorter
 pub line_length-more : (bytes more : List ℕ) → line_length bytes ≤ line_length (bytes ++ more)

@@ -1,15 +1,15 @@
 -- Laws of what a source of lines gives.
-use Rattle.std.proofs.Common.{ℕ, ◌≡◌, ◌+◌, ◌-◌, ◌<◌, ◌≤◌, nat_le, nat_lt, Bool, true, false, cond, List, [], ◌∷◌, ◌++◌, Option, Some, None, Result, Ok, Err, refl, sym, ap, subst, ◌∙◌, length, take, drop, arith, append_assoc, append-nil}
+use Rattle.std.proofs.Common.{ℕ, ◌≡◌, ◌+◌, ◌<◌, ◌≤◌, nat_le, nat_lt, true, false, List, [], ◌∷◌, ◌++◌, Option, Some, None, Result, Ok, Err, refl, sym, ap, subst, ◌∙◌, length, take, drop, arith, append_assoc, append-nil}
 use Rattle.std.proofs.lemmas.Bool.{lt-ltb, lt-leb, le-ltb}
 use Rattle.std.proofs.lemmas.List.{take-append-le, drop-append-le, length-append}
 use Rattle.std.specs.Io.KnownBytes.{Consumes, IsAtEnd, prepend_known}
 use Rattle.eip_endpoint.specs.declared.source.Pulled.{Pulled}
-use Rattle.eip_endpoint.specs.declared.source.Pulled.TheVariants.{Item, Refused, End}
+use Rattle.eip_endpoint.specs.declared.source.Pulled.TheVariants.{End}
 use Rattle.eip_endpoint.specs.declared.source.PullFault.{PullFault}
 use Rattle.eip_endpoint.specs.declared.source.PullFault.TheVariants.{Failed, NoMemory}
-use Rattle.eip_cli.specs.Lines.{Next, Line, Nothing, Endless, HasLine, line_length, without_return, last_line, next_line}
+use Rattle.eip_cli.specs.Lines.{Next, Line, Nothing, HasLine, line_length, without_return, last_line, next_line}
 use Rattle.eip_cli.specs.Sources.{TookLine, TookLast, Gave, Took, TookKnown}
-use Rattle.eip_cli.proofs.LineLaws.{line_length-le, line_length-ended}
+use Rattle.eip_cli.proofs.LineLaws.{line_length-ended}
 
 -- where an LF stands early enough, it ends the next line, whatever comes behind
 pub next-ended : (bytes more : List ℕ) → line_length bytes < 1048576 → line_length bytes < length bytes

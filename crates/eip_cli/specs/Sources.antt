@@ -1,5 +1,5 @@
 -- What a source of lines gives.
-use Rattle.std.specs.Prelude.{ℕ, ◌≡◌, ◌+◌, ◌<◌, ◌≤◌, ◌++◌, List, [], ◌∷◌, Option, Some, None, Result, Ok, Err, length, decimal}
+use Rattle.std.specs.Prelude.{ℕ, ◌≡◌, ◌<◌, ◌≤◌, List, [], ◌∷◌, Option, Some, None, Result, Ok, Err, length, decimal}
 use Rattle.std.specs.Str.{IsUtf8}
 use Rattle.eip_exchange.specs.declared.message.Message.{Message}
 use Rattle.eip_endpoint.specs.Counters.{risen}

@@ -10,10 +10,9 @@ mod files;
 mod lines;
 mod output;
 mod reading;
-mod words;
-
 #[cfg(test)]
 mod tests;
+mod words;
 
 use eip_core::Registry;
 use eip_endpoint::{Inlet, Lane, Sink, SinkFault};

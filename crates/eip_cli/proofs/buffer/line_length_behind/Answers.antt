@@ -1,4 +1,4 @@
-use Rattle.std.proofs.Common.{arith, subst, Option, Some, None, List, ℕ}
+use Rattle.std.proofs.Common.{arith, subst, Some, None, List, ℕ}
 use Rattle.memchr.specs.Find.{IsFirstByte, is_byte}
 use Rattle.eip_cli.proofs.LineLaws.{line_length-le, line_length-found, line_length-none}
 use Rattle.eip_cli.proofs.buffer.line_length_behind.Goals as goal
