@@ -7,3 +7,6 @@ pub mod report;
 pub mod run;
 
 pub use report::{Outcome, Report};
+
+#[cfg(test)]
+mod tests;
