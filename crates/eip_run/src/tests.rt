@@ -190,3 +190,111 @@ fn a_sink_that_fails_is_the_outcome_of_a_drained_run(rt: HostRuntime) -> Result<
     assert!(rt; came(&ending, 2, ""));
     Ok(())
 }
+
+/// A step to the lane `x`, and a log.
+const SENT: &str =
+    "[{\"from\":{\"uri\":\"stream:in\",\"steps\":[{\"to\":\"lane:x\"},{\"to\":\"log:o\"}]}}]";
+
+/// Drains the route file `r.json` of these files over this lane, called `x`, and this source.
+fn drained_over(
+    alloc: Global,
+    mut files: MemoryFiles,
+    lane: MemoryLane,
+    source: MemorySource,
+) -> Result<(u8, MemorySink), NoMemory> {
+    let words = drain_words(alloc, "r.json")?;
+    let mut lanes: Vec<Lane> = Vec::new(alloc);
+    let object = Box::new(alloc, lane)?;
+    let name = Text::of_str(alloc, "lane:x")?;
+    lanes.push(Lane { name, object })?;
+    let mut inlets: Vec<Inlet> = Vec::new(alloc);
+    let object = Box::new(alloc, source)?;
+    let name = Text::of_str(alloc, "stream")?;
+    inlets.push(Inlet { name, object })?;
+    let mut out = MemorySink::new(alloc, Vec::new(alloc));
+    let registry = Registry::new();
+    let report = run(
+        alloc,
+        &words,
+        &mut files,
+        &mut lanes,
+        &mut inlets,
+        &registry,
+        &mut out,
+    );
+    Ok((report.status, out))
+}
+
+#[test]
+fn a_lane_that_fails_fails_its_exchange_alone(rt: HostRuntime) -> Result<(), Fail> {
+    let alloc = rt.alloc();
+    let lane = MemoryLane::new(alloc, vec![in alloc; 2]?);
+    let source = MemorySource::new(alloc, two_lines(alloc)?, Vec::new(alloc));
+    let ending = drained_over(alloc, files_with(alloc, SENT)?, lane, source)?;
+    assert!(rt;
+        came(
+            &ending,
+            0,
+            "log 1 o: a\nexchange 1 source route1 completed\nexchange 2 source route1 failed SendFailed \"lane:x\"\naccepted 2 refused 0\ntotal 2 completed 1 handled 0 failed 1 waiting 0\ndrained\n"
+        )
+    );
+    Ok(())
+}
+
+#[test]
+fn a_source_that_fails_ends_the_run(rt: HostRuntime) -> Result<(), Fail> {
+    let alloc = rt.alloc();
+    let lane = MemoryLane::new(alloc, Vec::new(alloc));
+    let source = MemorySource::new(alloc, two_lines(alloc)?, vec![in alloc; 2]?);
+    let ending = drained_over(alloc, files_with(alloc, SENT)?, lane, source)?;
+    assert!(rt;
+        came(
+            &ending,
+            2,
+            "log 1 o: a\nexchange 1 source route1 completed\naccepted 1 refused 0\ntotal 1 completed 1 handled 0 failed 0 waiting 0\nsource fault route1\n"
+        )
+    );
+    Ok(())
+}
+
+#[test]
+fn files_that_fail_end_the_command(rt: HostRuntime) -> Result<(), Fail> {
+    let alloc = rt.alloc();
+    let lane = MemoryLane::new(alloc, Vec::new(alloc));
+    let source = MemorySource::new(alloc, two_lines(alloc)?, Vec::new(alloc));
+    let files = MemoryFiles::new(alloc, Vec::new(alloc), vec![in alloc; 1]?);
+    let ending = drained_over(alloc, files, lane, source)?;
+    assert!(rt; came(&ending, 2, "error files\n"));
+    Ok(())
+}
+
+#[test]
+fn a_file_that_is_no_json_is_told(rt: HostRuntime) -> Result<(), Fail> {
+    let alloc = rt.alloc();
+    let lane = MemoryLane::new(alloc, Vec::new(alloc));
+    let source = MemorySource::new(alloc, two_lines(alloc)?, Vec::new(alloc));
+    let ending = drained_over(alloc, files_with(alloc, "[{")?, lane, source)?;
+    assert!(rt; came(&ending, 1, "error routes $ NotJson\n"));
+    Ok(())
+}
+
+#[test]
+fn a_file_of_more_than_its_bytes_is_told(rt: HostRuntime) -> Result<(), Fail> {
+    let alloc = rt.alloc();
+    let lane = MemoryLane::new(alloc, Vec::new(alloc));
+    let source = MemorySource::new(alloc, two_lines(alloc)?, Vec::new(alloc));
+    let files = long_file(alloc)?;
+    let ending = drained_over(alloc, files, lane, source)?;
+    assert!(rt; came(&ending, 1, "error routes $ TooLong\n"));
+    Ok(())
+}
+
+/// The file `r.json` with 1,048,577 spaces.
+fn long_file(alloc: Global) -> Result<MemoryFiles, NoMemory> {
+    let bytes = vec![in alloc; b' '; 1_048_577]?;
+    let folder = Text::of_str(alloc, ".")?;
+    let name = Text::of_str(alloc, "r.json")?;
+    let mut content = Vec::new(alloc);
+    content.push((folder, name, Series::of(bytes)))?;
+    Ok(MemoryFiles::new(alloc, content, Vec::new(alloc)))
+}
