@@ -1,6 +1,6 @@
 -- An outcome has its cause: by what the command came to, and why a run stops.
-use Rattle.std.proofs.Common.{◌≡◌, ◌≢◌, ℕ, zero, suc, ◌+◌, ◌<◌, ◌≤◌, ◌++◌, ◌⊎◌, ◌==◌, ◌&&◌, Bool, true, false, cond, List, [], ◌∷◌, Option, Some, None, Result, Ok, Err, length, filter, map, refl, sym, ap, subst, ◌∙◌, arith, inl, inr}
-use Rattle.std.specs.Option.{is_some, IsSome}
+use Rattle.std.proofs.Common.{◌≡◌, ℕ, zero, suc, ◌+◌, ◌<◌, ◌≤◌, ◌++◌, ◌⊎◌, ◌==◌, ◌&&◌, Bool, true, false, cond, List, [], ◌∷◌, Option, Some, None, Result, Ok, Err, length, filter, refl, sym, ap, subst, ◌∙◌, arith, inl, inr}
+use Rattle.std.specs.Option.{IsSome}
 use Rattle.std.specs.List.{slice_get}
 use Rattle.std.proofs.lemmas.Bool.{eqb-true, eq-eqb, and_parts}
 use Rattle.std.proofs.lemmas.List.{length-map}
@@ -15,7 +15,6 @@ use Rattle.eip_command.specs.declared.words.Command.TheVariants.{Drain}
 use Rattle.eip_command.specs.declared.fault.RouteFault.{RouteFault}
 use Rattle.eip_endpoint.specs.Content.{IfTold}
 use Rattle.eip_endpoint.specs.Files.{File, bytes_at, read_of}
-use Rattle.eip_endpoint.specs.declared.files.FileRead.{FileRead}
 use Rattle.eip_endpoint.specs.declared.sink.SinkFault.{SinkFault}
 use Rattle.eip_endpoint.specs.declared.sink.SinkFault.TheVariants as fault
 use Rattle.eip_endpoint.specs.Sinks.{sink_failure}
@@ -44,7 +43,7 @@ use Rattle.eip_run.specs.declared.report.Outcome.{Outcome}
 use Rattle.eip_run.specs.declared.report.Outcome.TheVariants as outcome
 use Rattle.eip_run.specs.Outcomes.{behind}
 use Rattle.eip_run.specs.Routes.{file_limit, found}
-use Rattle.eip_run.specs.Reports.{turn_limit, Setting, HasRoutes, IsRun, Comes, NoCommand, NotRead, NoRoutes, Stopped, Starved, LacksMemory, LacksText, Told, Reports}
+use Rattle.eip_run.specs.Reports.{turn_limit, Setting, HasRoutes, IsRun, Comes, NoCommand, NotRead, NoRoutes, Stopped, Starved, LacksMemory, LacksText, Reports}
 use Rattle.eip_run.specs.Caused.{InletRose, SourceFailed, IsFaulty, CauseOfStop, CauseOf, IsUnharmed, Completes, IsFaultless, Finds, Causes}
 use Rattle.eip_run.proofs.Runnable.{Runs, found-runs}
 
@@ -248,9 +247,9 @@ none-faulty : (x : Setting) (p : Path) (all : List File) (set : RouteSet) (f : R
 none-faulty x p all set f command files finds h =
     let same : h.path ≡ p = cc (command, h.command) in
     let told : h.read ≡ read_of file_limit (bytes_at h.path.folder h.path.name all) =
-        subst (λ (o : Option (List File)). IfTold o (λ fs. h.read ≡ read_of file_limit (bytes_at h.path.folder h.path.name fs))) files h.answer.answer in
+    subst (λ (o : Option (List File)). IfTold o (λ fs. h.read ≡ read_of file_limit (bytes_at h.path.folder h.path.name fs))) files h.answer.answer in
     let here : h.read ≡ read_of file_limit (bytes_at p.folder p.name all) =
-        told ∙ ap (λ (q : Path). read_of file_limit (bytes_at q.folder q.name all)) same in
+    told ∙ ap (λ (q : Path). read_of file_limit (bytes_at q.folder q.name all)) same in
     let both = sym h.refused ∙ (ap (found (lane_names x.lanes_before) (inlet_names x.inlets_before)) here ∙ finds) in
     cc both
 
@@ -270,8 +269,8 @@ pub causes : (x : Setting) (before after : Option (List ℕ)) (faults_before fau
 causes x before after faults_before faults_after o r =
     let is : behind r.told r.tells.write ≡ o = sym r.tells.outcome in
     let cause : CauseOf x faults_before faults_after o =
-        subst (CauseOf x faults_before faults_after) is
-        (behind-caused x faults_before faults_after r.told r.tells.write r.tells.faults (told-caused x faults_before faults_after r.told r.text r.comes)) in
+    subst (CauseOf x faults_before faults_after) is
+    (behind-caused x faults_before faults_after r.told r.tells.write r.tells.faults (told-caused x faults_before faults_after r.told r.text r.comes)) in
     record {
       cause = cause;
       no_command = λ none. subst IsRefused is (refused-behind x r.told r.text r.tells.write none r.comes);
