@@ -12,9 +12,11 @@ use Rattle.eip_route.specs.declared.route.RouteSet.{RouteSet}
 use Rattle.eip_command.specs.Words.{command_of}
 use Rattle.eip_command.specs.declared.words.Path.{Path}
 use Rattle.eip_command.specs.declared.words.Command.TheVariants.{Drain}
+use Rattle.eip_command.specs.declared.fault.Cause.{Cause}
 use Rattle.eip_command.specs.declared.fault.RouteFault.{RouteFault}
 use Rattle.eip_endpoint.specs.Content.{IfTold}
 use Rattle.eip_endpoint.specs.Files.{File, bytes_at, read_of}
+use Rattle.eip_endpoint.specs.declared.files.FileRead.{FileRead}
 use Rattle.eip_endpoint.specs.declared.sink.SinkFault.{SinkFault}
 use Rattle.eip_endpoint.specs.declared.sink.SinkFault.TheVariants as fault
 use Rattle.eip_endpoint.specs.Sinks.{sink_failure}
@@ -43,8 +45,9 @@ use Rattle.eip_run.specs.declared.report.Outcome.{Outcome}
 use Rattle.eip_run.specs.declared.report.Outcome.TheVariants as outcome
 use Rattle.eip_run.specs.Outcomes.{behind}
 use Rattle.eip_run.specs.Routes.{file_limit, found}
-use Rattle.eip_run.specs.Reports.{turn_limit, Setting, HasRoutes, IsRun, Comes, NoCommand, NotRead, NoRoutes, Stopped, Starved, LacksMemory, LacksText, Reports}
-use Rattle.eip_run.specs.Caused.{InletRose, SourceFailed, IsFaulty, CauseOfStop, CauseOf, IsUnharmed, Completes, IsFaultless, Finds, Causes}
+use Rattle.eip_run.specs.Prepared.{whole_file}
+use Rattle.eip_run.specs.Reports.{turn_limit, Setting, WasRead, HasRoutes, IsRun, Comes, NoCommand, NotRead, NoRoutes, Stopped, Starved, LacksMemory, LacksText, Reports}
+use Rattle.eip_run.specs.Caused.{InletRose, SourceFailed, CauseOfStop, CauseOf, IsUnharmed, Completes, IsFaultless, IsRefusedFor, Finds, Causes}
 use Rattle.eip_run.proofs.Runnable.{Runs, found-runs}
 
 -- ---- counts
@@ -242,25 +245,54 @@ without-faults x before after (outcome.Ran stop.NoMemory) h u = tt
 without-faults x before after outcome.SinkFault h u = u.sink h
 without-faults x before after outcome.NoMemory h u = tt
 
--- a file that routes are found in has no fault
-none-faulty : (x : Setting) (p : Path) (all : List File) (set : RouteSet) (f : RouteFault) → command_of x.words ≡ Some (Drain p) → x.files ≡ Some all → Finds x p all set → IsFaulty x f → ⊥
-none-faulty x p all set f command files finds h =
-    let same : h.path ≡ p = cc (command, h.command) in
-    let told : h.read ≡ read_of file_limit (bytes_at h.path.folder h.path.name all) =
-    subst (λ (o : Option (List File)). IfTold o (λ fs. h.read ≡ read_of file_limit (bytes_at h.path.folder h.path.name fs))) files h.answer.answer in
-    let here : h.read ≡ read_of file_limit (bytes_at p.folder p.name all) =
-    told ∙ ap (λ (q : Path). read_of file_limit (bytes_at q.folder q.name all)) same in
-    let both = sym h.refused ∙ (ap (found (lane_names x.lanes_before) (inlet_names x.inlets_before)) here ∙ finds) in
-    cc both
+-- ---- the file that the words name
 
-completes : (x : Setting) (before after : ℕ) (o : Outcome) → CauseOf x before after o → (p : Path) (all : List File) (set : RouteSet) → command_of x.words ≡ Some (Drain p)
-    → x.files ≡ Some all → Finds x p all set → IsFaultless o → Completes o
-completes x before after outcome.Words h p all set command files finds u = absurd (cc (h, command))
-completes x before after (outcome.Routes f) h p all set command files finds u = absurd (none-faulty x p all set f command files finds h)
-completes x before after outcome.FilesFault h p all set command files finds u = u
-completes x before after (outcome.Ran s) h p all set command files finds u = u
-completes x before after outcome.SinkFault h p all set command files finds u = u
-completes x before after outcome.NoMemory h p all set command files finds u = u
+-- what was read is what is in the file
+read-found : (x : Setting) (r : Result RouteSet Cause) (p : Path) (read : FileRead) → Finds x r → command_of x.words ≡ Some (Drain p) → WasRead x p read
+    → found (lane_names x.lanes_before) (inlet_names x.inlets_before) read ≡ r
+read-found x r p read f command was =
+    let same : p ≡ f.path = cc (command, f.command) in
+    let told : read ≡ read_of file_limit (bytes_at p.folder p.name f.all) =
+    subst (λ (o : Option (List File)). IfTold o (λ fs. read ≡ read_of file_limit (bytes_at p.folder p.name fs))) f.files was.answer in
+    let here : read ≡ read_of file_limit (bytes_at f.path.folder f.path.name f.all) =
+    told ∙ ap (λ (q : Path). read_of file_limit (bytes_at q.folder q.name f.all)) same in
+    ap (found (lane_names x.lanes_before) (inlet_names x.inlets_before)) here ∙ f.in_file
+
+-- so routes with a fault don't run
+none-run : (x : Setting) (c : Cause) (set : RouteSet) → Finds x (Err c) → HasRoutes x set → ⊥
+none-run x c set f has = let h = sym (read-found x (Err c) has.path has.read f has.command has.answer) ∙ has.routes in cc h
+
+told-refused : (x : Setting) (c : Cause) (told : Outcome) (text : List ℕ) → Finds x (Err c) → Comes x told text → IsRefusedFor (whole_file c) told
+told-refused x c told text f (NoCommand none still count) = absurd (cc (none, f.command))
+told-refused x c told text f (NotRead p command still rises) = tt
+told-refused x c told text f (NoRoutes p read d command still was e) =
+    let h = sym e ∙ read-found x (Err c) p read f command was in
+    let same : d ≡ c = cc h in
+    ap whole_file same
+told-refused x c told text f (Stopped set s has ran ne) = none-run x c set f has
+told-refused x c told text f (Starved set has ran) = none-run x c set f has
+told-refused x c told text f (LacksMemory still count) = tt
+told-refused x c told text f (LacksText set s has ran) = tt
+
+behind-refused : (f : RouteFault) (told : Outcome) (w : Result Unit SinkFault) → IsRefusedFor f told → IsRefusedFor f (behind told w)
+behind-refused f told (Ok u) h = h
+behind-refused f told (Err fault.NoMemory) h = tt
+behind-refused f outcome.Words (Err fault.Failed) h = h
+behind-refused f (outcome.Routes g) (Err fault.Failed) h = h
+behind-refused f outcome.FilesFault (Err fault.Failed) h = h
+behind-refused f (outcome.Ran s) (Err fault.Failed) h = absurd h
+behind-refused f outcome.SinkFault (Err fault.Failed) h = h
+behind-refused f outcome.NoMemory (Err fault.Failed) h = h
+
+-- and routes without one are not refused
+completes : (x : Setting) (before after : ℕ) (o : Outcome) → CauseOf x before after o → (set : RouteSet) → Finds x (Ok set) → IsFaultless o → Completes o
+completes x before after outcome.Words h set f u = absurd (cc (h, f.command))
+completes x before after (outcome.Routes g) h set f u =
+    absurd (let e = sym h.refused ∙ read-found x (Ok set) h.path h.read f h.command h.answer in cc e)
+completes x before after outcome.FilesFault h set f u = u
+completes x before after (outcome.Ran s) h set f u = u
+completes x before after outcome.SinkFault h set f u = u
+completes x before after outcome.NoMemory h set f u = u
 
 -- ---- the clause
 
@@ -275,5 +307,6 @@ causes x before after faults_before faults_after o r =
       cause = cause;
       no_command = λ none. subst IsRefused is (refused-behind x r.told r.text r.tells.write none r.comes);
       faultless = without-faults x faults_before faults_after o cause;
-      complete = λ p all set command files finds u. completes x faults_before faults_after o cause p all set command files finds (without-faults x faults_before faults_after o cause u);
+      no_routes = λ c f. subst (IsRefusedFor (whole_file c)) is (behind-refused (whole_file c) r.told r.tells.write (told-refused x c r.told r.text f r.comes));
+      complete = λ set f u. completes x faults_before faults_after o cause set f (without-faults x faults_before faults_after o cause u);
     }

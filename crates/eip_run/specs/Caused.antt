@@ -1,5 +1,5 @@
 -- Which cause each outcome of a command has, and which outcomes are left where nothing that was handed in failed.
-use Rattle.std.specs.Prelude.{ℕ, ◌≡◌, ◌⊎◌, List, Some, None, Ok, Err, slice_get}
+use Rattle.std.specs.Prelude.{ℕ, ◌≡◌, ◌⊎◌, List, Some, None, Result, Ok, Err, slice_get}
 use Rattle.eip_text.specs.Causes.{Rose}
 use Rattle.eip_route.specs.declared.route.RouteSet.{RouteSet}
 use Rattle.eip_command.specs.Words.{command_of}
@@ -83,15 +83,27 @@ IsFaultless outcome.Words = Unit {0}
 IsFaultless (outcome.Routes f) = Unit {0}
 IsFaultless o = Completes o
 
--- the routes that are found in the file of a path, of these files
-abbrev pub Finds : Setting → Path → List File → RouteSet → Type 0
-Finds x p all set = found (lane_names x.lanes_before) (inlet_names x.inlets_before) (read_of file_limit (bytes_at p.folder p.name all)) ≡ Ok set
+-- the routes were refused for this fault, or the files failed or memory was wanting
+abbrev pub IsRefusedFor : RouteFault → Outcome → Type 0
+IsRefusedFor f (outcome.Routes g) = g ≡ f
+IsRefusedFor f outcome.FilesFault = Unit {0}
+IsRefusedFor f outcome.NoMemory = Unit {0}
+IsRefusedFor f _ = ⊥
 
--- an outcome has its cause. Words that are no command are refused, unless memory was wanting. Where no count of faults rose, the outcome is no
--- fault of the files, a source or the sink, and a command whose file has routes runs them until they are drained, or turns or memory are too few
+-- the routes, or the cause why there are none, in the file that the words name, among these files
+pub record Finds (x : Setting) (r : Result RouteSet Cause) : Type 0 where
+  pub path : Path
+  pub all : List File
+  pub command : command_of x.words ≡ Some (Drain path)
+  pub files : x.files ≡ Some all
+  pub in_file : found (lane_names x.lanes_before) (inlet_names x.inlets_before) (read_of file_limit (bytes_at path.folder path.name all)) ≡ r
+
+-- an outcome has its cause. Words that are no command are refused, unless memory is wanting, and routes with a fault are refused, unless memory is
+-- wanting or the files fail. Where no count of faults rose, the outcome is no fault of the files, a source or the sink, and a command whose file has
+-- routes runs them until they are drained, or turns or memory are too few
 pub record Causes (x : Setting) (faults_before faults_after : ℕ) (o : Outcome) : Type 0 where
   pub cause : CauseOf x faults_before faults_after o
   pub no_command : command_of x.words ≡ None → (o ≡ outcome.Words) ⊎ (o ≡ outcome.NoMemory)
+  pub no_routes : (c : Cause) → Finds x (Err c) → IsRefusedFor (whole_file c) o
   pub faultless : IsUnharmed x faults_before faults_after → IsFaultless o
-  pub complete : (p : Path) (all : List File) (set : RouteSet) → command_of x.words ≡ Some (Drain p) → x.files ≡ Some all → Finds x p all set
-      → IsUnharmed x faults_before faults_after → Completes o
+  pub complete : (set : RouteSet) → Finds x (Ok set) → IsUnharmed x faults_before faults_after → Completes o
