@@ -1,3 +1,4 @@
 pub mod Runnable
 pub mod Telling
 pub mod Ending
+pub mod Causes

@@ -4,3 +4,4 @@ pub mod Outcomes
 pub mod Reports
 pub mod Printed
 pub mod Drained
+pub mod Caused

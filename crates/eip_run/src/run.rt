@@ -4,6 +4,7 @@ ghost use Rattle.eip_endpoint.specs.Inlets.{seen_inlet};
 ghost use Rattle.eip_run.specs.Outcomes.{status_of};
 ghost use Rattle.eip_core.specs.Doors.{CanRun};
 ghost use Rattle.eip_run.specs.Reports.{Reports};
+ghost use Rattle.eip_run.specs.Caused.{Causes};
 ghost use Rattle.eip_run.specs.Drained.{Drained};
 
 use crate::prepare::prepare;
@@ -100,6 +101,18 @@ pub fn run<F: Files, O: Sink>(
       journal = result.journal;
     })
         (O.bytes out.old) (O.bytes out.new) (O.sink_faults out.old) (O.sink_faults out.new) result.outcome }
+    ensures causes { Causes (record {
+      words = words.now;
+      files = F.files files.old;
+      files_before = F.files_faults files.old;
+      files_after = F.files_faults files.new;
+      lanes_before = map (seen_lane (λ b. (⟦<dyn Endpoint as Endpoint>⟧ b.vtable).calls b.value) (λ b. (⟦<dyn Endpoint as Endpoint>⟧ b.vtable).lane_faults b.value)) lanes.old.items;
+      lanes_after = map (seen_lane (λ b. (⟦<dyn Endpoint as Endpoint>⟧ b.vtable).calls b.value) (λ b. (⟦<dyn Endpoint as Endpoint>⟧ b.vtable).lane_faults b.value)) lanes.new.items;
+      inlets_before = map (seen_inlet (λ b. (⟦<dyn Source as Source>⟧ b.vtable).given b.value) (λ b. (⟦<dyn Source as Source>⟧ b.vtable).left b.value) (λ b. (⟦<dyn Source as Source>⟧ b.vtable).commits b.value) (λ b. (⟦<dyn Source as Source>⟧ b.vtable).inlet_faults b.value)) inlets.old.items;
+      inlets_after = map (seen_inlet (λ b. (⟦<dyn Source as Source>⟧ b.vtable).given b.value) (λ b. (⟦<dyn Source as Source>⟧ b.vtable).left b.value) (λ b. (⟦<dyn Source as Source>⟧ b.vtable).commits b.value) (λ b. (⟦<dyn Source as Source>⟧ b.vtable).inlet_faults b.value)) inlets.new.items;
+      journal = result.journal;
+    })
+        (O.sink_faults out.old) (O.sink_faults out.new) result.outcome }
     ensures status { result.status ≡ status_of result.outcome }
     ensures files { F.files files.new ≡ F.files files.old }
 {

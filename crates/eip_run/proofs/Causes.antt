@@ -1,0 +1,312 @@
+-- An outcome has its cause: by what the command came to, and why a run stops.
+use Rattle.std.proofs.Common.{◌≡◌, ℕ, zero, suc, ◌+◌, ◌<◌, ◌≤◌, ◌++◌, ◌⊎◌, ◌==◌, ◌&&◌, Bool, true, false, cond, List, [], ◌∷◌, Option, Some, None, Result, Ok, Err, length, filter, refl, sym, ap, subst, ◌∙◌, arith, inl, inr}
+use Rattle.std.specs.Option.{IsSome}
+use Rattle.std.specs.List.{slice_get}
+use Rattle.std.proofs.lemmas.Bool.{eqb-true, eq-eqb, and_parts}
+use Rattle.std.proofs.lemmas.List.{length-map}
+use Rattle.std.proofs.lemmas.Option.{slice_get_within}
+use Rattle.eip_text.specs.Causes.{Rose, Rises}
+use Rattle.eip_uri.specs.Inlets.{inlet_of}
+use Rattle.eip_route.specs.declared.route.Route.{Route}
+use Rattle.eip_route.specs.declared.route.RouteSet.{RouteSet}
+use Rattle.eip_command.specs.Words.{command_of}
+use Rattle.eip_command.specs.declared.words.Path.{Path}
+use Rattle.eip_command.specs.declared.words.Command.TheVariants.{Drain}
+use Rattle.eip_command.specs.declared.fault.Cause.{Cause}
+use Rattle.eip_command.specs.declared.fault.RouteFault.{RouteFault}
+use Rattle.eip_endpoint.specs.Content.{IfTold}
+use Rattle.eip_endpoint.specs.Files.{File, bytes_at, read_of}
+use Rattle.eip_endpoint.specs.declared.files.FileRead.{FileRead}
+use Rattle.eip_endpoint.specs.declared.sink.SinkFault.{SinkFault}
+use Rattle.eip_endpoint.specs.declared.sink.SinkFault.TheVariants as fault
+use Rattle.eip_endpoint.specs.Sinks.{sink_failure}
+use Rattle.eip_endpoint.specs.Inlets.{InletView, InletAct, Failed, faults_at, InletsGrew}
+use Rattle.eip_endpoint.proofs.InletLaws.{faults_at-append}
+use Rattle.eip_ledger.specs.declared.entry.Kind.{Kind}
+use Rattle.eip_ledger.specs.declared.entry.Kind.TheVariants.{SourceFault}
+use Rattle.eip_ledger.specs.declared.place.Stop.{Stop}
+use Rattle.eip_ledger.specs.declared.place.Stop.TheVariants as stop
+use Rattle.eip_history.specs.Plan.{Plan}
+use Rattle.eip_history.specs.Own.{Past, turns}
+use Rattle.eip_history.specs.Place.{hands}
+use Rattle.eip_history.specs.Groups.{Group, is_open}
+use Rattle.eip_history.specs.Rules.{IsSource, IsLegal, May}
+use Rattle.eip_history.specs.Stop.{first_fault, fault_in, or_else, is_over, open_groups, held_or_drained, with_fault, stop_of}
+use Rattle.eip_history.proofs.Steps.{fault-none, fault-more}
+use Rattle.eip_history.proofs.Unborn.{legal-tail, legal-may}
+use Rattle.eip_plan.specs.Plan.{plan_of}
+use Rattle.eip_plan.specs.Simple.{AsksSimply}
+use Rattle.eip_plan.proofs.Items.{no-groups}
+use Rattle.eip_plan.proofs.Laws.{plan-simple}
+use Rattle.eip_books.proofs.StopCalls.{position-some}
+use Rattle.eip_core.specs.Doors.{Doors, doors_of, inlet_named, inlet_at, lane_names, inlet_names}
+use Rattle.eip_core.specs.Outside.{acts_by, inlet_acts_in, inlet_acts}
+use Rattle.eip_run.specs.declared.report.Outcome.{Outcome}
+use Rattle.eip_run.specs.declared.report.Outcome.TheVariants as outcome
+use Rattle.eip_run.specs.Outcomes.{behind}
+use Rattle.eip_run.specs.Routes.{file_limit, found}
+use Rattle.eip_run.specs.Prepared.{whole_file}
+use Rattle.eip_run.specs.Reports.{turn_limit, Setting, WasRead, HasRoutes, IsRun, Comes, NoCommand, NotRead, NoRoutes, Stopped, Starved, LacksMemory, LacksText, Reports}
+use Rattle.eip_run.specs.Caused.{InletRose, SourceFailed, CauseOfStop, CauseOf, IsUnharmed, Completes, IsFaultless, IsRefusedFor, Finds, Causes}
+use Rattle.eip_run.proofs.Runnable.{Runs, found-runs}
+
+-- ---- counts
+
+-- a count rose where there was a fault
+rises-rose : (n before now : ℕ) → 1 ≤ n → Rises n before now → Rose before now
+rises-rose n before now some r = let least = r.least in omega arith
+
+-- ---- why a run stops
+
+-- what a stop says of the first source that failed, and of the turns
+abbrev Says : Option ℕ → ℕ → ℕ → Stop → Type 0
+Says f taken limit stop.Drained = Unit {0}
+Says f taken limit (stop.SourceFault t) = f ≡ Some t
+Says f taken limit (stop.Held groups) = ⊥
+Says f taken limit stop.Spent = taken ≡ limit
+Says f taken limit stop.NoMemory = Unit {0}
+
+says-by : (over spent : Bool) (f : Option ℕ) (groups taken limit : ℕ) (s : Stop) → groups ≡ 0 → (spent ≡ true → taken ≡ limit)
+    → cond over (Some (with_fault f (held_or_drained groups))) (cond spent (Some (with_fault f stop.Spent)) None) ≡ Some s → Says f taken limit s
+says-by true spent (Some t) groups taken limit s none full h = let same : stop.SourceFault t ≡ s = cc in subst (Says (Some t) taken limit) same refl
+says-by true spent None zero taken limit s none full h = let same : stop.Drained ≡ s = cc in subst (Says None taken limit) same tt
+says-by true spent None (suc groups) taken limit s none full h = absurd (omega (arith, none))
+says-by false true (Some t) groups taken limit s none full h = let same : stop.SourceFault t ≡ s = cc in subst (Says (Some t) taken limit) same refl
+says-by false true None groups taken limit s none full h = let same : stop.Spent ≡ s = cc in subst (Says None taken limit) same (full refl)
+says-by false false f groups taken limit s none full h = absurd (cc h)
+
+stop-says : (s : Plan) (a : AsksSimply s) (w limit : ℕ) (past : Past) → IsLegal s w limit past → (r : Stop) → stop_of s limit past ≡ Some r
+    → Says (first_fault past) (turns past) limit r
+unfolding stop_of
+stop-says s a w limit past legal r h =
+    says-by (is_over s past) ((turns past == limit) && (hands s past == 0)) (first_fault past) (length (open_groups s past)) (turns past) limit r
+    (ap (λ (gs : List Group). length (filter is_open gs)) (no-groups s a w limit past legal))
+    (λ e. eqb-true (turns past) limit (and_parts (turns past == limit) _ e).0) h
+
+-- ---- the inlet of a source that failed
+
+-- who failed is a source
+fault-source : (s : Plan) (w limit : ℕ) (past : Past) → IsLegal s w limit past → (t : ℕ) → first_fault past ≡ Some t → IsSource s t
+fault-source s w limit [] legal t h = absurd (let g : None ≡ Some t = sym fault-none ∙ h in cc g)
+fault-source s w limit (e ∷ past) legal t h =
+    by_first (first_fault past) refl (fault-source s w limit past (legal-tail s w limit e past legal) t) (sym (fault-more e past) ∙ h)
+  where
+    by_kind : (k : Kind) → May s limit past e.worker k → fault_in k ≡ Some t → IsSource s t
+    by_kind (SourceFault u) may g = let same : u ≡ t = cc in subst (IsSource s) same may.0
+    by_kind _ may g = absurd (cc g)
+
+    by_first : (o : Option ℕ) → first_fault past ≡ o → (first_fault past ≡ Some t → IsSource s t) → or_else o (fault_in e.kind) ≡ Some t → IsSource s t
+    by_first (Some u) was older g = older (was ∙ g)
+    by_first None was older g = by_kind e.kind (legal-may s w limit e past legal) g
+
+failed-once : (o : Option ℕ) (k : ℕ) (u : List ℕ) → o ≡ Some k → 1 ≤ faults_at k (acts_by o u (Failed ∷ []))
+failed-once None k u h = absurd (cc h)
+failed-once (Some j) k u h = let same : j ≡ k = cc in rw (eq-eqb j k same) (omega arith)
+
+-- its inlet failed
+fault-acted : (d : Doors) (k t : ℕ) → d.inlet t ≡ Some k → (past : Past) → first_fault past ≡ Some t → 1 ≤ faults_at k (inlet_acts d past)
+unfolding inlet_acts
+fault-acted d k t door [] h = absurd (let g : None ≡ Some t = sym fault-none ∙ h in cc g)
+fault-acted d k t door (e ∷ past) h = by_first (first_fault past) refl (fault-acted d k t door past) (sym (fault-more e past) ∙ h)
+  where
+    by_kind : (n : Kind) → fault_in n ≡ Some t → 1 ≤ faults_at k (inlet_acts_in d n)
+    by_kind (SourceFault u) g = let same : u ≡ t = cc in failed-once (d.inlet u) k (d.uri u) (ap d.inlet same ∙ door)
+    by_kind _ g = absurd (cc g)
+
+    by_first : (o : Option ℕ) → first_fault past ≡ o → (first_fault past ≡ Some t → 1 ≤ faults_at k (inlet_acts d past)) → or_else o (fault_in e.kind) ≡ Some t
+        → 1 ≤ faults_at k (inlet_acts d past ++ inlet_acts_in d e.kind)
+    by_first (Some u) was older g =
+        let sum = faults_at-append k (inlet_acts d past) (inlet_acts_in d e.kind) in
+        let some : 1 ≤ faults_at k (inlet_acts d past) = older (was ∙ g) in
+        omega arith
+    by_first None was older g =
+        let sum = faults_at-append k (inlet_acts d past) (inlet_acts_in d e.kind) in
+        let some : 1 ≤ faults_at k (inlet_acts_in d e.kind) = by_kind e.kind g in
+        omega arith
+
+-- so its count rose
+inlet-rose : (k n : ℕ) (js : List InletAct) (vs ws : List InletView) → InletsGrew k js vs ws → (i : ℕ) → i < length vs → n ≡ k + i → 1 ≤ faults_at n js → InletRose vs ws i
+inlet-rose k n js [] ws grew i within at some = absurd (omega arith)
+inlet-rose k n js (v ∷ vs) [] grew i within at some = absurd grew
+inlet-rose k n js (v ∷ vs) (w ∷ ws) grew zero within at some =
+    let same : n ≡ k = omega arith in
+    record { old = v; new = w; was = refl; is = refl; rose = rises-rose (faults_at k js) v.faults w.faults (rw same at some) grew.0.faults }
+inlet-rose k n js (v ∷ vs) (w ∷ ws) grew (suc i) within at some =
+    let r : InletRose vs ws i = inlet-rose (k + 1) n js vs ws grew.1 i (omega arith) (omega arith) some in
+    record { old = r.old; new = r.new; was = r.was; is = r.is; rose = r.rose }
+
+named-within : (names : List (List ℕ)) (o : Option (List ℕ)) (k : ℕ) → inlet_named names o ≡ Some k → k < length names
+named-within names None k h = absurd (cc h)
+named-within names (Some name) k h =
+    let f = position-some _ 0 names k h in
+    let is : k ≡ 0 + f.index = f.is in
+    let within : f.index < length names = slice_get_within names f.index f.it f.at in
+    omega arith
+
+inlet-within : (names : List (List ℕ)) (r : Option Route) (k : ℕ) → inlet_at names r ≡ Some k → k < length names
+inlet-within names None k h = absurd (cc h)
+inlet-within names (Some r) k h = named-within names (inlet_of r.from) k h
+
+the-some : (o : Option ℕ) → IsSome o → (k : ℕ) × (o ≡ Some k)
+the-some None h = absurd (cc h)
+the-some (Some k) h = (k, refl)
+
+source-failed : (x : Setting) (set : RouteSet) (s : Stop) (t : ℕ) → HasRoutes x set → IsRun x set s → first_fault x.journal.past ≡ Some t → SourceFailed x t
+source-failed x set s t has ran h =
+    let runs : Runs set (lane_names x.lanes_before) (inlet_names x.inlets_before) = found-runs _ _ has.read set has.routes in
+    let is : IsSource (plan_of set) t = fault-source (plan_of set) 0 turn_limit x.journal.past ran.legal t h in
+    let door = the-some (inlet_at (inlet_names x.inlets_before) (slice_get set.routes t)) (runs.can_run.has_inlets t is) in
+    let all : length (inlet_names x.inlets_before) ≡ length x.inlets_before = length-map x.inlets_before (λ v. v.name) in
+    let among : door.0 < length (inlet_names x.inlets_before) = inlet-within _ (slice_get set.routes t) door.0 door.1 in
+    let within : door.0 < length x.inlets_before = rw all at among in
+    record {
+      set = set;
+      routes = has;
+      inlet = door.0;
+      read_by = door.1;
+      failed = inlet-rose 0 door.0 _ _ _ ran.inlets door.0 within (omega arith)
+          (fault-acted (doors_of set (lane_names x.lanes_before) (inlet_names x.inlets_before)) door.0 t door.1 x.journal.past h);
+    }
+
+-- ---- the cause of what a command came to
+
+stop-caused : (x : Setting) (set : RouteSet) (r s : Stop) → HasRoutes x set → IsRun x set r → Says (first_fault x.journal.past) (turns x.journal.past) turn_limit s → CauseOfStop x s
+stop-caused x set r stop.Drained has ran h = tt
+stop-caused x set r (stop.SourceFault t) has ran h = source-failed x set r t has ran h
+stop-caused x set r (stop.Held groups) has ran h = h
+stop-caused x set r stop.Spent has ran h = h
+stop-caused x set r stop.NoMemory has ran h = tt
+
+told-caused : (x : Setting) (before after : ℕ) (told : Outcome) (text : List ℕ) → Comes x told text → CauseOf x before after told
+told-caused x before after told text (NoCommand none still count) = none
+told-caused x before after told text (NotRead p command still rises) = rises-rose 1 _ _ (omega arith) rises
+told-caused x before after told text (NoRoutes p read c command still was e) =
+    record { path = p; read = read; cause = c; command = command; answer = was; refused = e; is = refl }
+told-caused x before after told text (Stopped set s has ran ne) = by_stop ran.stops
+  where
+    by_stop : (s ≡ stop.NoMemory) ⊎ (stop_of (plan_of set) turn_limit x.journal.past ≡ Some s) → CauseOfStop x s
+    by_stop (inl e) = absurd (ne e)
+    by_stop (inr h) = stop-caused x set s s has ran (stop-says (plan_of set) (plan-simple set) 0 turn_limit x.journal.past ran.legal s h)
+told-caused x before after told text (Starved set has ran) = tt
+told-caused x before after told text (LacksMemory still count) = tt
+told-caused x before after told text (LacksText set s has ran) = tt
+
+-- the sink's fault is the cause where there was none before it
+behind-caused : (x : Setting) (before after : ℕ) (told : Outcome) (w : Result Unit SinkFault) → Rises (sink_failure w) before after → CauseOf x before after told
+    → CauseOf x before after (behind told w)
+behind-caused x before after told (Ok u) rises h = h
+behind-caused x before after told (Err fault.NoMemory) rises h = tt
+behind-caused x before after outcome.Words (Err fault.Failed) rises h = h
+behind-caused x before after (outcome.Routes f) (Err fault.Failed) rises h = h
+behind-caused x before after outcome.FilesFault (Err fault.Failed) rises h = h
+behind-caused x before after (outcome.Ran stop.Drained) (Err fault.Failed) rises h = rises-rose 1 before after (omega arith) rises
+behind-caused x before after (outcome.Ran (stop.SourceFault t)) (Err fault.Failed) rises h = h
+behind-caused x before after (outcome.Ran (stop.Held groups)) (Err fault.Failed) rises h = h
+behind-caused x before after (outcome.Ran stop.Spent) (Err fault.Failed) rises h = h
+behind-caused x before after (outcome.Ran stop.NoMemory) (Err fault.Failed) rises h = h
+behind-caused x before after outcome.SinkFault (Err fault.Failed) rises h = h
+behind-caused x before after outcome.NoMemory (Err fault.Failed) rises h = h
+
+-- ---- words that are no command
+
+abbrev IsRefused : Outcome → Type 0
+IsRefused o = (o ≡ outcome.Words) ⊎ (o ≡ outcome.NoMemory)
+
+words-behind : (w : Result Unit SinkFault) → IsRefused (behind outcome.Words w)
+words-behind (Ok u) = inl refl
+words-behind (Err fault.Failed) = inl refl
+words-behind (Err fault.NoMemory) = inr refl
+
+starved-behind : (w : Result Unit SinkFault) → IsRefused (behind outcome.NoMemory w)
+starved-behind (Ok u) = inr refl
+starved-behind (Err fault.Failed) = inr refl
+starved-behind (Err fault.NoMemory) = inr refl
+
+refused-behind : (x : Setting) (told : Outcome) (text : List ℕ) (w : Result Unit SinkFault) → command_of x.words ≡ None → Comes x told text → IsRefused (behind told w)
+refused-behind x told text w none (NoCommand _ still count) = words-behind w
+refused-behind x told text w none (NotRead p command still rises) = absurd (cc (none, command))
+refused-behind x told text w none (NoRoutes p read c command still was e) = absurd (cc (none, command))
+refused-behind x told text w none (Stopped set s has ran ne) = absurd (cc (none, has.command))
+refused-behind x told text w none (Starved set has ran) = absurd (cc (none, has.command))
+refused-behind x told text w none (LacksMemory still count) = starved-behind w
+refused-behind x told text w none (LacksText set s has ran) = absurd (cc (none, has.command))
+
+-- ---- where nothing failed
+
+without-faults : (x : Setting) (before after : ℕ) (o : Outcome) → CauseOf x before after o → IsUnharmed x before after → IsFaultless o
+without-faults x before after outcome.Words h u = tt
+without-faults x before after (outcome.Routes f) h u = tt
+without-faults x before after outcome.FilesFault h u = u.files h
+without-faults x before after (outcome.Ran stop.Drained) h u = tt
+without-faults x before after (outcome.Ran (stop.SourceFault t)) h u = u.inlets h.inlet h.failed
+without-faults x before after (outcome.Ran (stop.Held groups)) h u = h
+without-faults x before after (outcome.Ran stop.Spent) h u = tt
+without-faults x before after (outcome.Ran stop.NoMemory) h u = tt
+without-faults x before after outcome.SinkFault h u = u.sink h
+without-faults x before after outcome.NoMemory h u = tt
+
+-- ---- the file that the words name
+
+-- what was read is what is in the file
+read-found : (x : Setting) (r : Result RouteSet Cause) (p : Path) (read : FileRead) → Finds x r → command_of x.words ≡ Some (Drain p) → WasRead x p read
+    → found (lane_names x.lanes_before) (inlet_names x.inlets_before) read ≡ r
+read-found x r p read f command was =
+    let same : p ≡ f.path = cc (command, f.command) in
+    let told : read ≡ read_of file_limit (bytes_at p.folder p.name f.all) =
+    subst (λ (o : Option (List File)). IfTold o (λ fs. read ≡ read_of file_limit (bytes_at p.folder p.name fs))) f.files was.answer in
+    let here : read ≡ read_of file_limit (bytes_at f.path.folder f.path.name f.all) =
+    told ∙ ap (λ (q : Path). read_of file_limit (bytes_at q.folder q.name f.all)) same in
+    ap (found (lane_names x.lanes_before) (inlet_names x.inlets_before)) here ∙ f.in_file
+
+-- so routes with a fault don't run
+none-run : (x : Setting) (c : Cause) (set : RouteSet) → Finds x (Err c) → HasRoutes x set → ⊥
+none-run x c set f has = let h = sym (read-found x (Err c) has.path has.read f has.command has.answer) ∙ has.routes in cc h
+
+told-refused : (x : Setting) (c : Cause) (told : Outcome) (text : List ℕ) → Finds x (Err c) → Comes x told text → IsRefusedFor (whole_file c) told
+told-refused x c told text f (NoCommand none still count) = absurd (cc (none, f.command))
+told-refused x c told text f (NotRead p command still rises) = tt
+told-refused x c told text f (NoRoutes p read d command still was e) =
+    let h = sym e ∙ read-found x (Err c) p read f command was in
+    let same : d ≡ c = cc h in
+    ap whole_file same
+told-refused x c told text f (Stopped set s has ran ne) = none-run x c set f has
+told-refused x c told text f (Starved set has ran) = none-run x c set f has
+told-refused x c told text f (LacksMemory still count) = tt
+told-refused x c told text f (LacksText set s has ran) = tt
+
+behind-refused : (f : RouteFault) (told : Outcome) (w : Result Unit SinkFault) → IsRefusedFor f told → IsRefusedFor f (behind told w)
+behind-refused f told (Ok u) h = h
+behind-refused f told (Err fault.NoMemory) h = tt
+behind-refused f outcome.Words (Err fault.Failed) h = h
+behind-refused f (outcome.Routes g) (Err fault.Failed) h = h
+behind-refused f outcome.FilesFault (Err fault.Failed) h = h
+behind-refused f (outcome.Ran s) (Err fault.Failed) h = absurd h
+behind-refused f outcome.SinkFault (Err fault.Failed) h = h
+behind-refused f outcome.NoMemory (Err fault.Failed) h = h
+
+-- and routes without one are not refused
+completes : (x : Setting) (before after : ℕ) (o : Outcome) → CauseOf x before after o → (set : RouteSet) → Finds x (Ok set) → IsFaultless o → Completes o
+completes x before after outcome.Words h set f u = absurd (cc (h, f.command))
+completes x before after (outcome.Routes g) h set f u =
+    absurd (let e = sym h.refused ∙ read-found x (Ok set) h.path h.read f h.command h.answer in cc e)
+completes x before after outcome.FilesFault h set f u = u
+completes x before after (outcome.Ran s) h set f u = u
+completes x before after outcome.SinkFault h set f u = u
+completes x before after outcome.NoMemory h set f u = u
+
+-- ---- the clause
+
+pub causes : (x : Setting) (before after : Option (List ℕ)) (faults_before faults_after : ℕ) (o : Outcome) → Reports x before after faults_before faults_after o
+    → Causes x faults_before faults_after o
+causes x before after faults_before faults_after o r =
+    let is : behind r.told r.tells.write ≡ o = sym r.tells.outcome in
+    let cause : CauseOf x faults_before faults_after o =
+    subst (CauseOf x faults_before faults_after) is
+    (behind-caused x faults_before faults_after r.told r.tells.write r.tells.faults (told-caused x faults_before faults_after r.told r.text r.comes)) in
+    record {
+      cause = cause;
+      no_command = λ none. subst IsRefused is (refused-behind x r.told r.text r.tells.write none r.comes);
+      faultless = without-faults x faults_before faults_after o cause;
+      no_routes = λ c f. subst (IsRefusedFor (whole_file c)) is (behind-refused (whole_file c) r.told r.tells.write (told-refused x c r.told r.text f r.comes));
+      complete = λ set f u. completes x faults_before faults_after o cause set f (without-faults x faults_before faults_after o cause u);
+    }
