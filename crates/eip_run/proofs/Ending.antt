@@ -1,26 +1,22 @@
 -- What a command comes to, by what was prepared and told.
-use Rattle.std.proofs.Common.{◌≡◌, ◌≢◌, ℕ, ◌+◌, ◌≤◌, ◌++◌, ◌⊎◌, List, [], Option, Some, None, Result, Ok, Err, length, codes, refl, sym, ap, subst, ◌∙◌, arith, inl, inr}
+use Rattle.std.proofs.Common.{◌≡◌, ℕ, ◌+◌, ◌≤◌, ◌++◌, List, [], Option, Some, Result, Ok, Err, codes, sym, ap, subst, ◌∙◌, arith}
 use Rattle.std.proofs.lemmas.List.{append-nil}
-use Rattle.eip_text.specs.Causes.{Rises}
 use Rattle.eip_route.specs.declared.route.RouteSet.{RouteSet}
 use Rattle.eip_command.specs.declared.fault.RouteFault.{RouteFault}
 use Rattle.eip_endpoint.specs.declared.files.FileRead.{FileRead}
-use Rattle.eip_endpoint.specs.Files.{File}
-use Rattle.eip_endpoint.specs.Lanes.{LaneView, LanesGrew}
-use Rattle.eip_endpoint.specs.Inlets.{InletView, InletsGrew}
+use Rattle.eip_endpoint.specs.Lanes.{LaneView}
+use Rattle.eip_endpoint.specs.Inlets.{InletView}
 use Rattle.eip_ledger.specs.View.{JournalView}
 use Rattle.eip_ledger.specs.declared.place.Stop.{Stop}
-use Rattle.eip_ledger.specs.declared.place.Stop.TheVariants as stop
 use Rattle.eip_history.specs.Plan.{Plan}
 use Rattle.eip_history.specs.Own.{Past, turns}
 use Rattle.eip_history.specs.Place.{hands}
 use Rattle.eip_history.specs.Rules.{IsLegal}
-use Rattle.eip_history.specs.Stop.{stop_of, IsPlain}
+use Rattle.eip_history.specs.Stop.{IsPlain}
 use Rattle.eip_history.proofs.Limit.{legal-within}
 use Rattle.eip_plan.specs.Plan.{plan_of}
 use Rattle.eip_books.specs.View.{BooksView, plan, IsLegalRun}
-use Rattle.eip_core.specs.Doors.{doors_of, lane_names, inlet_names, CanRun}
-use Rattle.eip_core.specs.Outside.{inlet_acts, lane_calls}
+use Rattle.eip_core.specs.Doors.{lane_names, inlet_names}
 use Rattle.eip_core.specs.Drain.{IsStop, Drains}
 use Rattle.eip_run.specs.declared.prepare.Refusal.{Refusal}
 use Rattle.eip_run.specs.declared.report.Outcome.{Outcome}
@@ -35,7 +31,7 @@ use Rattle.eip_run.specs.Routes.{found}
 use Rattle.eip_run.specs.Prepared.{path_in, Given, Read, Answers, Prepares, NoCommand, NotRead, NoRoutes, Found, LacksMemory}
 use Rattle.eip_run.specs.Printed.{OfRefusal, OfWords, OfFiles, OfRoutes, OfNoLine, OfMemory, OfRun, OfStop, OfStarved, OfNoText, TellsRefusal, TellsRun}
 use Rattle.eip_run.specs.Drained.{Drained, RanTo, NotBegun}
-use Rattle.eip_run.specs.Reports.{turn_limit, Setting, IsStill, WasRead, Ran, IsRun, HasRoutes, Comes, Reports, Told, NoCommand as Refused, NotRead as Failed, NoRoutes as Faulty, Stopped, Starved, LacksMemory as Poor, LacksText}
+use Rattle.eip_run.specs.Reports.{turn_limit, Setting, IsStill, WasRead, Ran, IsRun, HasRoutes, Comes, Reports, NoCommand as Refused, NotRead as Failed, NoRoutes as Faulty, Stopped, Starved, LacksMemory as Poor, LacksText}
 use Rattle.eip_run.proofs.Runnable.{Runs, found-runs}
 
 -- before the first entry no hand is out

@@ -1,27 +1,22 @@
 -- The routes that are found in a file can be run over the lanes and inlets that they were looked up in.
-use Rattle.std.proofs.Common.{◌≡◌, ℕ, zero, suc, ◌+◌, ◌<◌, ◌≤◌, ◌||◌, Bool, true, false, cond, leb, List, [], ◌∷◌, ◌++◌, length, codes, Option, Some, None, Result, Ok, Err, refl, sym, ap, subst, ◌∙◌, arith}
-use Rattle.std.specs.Option.{IsSome, is_some}
-use Rattle.std.specs.List.{list_any, position_from, slice_get}
+use Rattle.std.proofs.Common.{◌≡◌, ℕ, zero, suc, ◌+◌, ◌≤◌, ◌||◌, Bool, true, false, cond, leb, List, [], ◌∷◌, ◌++◌, length, codes, Option, Some, None, Result, Ok, Err, refl, sym, ap, subst, arith}
+use Rattle.std.specs.Option.{IsSome}
+use Rattle.std.specs.List.{list_any, position_from}
 use Rattle.std.specs.Str.{bytes_eq}
 use Rattle.eip_text.specs.Json.{Json, json_read}
-use Rattle.eip_uri.specs.declared.uri.Uri.{Uri}
 use Rattle.eip_uri.specs.declared.uri.Uri.TheVariants as uri
-use Rattle.eip_route.specs.declared.step.Expr.TheVariants as expr
 use Rattle.eip_route.specs.declared.step.Step.{Step}
 use Rattle.eip_route.specs.declared.step.Step.TheVariants as step
 use Rattle.eip_route.specs.declared.route.RouteSet.{RouteSet}
 use Rattle.eip_command.specs.declared.fault.Cause.{Cause}
 use Rattle.eip_command.specs.declared.fault.Cause.TheVariants as cause
-use Rattle.eip_command.specs.Form.{is_among, set_of, form_of, or_not_built, of_tree, read_routes}
-use Rattle.eip_command.specs.Spelled.{IsTarget, IsRun, AreRun, Spells}
+use Rattle.eip_command.specs.Form.{set_of, form_of, or_not_built, of_tree, read_routes}
+use Rattle.eip_command.specs.Spelled.{AreRun, Spells}
 use Rattle.eip_command.proofs.Exact.{form_is}
 use Rattle.eip_endpoint.specs.declared.files.FileRead.{FileRead}
 use Rattle.eip_endpoint.specs.declared.files.FileRead.TheVariants.{Bytes, Missing, TooLong}
-use Rattle.eip_endpoint.specs.Lanes.{first_named}
-use Rattle.eip_meaning.specs.Meaning.{steps_of, is_told_route}
-use Rattle.eip_history.specs.Rules.{IsSource}
 use Rattle.eip_plan.specs.Plan.{plan_of}
-use Rattle.eip_core.specs.Doors.{inlet_at, HasInlets, SendsWithin, HasLanes, TellsNone, CanRun}
+use Rattle.eip_core.specs.Doors.{HasInlets, SendsWithin, HasLanes, TellsNone, CanRun}
 use Rattle.eip_run.specs.Routes.{with_stream, has_stream, found}
 
 -- where one passes a test, there is a first that does

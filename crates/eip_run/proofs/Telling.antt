@@ -1,17 +1,12 @@
 -- What is told of a refusal and of a run, by what was written.
-use Rattle.std.proofs.Common.{◌≡◌, ◌≢◌, ℕ, List, Option, codes, refl, sym, ap, subst}
+use Rattle.std.proofs.Common.{◌≡◌, ℕ, List, Option, sym, subst}
 use Rattle.eip_route.specs.declared.route.RouteSet.{RouteSet}
-use Rattle.eip_command.specs.Causes.{fault_line}
-use Rattle.eip_command.specs.declared.fault.RouteFault.{RouteFault}
 use Rattle.eip_ledger.specs.declared.place.Stop.{Stop}
-use Rattle.eip_ledger.specs.declared.place.Stop.TheVariants as stop
 use Rattle.eip_history.specs.Own.{Past}
 use Rattle.eip_run.specs.declared.prepare.Refusal.{Refusal}
-use Rattle.eip_run.specs.declared.prepare.Refusal.TheVariants as refusal
 use Rattle.eip_run.specs.declared.report.Outcome.{Outcome}
-use Rattle.eip_run.specs.declared.report.Outcome.TheVariants as outcome
-use Rattle.eip_run.specs.Reports.{Told, run_text}
-use Rattle.eip_run.specs.Printed.{OfRefusal, OfWords, OfFiles, OfRoutes, OfNoLine, OfMemory, OfRun, OfStop, OfStarved, OfNoText, TellsRefusal, TellsRun}
+use Rattle.eip_run.specs.Reports.{Told}
+use Rattle.eip_run.specs.Printed.{OfRefusal, OfRun, TellsRefusal, TellsRun}
 
 pub told-refusal : (r s : Refusal) (told : Outcome) (text other : List ℕ) {before after : Option (List ℕ)} {faults_before faults_after : ℕ} {o : Outcome} → r ≡ s → OfRefusal s told text
     → other ≡ text → Told told other before after faults_before faults_after o → TellsRefusal r before after faults_before faults_after o

@@ -1,5 +1,5 @@
 -- What is told of a refusal and of a run.
-use Rattle.std.specs.Prelude.{ℕ, ◌≡◌, ◌≢◌, List, Option, codes}
+use Rattle.std.specs.Prelude.{ℕ, ◌≢◌, List, Option, codes}
 use Rattle.eip_route.specs.declared.route.RouteSet.{RouteSet}
 use Rattle.eip_command.specs.Causes.{fault_line}
 use Rattle.eip_command.specs.declared.fault.RouteFault.{RouteFault}

@@ -1,5 +1,5 @@
 -- Which routes a command runs, by what reading their file answered.
-use Rattle.std.specs.Prelude.{ℕ, Bool, cond, List, Option, Result, Ok, Err, is_some, codes}
+use Rattle.std.specs.Prelude.{ℕ, Bool, cond, List, Result, Ok, Err, is_some, codes}
 use Rattle.eip_route.specs.declared.route.RouteSet.{RouteSet}
 use Rattle.eip_command.specs.declared.fault.Cause.{Cause}
 use Rattle.eip_command.specs.declared.fault.Cause.TheVariants as cause
