@@ -1,5 +1,5 @@
 -- What a command comes to, by what was prepared and told.
-use Rattle.std.proofs.Common.{◌≡◌, ℕ, ◌+◌, ◌≤◌, ◌++◌, List, [], Option, Some, Result, Ok, Err, codes, sym, ap, subst, ◌∙◌, arith}
+use Rattle.std.proofs.Common.{◌≡◌, ℕ, ◌++◌, List, [], Option, Some, Result, Ok, Err, codes, sym, ap, subst, ◌∙◌}
 use Rattle.std.proofs.lemmas.List.{append-nil}
 use Rattle.eip_route.specs.declared.route.RouteSet.{RouteSet}
 use Rattle.eip_command.specs.declared.fault.RouteFault.{RouteFault}
@@ -9,11 +9,8 @@ use Rattle.eip_endpoint.specs.Inlets.{InletView}
 use Rattle.eip_ledger.specs.View.{JournalView}
 use Rattle.eip_ledger.specs.declared.place.Stop.{Stop}
 use Rattle.eip_history.specs.Plan.{Plan}
-use Rattle.eip_history.specs.Own.{Past, turns}
-use Rattle.eip_history.specs.Place.{hands}
-use Rattle.eip_history.specs.Rules.{IsLegal}
+use Rattle.eip_history.specs.Own.{Past}
 use Rattle.eip_history.specs.Stop.{IsPlain}
-use Rattle.eip_history.proofs.Limit.{legal-within}
 use Rattle.eip_plan.specs.Plan.{plan_of}
 use Rattle.eip_books.specs.View.{BooksView, plan, IsLegalRun}
 use Rattle.eip_core.specs.Doors.{lane_names, inlet_names}
@@ -33,11 +30,6 @@ use Rattle.eip_run.specs.Printed.{OfRefusal, OfWords, OfFiles, OfRoutes, OfNoLin
 use Rattle.eip_run.specs.Drained.{Drained, RanTo, NotBegun}
 use Rattle.eip_run.specs.Reports.{turn_limit, Setting, IsStill, WasRead, Ran, IsRun, HasRoutes, Comes, Reports, NoCommand as Refused, NotRead as Failed, NoRoutes as Faulty, Stopped, Starved, LacksMemory as Poor, LacksText}
 use Rattle.eip_run.proofs.Runnable.{Runs, found-runs}
-
--- before the first entry no hand is out
-pub none-out : (s : Plan) → hands s [] ≡ 0
-unfolding IsLegal
-none-out s = let h : turns [] + hands s [] ≤ 0 = legal-within s 0 0 [] tt in omega (arith, h)
 
 none-plain : (s : Plan) → IsPlain s []
 unfolding IsPlain

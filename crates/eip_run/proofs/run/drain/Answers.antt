@@ -1,14 +1,15 @@
 use Rattle.std.proofs.Common.{refl, ap, sym, ◌∙◌}
 use Rattle.eip_ledger.specs.View.{JournalView}
 use Rattle.eip_run.specs.Drained.{RanTo, NotBegun}
-use Rattle.eip_run.proofs.Ending.{none-out, Begins, ran-to, told-along}
+use Rattle.eip_core.proofs.Turns.{none-out}
+use Rattle.eip_run.proofs.Ending.{Begins, ran-to, told-along}
 use Rattle.eip_run.proofs.run.drain.Goals as goal
 
 pub returns-in_default : goal.returns-in_default
 returns-in_default g c = NotBegun _ c.new-in_default.ensures.past refl refl c.tell_memory-outcome.ensures
 
 pub drain_alone-stop-requires-clause-home : goal.drain_alone-stop-requires-clause-home
-drain_alone-stop-requires-clause-home g c = rw c.in-Ok.ensures.past (none-out _)
+drain_alone-stop-requires-clause-home g c = none-out c.in-Ok.hub c.in-Ok.ensures.past
 
 pub returns : goal.returns
 returns g c =
