@@ -1,6 +1,5 @@
 -- The set of the tests can be run.
-use Rattle.std.proofs.Common.{◌≡◌, ℕ, zero, suc, true, List, [], ◌∷◌, codes, refl}
-use Rattle.eip_history.specs.Rules.{IsSource}
+use Rattle.std.proofs.Common.{zero, suc, [], ◌∷◌, codes, refl}
 use Rattle.eip_plan.specs.Plan.{plan_of}
 use Rattle.eip_core.specs.Doors.{HasInlets, HasLanes, TellsNone, CanRun}
 use Rattle.eip_core.specs.Rows.{logging}

@@ -4,7 +4,6 @@
 pub mod drain;
 pub mod outside;
 pub mod registry;
-
 #[cfg(test)]
 mod tests;
 
