@@ -17,6 +17,7 @@ mod words;
 use eip_core::Registry;
 use eip_endpoint::{Inlet, Lane, Sink, SinkFault};
 use eip_run::run::run as run_command;
+use eip_simple_read::CratePatterns;
 use eip_text::{NoMemory, Text};
 use files::HostFiles;
 use lines::LineSource;
@@ -32,11 +33,13 @@ Runs routes of integration patterns over the lines of standard input.
 
   eip drain ROUTES   reads the route file ROUTES, takes each line of standard
                      input as a message, and prints the log and the end book
+  eip check ROUTES   prints the routes of ROUTES in their canonical form, or the
+                     first fault of the file
   eip --help         prints this page
   eip --version      prints the version
 
 The status tells how a run came out:
-  0  every exchange came to its end
+  0  every exchange came to its end, or the routes were printed
   1  the words or the route file were refused
   2  the files, the source or standard output failed
   4  the turns were spent before the end
@@ -89,10 +92,12 @@ fn run<R: rt::Files + AllocGlobal>(
         object: Box::new(alloc, LineSource::new(alloc, input)?)?,
     })?;
     let mut lanes: Vec<Lane> = Vec::new(alloc);
+    let mut patterns = CratePatterns::new(Vec::new(alloc));
     let report = run_command(
         alloc,
         words,
         &mut files,
+        &mut patterns,
         &mut lanes,
         &mut inlets,
         &Registry::new(),

@@ -1,4 +1,1 @@
-pub mod Exact
 mod Paths
-mod Shapes
-mod Steps

@@ -13,7 +13,8 @@ use Rattle.eip_text.specs.Cuts.{holds_byte}
 use Rattle.eip_text.proofs.Cutting.{guarded}
 use Rattle.eip_command.specs.declared.words.Command.{Command}
 use Rattle.eip_command.specs.declared.words.Command.TheVariants as command
-use Rattle.eip_command.specs.Words.{is_path, command_of, IsCommand, name_of, front_of, or_root, folder_of, file_at, IsAt, IsFile}
+use Rattle.eip_command.specs.declared.words.Verb.TheVariants as verb
+use Rattle.eip_command.specs.Words.{is_path, on_path, command_of, IsOn, IsCommand, name_of, front_of, or_root, folder_of, file_at, IsAt, IsFile}
 
 -- ---- where the last `/` stands
 
@@ -116,17 +117,23 @@ file_is bs = record { at = at_by (holds_byte 47 bs) bs (front_of bs) refl (whole
 
 -- ---- the words are those of the command
 
-drain_is : (word path : List ℕ) (c : Command) → command_of (word ∷ (path ∷ [])) ≡ Some c → IsCommand (word ∷ (path ∷ [])) c
-drain_is word path c e =
+is-on : (first word path : List ℕ) → bytes_eq word first ≡ true → is_path path ≡ true → IsOn first (word ∷ (path ∷ [])) (file_at path)
+is-on first word path e fit = record { path = path; said = ap (λ (w : List ℕ). w ∷ (path ∷ [])) ((bytes_eq-Decides word first).0 e); fit = fit; file = file_is path }
+
+asked-by : (b d : Bool) (word path : List ℕ) (c : Command) → bytes_eq word (codes "drain") ≡ b → bytes_eq word (codes "check") ≡ d
+    → on_path (cond b (Some verb.Drain) (cond d (Some verb.Check) None)) path ≡ Some c → IsCommand (word ∷ (path ∷ [])) c
+asked-by true d word path c is_drain is_check e =
     let made : Command = command.Drain (file_at path) in
-    let g = guarded (bytes_eq word (codes "drain") && is_path path) (Some made) c e in
-    let tests = and_parts (bytes_eq word (codes "drain")) (is_path path) g.0 in
-    let first : word ≡ codes "drain" = (bytes_eq-Decides word (codes "drain")).0 tests.0 in
-    let drains : IsCommand (word ∷ (path ∷ [])) made = record { path = path; said = ap (λ (w : List ℕ). w ∷ (path ∷ [])) first; fit = tests.1; file = file_is path } in
-    subst (IsCommand (word ∷ (path ∷ []))) (same_Some made c g.1) drains
+    let g = guarded (is_path path) (Some made) c e in
+    subst (IsCommand (word ∷ (path ∷ []))) (same_Some made c g.1) (is-on (codes "drain") word path is_drain g.0)
+asked-by false true word path c is_drain is_check e =
+    let made : Command = command.Check (file_at path) in
+    let g = guarded (is_path path) (Some made) c e in
+    subst (IsCommand (word ∷ (path ∷ []))) (same_Some made c g.1) (is-on (codes "check") word path is_check g.0)
+asked-by false false word path c is_drain is_check e = absurd (cc e)
 
 pub command_is : (words : List (List ℕ)) (c : Command) → command_of words ≡ Some c → IsCommand words c
 command_is [] c e = absurd cc
 command_is (word ∷ []) c e = absurd cc
-command_is (word ∷ (path ∷ [])) c e = drain_is word path c e
+command_is (word ∷ (path ∷ [])) c e = asked-by (bytes_eq word (codes "drain")) (bytes_eq word (codes "check")) word path c refl refl e
 command_is (word ∷ (path ∷ (more ∷ words))) c e = absurd cc

@@ -1,75 +1,8 @@
--- How a cause and a fault of a route file are printed.
-use Rattle.std.specs.Prelude.{◌≡◌, ℕ, List, [], ◌∷◌, ◌++◌, codes, decimal, Option, Some, None, refl}
-use Rattle.eip_command.specs.declared.fault.Cause.{Cause}
-use Rattle.eip_command.specs.declared.fault.Cause.TheVariants as cause
-use Rattle.eip_command.specs.declared.fault.RouteFault.{RouteFault}
-
-abbrev pub name_of : Cause → List ℕ
-name_of cause.NoFile = codes "NoFile"
-name_of cause.TooLong = codes "TooLong"
-name_of cause.NotJson = codes "NotJson"
-name_of cause.WrongKind = codes "WrongKind"
-name_of cause.TooManyRoutes = codes "TooManyRoutes"
-name_of cause.NotOneKey = codes "NotOneKey"
-name_of (cause.UnknownKey key) = codes "UnknownKey"
-name_of (cause.UnknownStep key) = codes "UnknownStep"
-name_of (cause.DoubleKey key) = codes "DoubleKey"
-name_of (cause.MissingKey key) = codes "MissingKey"
-name_of cause.StepsTwice = codes "StepsTwice"
-name_of cause.BothHandledAndContinued = codes "BothHandledAndContinued"
-name_of cause.NoCompletion = codes "NoCompletion"
-name_of cause.BadName = codes "BadName"
-name_of cause.BadValue = codes "BadValue"
-name_of cause.UnknownScheme = codes "UnknownScheme"
-name_of (cause.BadUri at) = codes "BadUri"
-name_of (cause.UnknownOption name) = codes "UnknownOption"
-name_of (cause.BadOption name) = codes "BadOption"
-name_of (cause.DoubleOption name) = codes "DoubleOption"
-name_of (cause.BadSimple at) = codes "BadSimple"
-name_of (cause.UnknownFunction at) = codes "UnknownFunction"
-name_of (cause.BadPattern at) = codes "BadPattern"
-name_of (cause.PatternTooLarge at) = codes "PatternTooLarge"
-name_of cause.NotConsumer = codes "NotConsumer"
-name_of cause.NotProducer = codes "NotProducer"
-name_of (cause.NotRegistered name) = codes "NotRegistered"
-name_of cause.TooNested = codes "TooNested"
-name_of cause.DoubleErrorHandler = codes "DoubleErrorHandler"
-name_of cause.DoubleRouteId = codes "DoubleRouteId"
-name_of cause.SecondConsumer = codes "SecondConsumer"
-name_of cause.NotBuilt = codes "NotBuilt"
-
--- the text among its arguments
-abbrev pub word_of : Cause → Option (List ℕ)
-word_of (cause.UnknownKey key) = Some key
-word_of (cause.UnknownStep key) = Some key
-word_of (cause.DoubleKey key) = Some key
-word_of (cause.MissingKey key) = Some key
-word_of (cause.UnknownOption name) = Some name
-word_of (cause.BadOption name) = Some name
-word_of (cause.DoubleOption name) = Some name
-word_of (cause.NotRegistered name) = Some name
-word_of _ = None
-
--- the offset among its arguments
-abbrev pub byte_of : Cause → Option ℕ
-byte_of (cause.BadUri at) = Some at
-byte_of (cause.BadSimple at) = Some at
-byte_of (cause.UnknownFunction at) = Some at
-byte_of (cause.BadPattern at) = Some at
-byte_of (cause.PatternTooLarge at) = Some at
-byte_of _ = None
-
-abbrev pub behind_space : List ℕ → List ℕ
-behind_space argument = 32 ∷ argument
-
-abbrev pub argument_text : Option (List ℕ) → Option ℕ → List ℕ
-argument_text (Some word) at = behind_space word
-argument_text None (Some at) = behind_space (decimal at)
-argument_text None None = []
-
--- the name and, behind a space, the argument where there is one
-unfoldable pub cause_text : Cause → List ℕ
-cause_text c = name_of c ++ argument_text (word_of c) (byte_of c)
+-- How a fault of a route file is told.
+use Rattle.std.specs.Prelude.{◌≡◌, ℕ, List, [], ◌∷◌, ◌++◌, codes, refl}
+use Rattle.eip_route_table.specs.Causes.{cause_text}
+use Rattle.eip_route_table.specs.declared.fault.Cause.TheVariants as cause
+use Rattle.eip_route_table.specs.declared.fault.RouteFault.{RouteFault}
 
 unfoldable pub fault_line : RouteFault → List ℕ
 fault_line f = codes "error routes " ++ (f.path ++ (32 ∷ (cause_text f.cause ++ (10 ∷ []))))
@@ -80,10 +13,6 @@ pub row-plain : fault_line (record { path = codes "$"; cause = cause.NotBuilt })
 unfolding fault_line cause_text
 row-plain = refl
 
-pub row-word : cause_text (cause.UnknownKey (codes "rout")) ≡ codes "UnknownKey rout"
-unfolding cause_text
+pub row-word : fault_line (record { path = codes "$[0]"; cause = cause.UnknownKey (codes "rout") }) ≡ codes "error routes $[0] UnknownKey rout\n"
+unfolding fault_line cause_text
 row-word = refl
-
-pub row-byte : cause_text (cause.BadUri 10) ≡ codes "BadUri " ++ decimal 10
-unfolding cause_text
-row-byte = refl

@@ -1,4 +1,2 @@
-pub mod Causes
-pub mod Form
-pub mod Spelled
 pub mod Words
+pub mod Causes

@@ -4,6 +4,8 @@ use Rattle.eip_text.specs.Cuts.{holds_byte}
 use Rattle.eip_command.specs.declared.words.Path.{Path}
 use Rattle.eip_command.specs.declared.words.Command.{Command}
 use Rattle.eip_command.specs.declared.words.Command.TheVariants as command
+use Rattle.eip_command.specs.declared.words.Verb.{Verb}
+use Rattle.eip_command.specs.declared.words.Verb.TheVariants as verb
 
 -- not empty, without `-` at its front and without `/` at its end
 abbrev pub is_path : List ℕ → Bool
@@ -31,12 +33,29 @@ folder_of bs = if holds_byte 47 bs then or_root (front_of bs) else codes "."
 abbrev pub file_at : List ℕ → Path
 file_at bs = record { folder = folder_of bs; name = name_of bs }
 
+-- what a first word asks for
+abbrev pub verb_of : List ℕ → Option Verb
+verb_of word = if bytes_eq word (codes "drain") then Some verb.Drain else (if bytes_eq word (codes "check") then Some verb.Check else None)
+
+abbrev pub asked : Verb → Path → Command
+asked verb.Drain routes = command.Drain routes
+asked verb.Check routes = command.Check routes
+
+abbrev pub on_path : Option Verb → List ℕ → Option Command
+on_path None path = None
+on_path (Some v) path = if is_path path then Some (asked v (file_at path)) else None
+
 -- the command, or none where the words are of no command's form
 abbrev pub command_of : List (List ℕ) → Option Command
 command_of [] = None
 command_of (word ∷ []) = None
-command_of (word ∷ (path ∷ [])) = if bytes_eq word (codes "drain") && is_path path then Some (command.Drain (file_at path)) else None
+command_of (word ∷ (path ∷ [])) = on_path (verb_of word) path
 command_of (word ∷ (path ∷ (more ∷ words))) = None
+
+-- the path of the route file that a command names
+abbrev pub path_in : Command → Path
+path_in (command.Drain routes) = routes
+path_in (command.Check routes) = routes
 
 -- ---- the same said without cutting
 
@@ -50,16 +69,17 @@ pub record IsFile (path : List ℕ) (file : Path) : Type 0 where
   pub at : IsAt file.folder file.name path
   pub plain : holds_byte 47 file.name ≡ false
 
--- `drain` and a path
-pub record IsDrain (words : List (List ℕ)) (routes : Path) : Type 0 where
+-- a word and a path
+pub record IsOn (first : List ℕ) (words : List (List ℕ)) (routes : Path) : Type 0 where
   pub path : List ℕ
-  pub said : words ≡ codes "drain" ∷ (path ∷ [])
+  pub said : words ≡ first ∷ (path ∷ [])
   pub fit : is_path path ≡ true
   pub file : IsFile path routes
 
 -- the words are those of the command
 abbrev pub IsCommand : List (List ℕ) → Command → Type 0
-IsCommand words (command.Drain routes) = IsDrain words routes
+IsCommand words (command.Drain routes) = IsOn (codes "drain") words routes
+IsCommand words (command.Check routes) = IsOn (codes "check") words routes
 
 -- ---- worked rows
 
@@ -77,6 +97,9 @@ row-root = refl
 
 pub row-folder : command_of (codes "drain" ∷ codes "a/" ∷ []) ≡ None
 row-folder = refl
+
+pub row-check : command_of (codes "check" ∷ codes "r.json" ∷ []) ≡ Some (command.Check (record { folder = codes "."; name = codes "r.json" }))
+row-check = refl
 
 pub row-option : command_of (codes "drain" ∷ codes "-x" ∷ []) ≡ None
 row-option = refl

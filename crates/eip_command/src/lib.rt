@@ -1,15 +1,10 @@
-// The words behind the program's name, and the route file that they name.
+// The words behind the program's name, and the line that tells a fault of the route file that they name.
 #![tactic(auto)]
 
 pub mod fault;
-pub mod form;
-mod laws;
-mod parts;
 pub mod words;
 
-pub use fault::{Cause, RouteFault, fault_line, print_cause};
-pub use form::{FormRefusal, read_form};
-pub use laws::form_laws;
+pub use fault::fault_line;
 pub use words::{Command, Path, WordsFault, read_words};
 
 #[cfg(test)]

@@ -17,6 +17,19 @@ pub struct Path {
 pub enum Command {
     /// `drain ROUTES`: the routes of this file run until nothing is left to do.
     Drain { routes: Path },
+    /// `check ROUTES`: the routes of this file are printed in their canonical form.
+    Check { routes: Path },
+}
+
+impl Command {
+    /// The route file that the command names.
+    pub fn routes(&self) -> &Path
+        ensures { result.now ≡ spec.path_in self.now }
+    {
+        match self {
+            Command::Drain { routes } | Command::Check { routes } => routes,
+        }
+    }
 }
 
 /// Why words are no command.
@@ -40,8 +53,40 @@ impl From<NoMemory> for WordsFault {
     }
 }
 
-/// The command that words give: `drain ROUTES`, where ROUTES is a path. A path isn't empty, doesn't
-/// begin with `-` and doesn't end with `/`. Its folder is what stands before its last `/`, or `.`
+/// What the first word of a command asks for.
+#[derive(Clone, Copy, Debug, PartialEq, Eq)]
+enum Verb {
+    Drain,
+    Check,
+}
+
+impl Verb {
+    /// The verb that a word is.
+    fn read(word: &str) -> Option<Verb>
+        ensures { result ≡ spec.verb_of word.now }
+    {
+        if word == "drain" {
+            Some(Verb::Drain)
+        } else if word == "check" {
+            Some(Verb::Check)
+        } else {
+            None
+        }
+    }
+
+    /// Its command for the routes of a file.
+    fn command(self, routes: Path) -> Command
+        ensures { result ≡ spec.asked self routes }
+    {
+        match self {
+            Verb::Drain => Command::Drain { routes },
+            Verb::Check => Command::Check { routes },
+        }
+    }
+}
+
+/// The command that words give: `drain ROUTES` or `check ROUTES`, where ROUTES is a path. A path isn't empty,
+/// doesn't begin with `-` and doesn't end with `/`. Its folder is what stands before its last `/`, or `.`
 /// without one, or `/` where nothing stands before it; the name is what stands behind.
 /// `Refused` exactly for every other list of words.
 pub fn read_words(alloc: Global, words: &[Text]) -> Result<Command, WordsFault>
@@ -52,11 +97,14 @@ pub fn read_words(alloc: Global, words: &[Text]) -> Result<Command, WordsFault>
     match words {
         [] | [_] | [_, _, _, ..] => Err(WordsFault::Refused),
         [word, path] => {
-            if word.as_str() != "drain" || !is_path(path.as_str()) {
+            let Some(verb) = Verb::read(word.as_str()) else {
+                return Err(WordsFault::Refused);
+            };
+            if !is_path(path.as_str()) {
                 return Err(WordsFault::Refused);
             }
             let routes = Path::read(alloc, path.as_str())?;
-            Ok(Command::Drain { routes })
+            Ok(verb.command(routes))
         }
     }
 }

@@ -2,6 +2,7 @@
 use Rattle.std.proofs.Common.{◌≡◌, ℕ, Bool, true, false, cond, List, [], ◌∷◌, Option, Some, None, refl, ap, subst, ◌∙◌, inl, inr}
 use Rattle.std.specs.Option.{IsSome}
 use Rattle.std.proofs.lemmas.Bool.{cases_Bool}
+use Rattle.eip_exchange.specs.Headers.{is_one_too_many}
 use Rattle.eip_exchange.specs.declared.message.Message.{Message}
 use Rattle.eip_exchange.specs.declared.end.Fault.{Fault}
 use Rattle.eip_exchange.specs.declared.end.End.{End}
@@ -14,6 +15,7 @@ use Rattle.eip_exchange.specs.declared.birth.Work.{Work}
 use Rattle.eip_exchange.specs.declared.birth.Work.TheVariants as work
 use Rattle.eip_uri.specs.declared.uri.Uri.{Uri}
 use Rattle.eip_uri.specs.declared.uri.Uri.TheVariants as uri
+use Rattle.eip_simple.specs.Values.{template_value}
 use Rattle.eip_route.specs.declared.step.Step.{Step}
 use Rattle.eip_route.specs.declared.step.Step.TheVariants as step
 use Rattle.eip_route.specs.declared.route.RouteSet.{RouteSet}
@@ -27,7 +29,8 @@ use Rattle.eip_frames.specs.declared.answer.Answer.{Answer as Reply}
 use Rattle.eip_frames.specs.declared.answer.Answer.TheVariants as reply
 use Rattle.eip_endpoint.specs.Lanes.{first_named}
 use Rattle.eip_meaning.specs.Outcomes.{Outcome, Asks, Goes, Stops, Faults, Stray, Runner, followed, caught, answered_by, ask, fault_in}
-use Rattle.eip_meaning.specs.Meaning.{mean, steps_mean, step_mean, to_mean, is_too_long, value_of, with_body, ends_failed, finished, finish_by, ends_or_strays, end_by, work_mean, steps_of, is_committed, is_told_origin, item_of, place_of}
+use Rattle.eip_meaning.specs.declared.scene.Scene.{Scene}
+use Rattle.eip_meaning.specs.Meaning.{mean, steps_mean, step_mean, to_mean, seen_in, value_of, short, with_short, with_header, log_name, ends_failed, finished, finish_by, ends_or_strays, end_by, work_mean, steps_of, is_committed, is_told_origin, item_of, place_of, scene_of}
 use Rattle.eip_meaning.specs.Asked.{Logs, Sends, IsAskable, OfStep, Finishes}
 use Rattle.eip_meaning.proofs.Laws.{asked-finish}
 use Rattle.eip_meaning.proofs.Laws as laws
@@ -67,10 +70,16 @@ ask-asks q q' p at m k (a ∷ A) goes h = elim (cases_Bool (fits q a)) [
   | inr f ↦ absurd (let g = rw f at h in cc g)
 ]
 
--- a body that is set asks nothing
+-- what is set with a test asks nothing
 set-asks : (v : Bool) (m n : Message) (f : Fault) (A : List Reply) (q : Request) (at : At) → caught (cond v (Faults f A) (Goes n A)) (λ g B. ends_failed g m B) ≡ Asks q at → ⊥
 set-asks true m n f A q at h = cc h
 set-asks false m n f A q at h = cc h
+
+-- what is asked with a value, where it isn't too long
+short-asks : (P : Type 0) (o : Option (List ℕ)) (K : List ℕ → List Reply → Outcome) (m : Message) (A : List Reply) (q : Request) (at : At)
+    → ((value : List ℕ) → caught (K value A) (λ f B. ends_failed f m B) ≡ Asks q at → P) → caught (with_short o K A) (λ f B. ends_failed f m B) ≡ Asks q at → P
+short-asks P None K m A q at g h = absurd (cc h)
+short-asks P (Some value) K m A q at g h = g value h
 
 to-within : (lanes : List (List ℕ)) (p at : At) (u : Uri) (ss : List Step) (m : Message) (A : List Reply) (q : Request) → SendsWithin lanes (step.To u ∷ ss)
     → caught (to_mean p u m A) (λ f B. ends_failed f m B) ≡ Asks q at → Within lanes q
@@ -84,16 +93,28 @@ to-rest : (lanes : List (List ℕ)) (u : Uri) (ss : List Step) → SendsWithin l
 to-rest lanes (uri.Lane name) ss w = w.1
 to-rest lanes _ ss w = w
 
-steps-within : (lanes : List (List ℕ)) (p at : At) (ss : List Step) (m : Message) (A : List Reply) (q : Request) → SendsWithin lanes ss → steps_mean p ss m A ≡ Asks q at → Within lanes q
-steps-within lanes p at [] m A q w h = absurd (cc h)
-steps-within lanes p at (step.SetBody e ∷ ss) m A q w h =
-    followed-asks q at (Within lanes q) (step_mean p (step.SetBody e) m A) (λ m' A'. steps_mean p ss m' A')
-    (λ g. absurd (set-asks (is_too_long (value_of e m)) m (with_body m (value_of e m)) _ A q at g))
-    (λ m' A' g. steps-within lanes p at ss m' A' q w g) h
-steps-within lanes p at (step.To u ∷ ss) m A q w h =
-    followed-asks q at (Within lanes q) (step_mean p (step.To u) m A) (λ m' A'. steps_mean p ss m' A')
-    (λ g. to-within lanes p at u ss m A q w g)
-    (λ m' A' g. steps-within lanes p at ss m' A' q (to-rest lanes u ss w) g) h
+rest-within : (lanes : List (List ℕ)) (x : Step) (xs : List Step) → SendsWithin lanes (x ∷ xs) → SendsWithin lanes xs
+rest-within lanes (step.To u) xs w = to-rest lanes u xs w
+rest-within lanes _ xs w = w
+
+try-within : (lanes : List (List ℕ)) (s : Scene) (at : At) (x : Step) (xs : List Step) (m : Message) (A : List Reply) (q : Request) → SendsWithin lanes (x ∷ xs)
+    → step_mean s x m A ≡ Asks q at → Within lanes q
+try-within lanes s at (step.SetBody e) xs m A q w h = short-asks (Within lanes q) (short (value_of s e m)) _ m A q at (λ value g. absurd (cc g)) h
+try-within lanes s at (step.SetHeader name e) xs m A q w h =
+    short-asks (Within lanes q) (short (value_of s e m)) _ m A q at (λ value g. absurd (set-asks (is_one_too_many name m.headers) m (with_header m name value) _ A q at g)) h
+try-within lanes s at (step.SetProperty name e) xs m A q w h = short-asks (Within lanes q) (short (value_of s e m)) _ m A q at (λ value g. absurd (cc g)) h
+try-within lanes s at (step.To u) xs m A q w h = to-within lanes s.place at u xs m A q w h
+try-within lanes s at (step.Log name template) xs m A q w h =
+    short-asks (Within lanes q) (short (template_value template (seen_in s m))) _ m A q at
+    (λ text g. let e = ask-asks (request.Log (log_name s name) text) q s.place at m (λ a B. Goes m B) A (λ b B. (m, refl)) g in subst (Within lanes) e tt) h
+try-within lanes s at _ xs m A q w h = absurd (cc h)
+
+steps-within : (lanes : List (List ℕ)) (s : Scene) (at : At) (xs : List Step) (m : Message) (A : List Reply) (q : Request) → SendsWithin lanes xs → steps_mean s xs m A ≡ Asks q at → Within lanes q
+steps-within lanes s at [] m A q w h = absurd (cc h)
+steps-within lanes s at (x ∷ xs) m A q w h =
+    followed-asks q at (Within lanes q) (step_mean s x m A) (λ m' A'. steps_mean s xs m' A')
+    (λ g. try-within lanes s at x xs m A q w g)
+    (λ m' A' g. steps-within lanes s at xs m' A' q (rest-within lanes x xs w) g) h
 
 ends-ask : (o : Option End) (m : Message) (q : Request) (at : At) → ends_or_strays o m ≡ AsksNext q at → ⊥
 ends-ask None m q at h = cc h
@@ -112,15 +133,15 @@ finished-within lanes commit item p at (Stops e m A) q asks h = finish-within la
 finished-within lanes commit item p at (Faults f A) q asks h = absurd (cc h)
 finished-within lanes commit item p at Stray q asks h = absurd (cc h)
 
-work-within : (lanes : List (List ℕ)) (set : RouteSet) → HasLanes set lanes → (p at : At) (w : Work) (m : Message) (A : List Reply) (q : Request) → work_mean set p w m A ≡ Asks q at → Within lanes q
-work-within lanes set has p at (work.Block b) m A q h = steps-within lanes p at (steps_of set b) m A q (has b) h
-work-within lanes set has p at (work.To text) m A q h = absurd (cc h)
+work-within : (lanes : List (List ℕ)) (set : RouteSet) → HasLanes set lanes → (s : Scene) (at : At) (w : Work) (m : Message) (A : List Reply) (q : Request) → work_mean set s w m A ≡ Asks q at → Within lanes q
+work-within lanes set has s at (work.Block b) m A q h = steps-within lanes s at (steps_of set b) m A q (has b) h
+work-within lanes set has s at (work.To text) m A q h = absurd (cc h)
 
 mean-within : (lanes : List (List ℕ)) (set : RouteSet) → HasLanes set lanes → (b : Birth) (A : List Reply) (q : Request) (at : At) → mean set b A ≡ AsksNext q at → Within lanes q
 unfolding mean
 mean-within lanes set has b A q at h =
-    finished-within lanes (is_committed set b) (item_of b.origin) (place_of b) at (work_mean set (place_of b) b.work b.message A) q
-    (λ here g. work-within lanes set has (place_of b) here b.work b.message A q g) h
+    finished-within lanes (is_committed set b) (item_of b.origin) (place_of b) at (work_mean set (scene_of set b) b.work b.message A) q
+    (λ here g. work-within lanes set has (scene_of set b) here b.work b.message A q g) h
 
 -- no exchange is told to its source
 told-none : (set : RouteSet) → TellsNone set → (o : Origin) → is_told_origin set o ≡ false

@@ -50,7 +50,7 @@ fn serves(name: &Text, target: &Target) -> bool
 }
 
 /// Whether what stands behind the word is this name.
-fn is_rest(rest: Option<&str>, name: &str) -> bool
+pub fn is_rest(rest: Option<&str>, name: &str) -> bool
     ensures { result ≡ is_rest (option_map (λ r. r.now) rest.entry) name.now }
 {
     match rest {

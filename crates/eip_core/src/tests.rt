@@ -8,7 +8,7 @@ use eip_endpoint::{Inlet, Lane, MemorySource, Pulled};
 use eip_exchange::{End, Message};
 use eip_hub::Hub;
 use eip_ledger::{Place, Stop};
-use eip_route::{Block, Route, RouteSet, Step};
+use eip_route::{Block, Handler, Names, Route, RouteSet, Step};
 use eip_text::{NoMemory, Series, Text};
 use eip_uri::Uri;
 use std::alloc::Global;
@@ -31,8 +31,11 @@ fn logging(alloc: Global) -> Result<RouteSet, NoMemory>
         block: 0,
     })?;
     Ok(RouteSet {
+        names: Names::none(alloc),
         routes: Series::of(routes),
         blocks: Series::of(blocks),
+        handler: Handler::plain(),
+        clauses: Series::of(Vec::new(alloc)),
     })
 }
 

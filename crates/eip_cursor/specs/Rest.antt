@@ -10,6 +10,7 @@ use Rattle.eip_frames.specs.Fits.{fits}
 use Rattle.eip_frames.specs.declared.request.At.{At}
 use Rattle.eip_frames.specs.declared.request.Request.{Request}
 use Rattle.eip_frames.specs.declared.answer.Answer.{Answer as Reply}
+use Rattle.eip_meaning.specs.declared.scene.Scene.{Scene}
 use Rattle.eip_meaning.specs.Outcomes.{Goes, Stray, Runner, followed, caught, ask}
 use Rattle.eip_meaning.specs.Meaning.{ends_failed, steps_mean, steps_of, finish_by, finished, item_of, work_mean}
 use Rattle.eip_cursor.specs.Steps.{try_of}
@@ -29,9 +30,9 @@ request_in (tried.Faults f m) = None
 request_in (tried.Asks q m) = Some q
 
 -- what a step asks on a message
-abbrev pub request_at : Option Step → Message → Option Request
-request_at None m = None
-request_at (Some s) m = request_in (try_of s m)
+abbrev pub request_at : Scene → Option Step → Message → Option Request
+request_at s None m = None
+request_at s (Some x) m = request_in (try_of s x m)
 
 -- a step that has asked; none is waited for that asks nothing
 abbrev pub waits : At → Option Request → Runner
@@ -39,32 +40,32 @@ waits p None m A = Stray
 waits p (Some q) m A = ask q p (λ a A'. Goes m A') A
 
 -- the step at an index has asked, and those behind it follow
-abbrev pub asked_mean : RouteSet → At → (block index : ℕ) → Runner
-asked_mean set p b i m A =
-    followed (caught (waits p (request_at (slice_get (steps_of set b) i) m) m A) (λ f A'. ends_failed f m A'))
-    (λ m' A'. steps_mean p (drop (suc i) (steps_of set b)) m' A')
+abbrev pub asked_mean : RouteSet → Scene → (block index : ℕ) → Runner
+asked_mean set s b i m A =
+    followed (caught (waits s.place (request_at s (slice_get (steps_of set b) i) m) m A) (λ f A'. ends_failed f m A'))
+    (λ m' A'. steps_mean s (drop (suc i) (steps_of set b)) m' A')
 
 -- behind the end no answer comes
 abbrev pub over_mean : End → Message → List Reply → Fate
 over_mean e m [] = Ends e m
 over_mean e m (a ∷ A) = Strays
 
-abbrev pub pause_mean : RouteSet → (commit : Bool) (item : List ℕ) → At → Pause → List Reply → Fate
-pause_mean set commit item p (pause.Asked b i m) A = finished commit item p (asked_mean set p b i m A)
-pause_mean set commit item p (pause.Finishing e m) A = finish_by commit item p e m A
-pause_mean set commit item p (pause.Over e m) A = over_mean e m A
+abbrev pub pause_mean : RouteSet → (commit : Bool) (item : List ℕ) → Scene → Pause → List Reply → Fate
+pause_mean set commit item s (pause.Asked b i m) A = finished commit item s.place (asked_mean set s b i m A)
+pause_mean set commit item s (pause.Finishing e m) A = finish_by commit item s.place e m A
+pause_mean set commit item s (pause.Over e m) A = over_mean e m A
 
-abbrev pub state_mean : RouteSet → (commit : Bool) (item : List ℕ) → At → State → List Reply → Fate
-state_mean set commit item p (state.Starting w m) A = finished commit item p (work_mean set p w m A)
-state_mean set commit item p (state.Paused x) A = pause_mean set commit item p x A
+abbrev pub state_mean : RouteSet → (commit : Bool) (item : List ℕ) → Scene → State → List Reply → Fate
+state_mean set commit item s (state.Starting w m) A = finished commit item s.place (work_mean set s w m A)
+state_mean set commit item s (state.Paused x) A = pause_mean set commit item s x A
 
 -- what a cursor gives on these answers
 unfoldable pub rest : RouteSet → Cursor → List Reply → Fate
-rest set k A = state_mean set k.commit (item_of k.origin) k.place k.state A
+rest set k A = state_mean set k.commit (item_of k.origin) k.scene k.state A
 
 -- the place of a cursor's requests
 unfoldable pub asked_at : Cursor → At
-asked_at k = k.place
+asked_at k = k.scene.place
 
 abbrev pub IsStarting : State → Type 0
 IsStarting (state.Starting w m) = Unit {0}

@@ -1,13 +1,14 @@
 ghost use Rattle.std.specs.Prelude.{◌≡◌, ◌++◌, List, [], ◌∷◌, IfOk, OnOk, OnErr, MatchOption};
 ghost use Rattle.eip_frames.specs.declared.answer.Answer.{Answer as AnAnswer};
-ghost use Rattle.eip_meaning.specs.Meaning.{mean, is_told, is_told_origin, item_of};
+ghost use Rattle.eip_meaning.specs.Meaning.{mean, scene_of, id_of, is_told, is_told_origin, item_of};
 ghost use Rattle.eip_cursor.specs.Rest.{rest, IsFirst, asked_at, pause_mean, next_fate, answers_of, AnswerFits};
 
 use crate::run::{end_answered, finishing, run, step_answered};
 use eip_exchange::{Birth, End, Message, Origin, Work};
 use eip_frames::{Answer, At, Request};
+use eip_meaning::Scene;
 use eip_route::RouteSet;
-use eip_text::NoMemory;
+use eip_text::{NoMemory, Text};
 use eip_uri::{After, Uri};
 use std::alloc::Global;
 
@@ -47,7 +48,7 @@ enum State {
 /// One exchange on its way through a route, from one request to the next.
 #[derive(Drop)]
 pub struct Cursor {
-    place: At,
+    scene: Scene,
     commit: bool,
     origin: Origin,
     state: State,
@@ -56,15 +57,11 @@ pub struct Cursor {
 impl Cursor {
     /// The cursor of a birth, which has asked nothing yet.
     #[tactic(auto, unfolding(crate::specs::Rest::IsFirst, crate::specs::Rest::rest, eip_meaning::specs::Meaning::mean))]
-    pub fn start(_alloc: Global, birth: Birth, set: &RouteSet) -> Result<Cursor, NoMemory>
+    pub fn start(alloc: Global, birth: Birth, set: &RouteSet) -> Result<Cursor, NoMemory>
         ensures { IfOk result (λ k. IsFirst k × ((A : List AnAnswer) → rest set.now k A ≡ mean set.now birth A)) }
     {
         Ok(Cursor {
-            place: At {
-                route: birth.route,
-                depth: birth.depth,
-                index: 0,
-            },
+            scene: scene_of(alloc, set, &birth)?,
             commit: is_told_origin(set, &birth.origin),
             origin: birth.origin,
             state: State::Starting(birth.work, birth.message),
@@ -96,7 +93,7 @@ impl Cursor {
     pub fn at(&self) -> At
         ensures { result ≡ asked_at self.now }
     {
-        self.place
+        self.scene.place
     }
 
     /// What comes next.
@@ -107,8 +104,8 @@ impl Cursor {
         answer: Option<&Answer>,
     ) -> Result<(Pause, Next), NoMemory>
         requires { MatchOption answer (IsFirst self.now) (λ a. (IsFirst self.now → ⊥) × AnswerFits (rest set.now self.now []) a.now) }
-        ensures rest { IfOk result (λ r. (A : List AnAnswer) → pause_mean set.now self.now.commit (item_of self.now.origin) self.now.place r.0 A ≡ rest set.now self.now (answers_of answer.entry ++ A)) }
-        ensures asks { IfOk result (λ r. pause_mean set.now self.now.commit (item_of self.now.origin) self.now.place r.0 [] ≡ next_fate self.now.place r.1) }
+        ensures rest { IfOk result (λ r. (A : List AnAnswer) → pause_mean set.now self.now.commit (item_of self.now.origin) self.now.scene r.0 A ≡ rest set.now self.now (answers_of answer.entry ++ A)) }
+        ensures asks { IfOk result (λ r. pause_mean set.now self.now.commit (item_of self.now.origin) self.now.scene r.0 [] ≡ next_fate self.now.scene.place r.1) }
     {
         match answer {
             None => self.first(alloc, set),
@@ -120,8 +117,8 @@ impl Cursor {
     #[tactic(auto, unfolding(crate::specs::Rest::rest, crate::specs::Rest::IsFirst))]
     fn first(&self, alloc: Global, set: &RouteSet) -> Result<(Pause, Next), NoMemory>
         requires { IsFirst self.now }
-        ensures rest { IfOk result (λ r. (A : List AnAnswer) → pause_mean set.now self.now.commit (item_of self.now.origin) self.now.place r.0 A ≡ rest set.now self.now A) }
-        ensures asks { IfOk result (λ r. pause_mean set.now self.now.commit (item_of self.now.origin) self.now.place r.0 [] ≡ next_fate self.now.place r.1) }
+        ensures rest { IfOk result (λ r. (A : List AnAnswer) → pause_mean set.now self.now.commit (item_of self.now.origin) self.now.scene r.0 A ≡ rest set.now self.now A) }
+        ensures asks { IfOk result (λ r. pause_mean set.now self.now.commit (item_of self.now.origin) self.now.scene r.0 [] ≡ next_fate self.now.scene.place r.1) }
     {
         let State::Starting(work, message) = &self.state else {
             unreachable!()
@@ -129,7 +126,7 @@ impl Cursor {
         let message = message.copy(alloc)?;
         match work {
             Work::Block(block) => {
-                let reached = run(alloc, set, self.commit, *block, 0, message)?;
+                let reached = run(alloc, set, &self.scene, self.commit, *block, 0, message)?;
                 Ok(reached)
             }
             Work::To(_) => {
@@ -149,8 +146,8 @@ impl Cursor {
     ) -> Result<(Pause, Next), NoMemory>
         requires later { IsFirst self.now → ⊥ }
         requires fits { AnswerFits (rest set.now self.now []) answer.now }
-        ensures rest { IfOk result (λ r. (A : List AnAnswer) → pause_mean set.now self.now.commit (item_of self.now.origin) self.now.place r.0 A ≡ rest set.now self.now (answer.now ∷ A)) }
-        ensures asks { IfOk result (λ r. pause_mean set.now self.now.commit (item_of self.now.origin) self.now.place r.0 [] ≡ next_fate self.now.place r.1) }
+        ensures rest { IfOk result (λ r. (A : List AnAnswer) → pause_mean set.now self.now.commit (item_of self.now.origin) self.now.scene r.0 A ≡ rest set.now self.now (answer.now ∷ A)) }
+        ensures asks { IfOk result (λ r. pause_mean set.now self.now.commit (item_of self.now.origin) self.now.scene r.0 [] ≡ next_fate self.now.scene.place r.1) }
     {
         let State::Paused(pause) = &self.state else {
             unreachable!()
@@ -165,6 +162,7 @@ impl Cursor {
                 let reached = step_answered(
                     alloc,
                     set,
+                    &self.scene,
                     self.commit,
                     *block,
                     *index,
@@ -179,6 +177,31 @@ impl Cursor {
             }
             Pause::Over(_, _) => unreachable!(),
         }
+    }
+}
+
+/// For whom and where the steps of a birth run.
+fn scene_of(alloc: Global, set: &RouteSet, birth: &Birth) -> Result<Scene, NoMemory>
+    ensures { IfOk result (λ s. s ≡ scene_of set.now birth.now) }
+{
+    Ok(Scene {
+        place: At {
+            route: birth.route,
+            depth: birth.depth,
+            index: 0,
+        },
+        number: birth.number,
+        route: id_of(alloc, set, birth.route)?,
+    })
+}
+
+/// The id of the route with this index.
+fn id_of(alloc: Global, set: &RouteSet, route: u32) -> Result<Text, NoMemory>
+    ensures { IfOk result (λ t. t ≡ id_of set.now route) }
+{
+    match set.routes.items().get(route as usize) {
+        Some(found) => found.id.copy(),
+        None => Text::of_str(alloc, ""),
     }
 }
 

@@ -4,5 +4,6 @@
 mod cursor;
 mod run;
 mod steps;
+mod values;
 
 pub use cursor::{Cursor, Next};

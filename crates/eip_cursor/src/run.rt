@@ -2,8 +2,8 @@ ghost use Rattle.std.specs.Prelude.{◌≡◌, ℕ, true, List, [], ◌∷◌, I
 ghost use Rattle.eip_exchange.specs.Ends.{commit_failed};
 ghost use Rattle.eip_frames.specs.Fits.{fits};
 ghost use Rattle.eip_frames.specs.declared.answer.Answer.{Answer as AnAnswer};
-ghost use Rattle.eip_frames.specs.declared.request.At.{At as AnAt};
 ghost use Rattle.eip_route.specs.declared.route.RouteSet.{RouteSet as ARouteSet};
+ghost use Rattle.eip_meaning.specs.declared.scene.Scene.{Scene as AScene};
 ghost use Rattle.eip_meaning.specs.Meaning.{steps_of as steps_in_block, steps_mean, caught_message, finished, finish_by, item_of};
 ghost use Rattle.eip_cursor.specs.Rest.{pause_mean, asked_mean, next_fate, request_at, WaitFits};
 
@@ -11,6 +11,7 @@ use crate::cursor::{Next, Pause};
 use crate::steps::{Tried, fault_of, steps_of, try_step};
 use eip_exchange::{End, Fault, Message, Origin};
 use eip_frames::{Answer, Request};
+use eip_meaning::Scene;
 use eip_route::RouteSet;
 use eip_text::{NoMemory, Text};
 use std::alloc::Global;
@@ -19,18 +20,19 @@ use std::alloc::Global;
 pub fn run(
     alloc: Global,
     set: &RouteSet,
+    scene: &Scene,
     commit: bool,
     block: u32,
     from: usize,
     mut message: Message,
 ) -> Result<(Pause, Next), NoMemory>
-    ensures rest { IfOk result (λ r. (item : List ℕ) (p : AnAt) (A : List AnAnswer) → pause_mean set.now commit item p r.0 A ≡ finished commit item p (steps_mean p (drop from (steps_in_block set.now block)) message A)) }
-    ensures asks { IfOk result (λ r. (item : List ℕ) (p : AnAt) → pause_mean set.now commit item p r.0 [] ≡ next_fate p r.1) }
+    ensures rest { IfOk result (λ r. (item : List ℕ) (A : List AnAnswer) → pause_mean set.now commit item scene.now r.0 A ≡ finished commit item scene.now.place (steps_mean scene.now (drop from (steps_in_block set.now block)) message A)) }
+    ensures asks { IfOk result (λ r. (item : List ℕ) → pause_mean set.now commit item scene.now r.0 [] ≡ next_fate scene.now.place r.1) }
 {
     let steps = steps_of(set, block);
     let mut index = from;
     while index < steps.len() {
-        match try_step(alloc, &steps[index], message)? {
+        match try_step(alloc, scene, &steps[index], message)? {
             Tried::Goes(next) => message = next,
             Tried::Faults(fault, kept) => {
                 let reached = failed(alloc, commit, fault, kept)?;
@@ -85,15 +87,16 @@ fn failed(
 pub fn step_answered(
     alloc: Global,
     set: &RouteSet,
+    scene: &Scene,
     commit: bool,
     block: u32,
     index: usize,
     message: Message,
     answer: &Answer,
 ) -> Result<(Pause, Next), NoMemory>
-    requires { WaitFits (request_at (slice_get (steps_in_block set.now block) index) message) answer.now }
-    ensures rest { IfOk result (λ r. (item : List ℕ) (p : AnAt) (A : List AnAnswer) → pause_mean set.now commit item p r.0 A ≡ finished commit item p (asked_mean set.now p block index message (answer.now ∷ A))) }
-    ensures asks { IfOk result (λ r. (item : List ℕ) (p : AnAt) → pause_mean set.now commit item p r.0 [] ≡ next_fate p r.1) }
+    requires { WaitFits (request_at scene.now (slice_get (steps_in_block set.now block) index) message) answer.now }
+    ensures rest { IfOk result (λ r. (item : List ℕ) (A : List AnAnswer) → pause_mean set.now commit item scene.now r.0 A ≡ finished commit item scene.now.place (asked_mean set.now scene.now block index message (answer.now ∷ A))) }
+    ensures asks { IfOk result (λ r. (item : List ℕ) → pause_mean set.now commit item scene.now r.0 [] ≡ next_fate scene.now.place r.1) }
 {
     let Some(step) = steps_of(set, block).get(index) else {
         unreachable!()
@@ -101,7 +104,7 @@ pub fn step_answered(
     match fault_of(alloc, step, answer)? {
         Some(fault) => failed(alloc, commit, fault, message),
         None => {
-            let reached = run(alloc, set, commit, block, index + 1, message)?;
+            let reached = run(alloc, set, scene, commit, block, index + 1, message)?;
             Ok(reached)
         }
     }
@@ -117,8 +120,8 @@ pub fn end_answered(
     answer: &Answer,
 ) -> Result<(Pause, Next), NoMemory>
     requires { fits (Request.Finish end.now message.now commit) answer.now ≡ true }
-    ensures rest { IfOk result (λ r. (set : ARouteSet) (p : AnAt) (A : List AnAnswer) → pause_mean set commit (item_of origin.now) p r.0 A ≡ finish_by commit (item_of origin.now) p end.now message.now (answer.now ∷ A)) }
-    ensures asks { IfOk result (λ r. (set : ARouteSet) (item : List ℕ) (p : AnAt) → pause_mean set commit item p r.0 [] ≡ next_fate p r.1) }
+    ensures rest { IfOk result (λ r. (set : ARouteSet) (s : AScene) (A : List AnAnswer) → pause_mean set commit (item_of origin.now) s r.0 A ≡ finish_by commit (item_of origin.now) s.place end.now message.now (answer.now ∷ A)) }
+    ensures asks { IfOk result (λ r. (set : ARouteSet) (item : List ℕ) (s : AScene) → pause_mean set commit item s r.0 [] ≡ next_fate s.place r.1) }
 {
     let end = match answer {
         Answer::CommitFailed => refused(alloc, origin)?,

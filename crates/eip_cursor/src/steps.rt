@@ -1,12 +1,13 @@
 ghost use Rattle.std.specs.Prelude.{◌≡◌, ◌++◌, [], codes, IfOk};
 ghost use Rattle.eip_exchange.specs.Ends.{fault};
-ghost use Rattle.eip_exchange.specs.declared.message.Message.{Message as AMessage};
-ghost use Rattle.eip_meaning.specs.Meaning.{steps_of, value_of};
-ghost use Rattle.eip_cursor.specs.Steps.{try_of, send_of, fault_at};
+ghost use Rattle.eip_meaning.specs.Meaning.{steps_of, log_name, thrown, without_the_header};
+ghost use Rattle.eip_cursor.specs.Steps.{try_of, body_set, header_set, property_set, logged, send_of, fault_at};
 
-use eip_exchange::{Fault, Message};
+use crate::values::{evaluated, value_of};
+use eip_exchange::{Fault, HeaderFault, Message};
 use eip_frames::{Answer, Request, Target};
-use eip_route::{Expr, RouteSet, Step};
+use eip_meaning::Scene;
+use eip_route::{RouteSet, Step};
 use eip_text::{NoMemory, Text};
 use eip_uri::Uri;
 use std::alloc::Global;
@@ -32,23 +33,61 @@ pub fn steps_of(set: &RouteSet, block: u32) -> &[Step]
     }
 }
 
-/// One try of a step on a message.
-pub fn try_step(alloc: Global, step: &Step, message: Message) -> Result<Tried, NoMemory>
-    ensures { IfOk result (λ t. t ≡ try_of step.now message) }
+/// One try of a step on a message. A kind of step that isn't run yet is passed by.
+pub fn try_step(
+    alloc: Global,
+    scene: &Scene,
+    step: &Step,
+    message: Message,
+) -> Result<Tried, NoMemory>
+    ensures { IfOk result (λ t. t ≡ try_of scene.now step.now message) }
 {
     match step {
-        Step::SetBody(expression) => set_body(alloc, expression, message),
+        Step::SetBody(value) => {
+            let value = value_of(alloc, scene, value, &message)?;
+            set_body(alloc, value, message)
+        }
+        Step::SetHeader { name, value } => {
+            let value = value_of(alloc, scene, value, &message)?;
+            set_header(alloc, name, value, message)
+        }
+        Step::SetProperty { name, value } => {
+            let value = value_of(alloc, scene, value, &message)?;
+            set_property(alloc, name, value, message)
+        }
+        Step::RemoveHeader(name) => Ok(remove_header(name, message)),
         Step::To(uri) => send(alloc, uri, message),
+        Step::Log {
+            name,
+            message: template,
+        } => {
+            let text = evaluated(alloc, scene, template, &message)?;
+            log(alloc, log_name(scene, name)?, text, message)
+        }
+        Step::Throw {
+            kind,
+            message: template,
+        } => {
+            let text = evaluated(alloc, scene, template, &message)?;
+            Ok(Tried::Faults(thrown(alloc, kind, text)?, message))
+        }
+        Step::Process(_)
+        | Step::Choice { .. }
+        | Step::Filter { .. }
+        | Step::Split { .. }
+        | Step::Multicast { .. }
+        | Step::Recipients { .. }
+        | Step::Aggregate(_)
+        | Step::Idempotent { .. } => Ok(Tried::Goes(message)),
     }
 }
 
-fn set_body(alloc: Global, expression: &Expr, message: Message) -> Result<Tried, NoMemory>
-    ensures { IfOk result (λ t. t ≡ try_of (Step.SetBody expression.now) message) }
+fn set_body(alloc: Global, value: Option<Text>, message: Message) -> Result<Tried, NoMemory>
+    ensures { IfOk result (λ t. t ≡ body_set message value) }
 {
-    let value = value_of(expression)?;
-    if value.bytes().len() > 65536 {
+    let Some(value) = value else {
         return Ok(Tried::Faults(too_long(alloc)?, message));
-    }
+    };
     let Message {
         headers,
         properties,
@@ -61,13 +100,88 @@ fn set_body(alloc: Global, expression: &Expr, message: Message) -> Result<Tried,
     }))
 }
 
-/// The value of an expression on a message.
-fn value_of(expression: &Expr) -> Result<Text, NoMemory>
-    ensures { IfOk result (λ v. (m : AMessage) → v ≡ value_of expression.now m) }
+fn set_header(
+    alloc: Global,
+    name: &Text,
+    value: Option<Text>,
+    mut message: Message,
+) -> Result<Tried, NoMemory>
+    ensures { IfOk result (λ t. t ≡ header_set message name.now value) }
 {
-    match expression {
-        Expr::Constant(text) => text.copy(),
+    let Some(value) = value else {
+        return Ok(Tried::Faults(too_long(alloc)?, message));
+    };
+    match message.headers.set(name.copy()?, value) {
+        Ok(()) => Ok(Tried::Goes(message)),
+        Err(HeaderFault::TooManyHeaders) => {
+            Ok(Tried::Faults(too_many_headers(alloc, name)?, message))
+        }
+        Err(HeaderFault::NoMemory) => Err(NoMemory),
     }
+}
+
+fn set_property(
+    alloc: Global,
+    name: &Text,
+    value: Option<Text>,
+    mut message: Message,
+) -> Result<Tried, NoMemory>
+    ensures { IfOk result (λ t. t ≡ property_set message name.now value) }
+{
+    let Some(value) = value else {
+        return Ok(Tried::Faults(too_long(alloc)?, message));
+    };
+    message.properties.set(name.copy()?, value)?;
+    Ok(Tried::Goes(message))
+}
+
+fn remove_header(name: &Text, mut message: Message) -> Tried
+    ensures { result ≡ Tried.Goes (without_the_header message name.now) }
+{
+    let _ = message.headers.remove(name.bytes());
+    Tried::Goes(message)
+}
+
+/// A line of the log is asked for.
+fn log(alloc: Global, name: Text, text: Option<Text>, message: Message) -> Result<Tried, NoMemory>
+    ensures { IfOk result (λ t. t ≡ logged message name text) }
+{
+    match text {
+        Some(text) => Ok(Tried::Asks(Request::Log { name, text }, message)),
+        None => Ok(Tried::Faults(too_long(alloc)?, message)),
+    }
+}
+
+/// The name of a step's log: its own, or the route's.
+fn log_name(scene: &Scene, name: &Option<Text>) -> Result<Text, NoMemory>
+    ensures { IfOk result (λ t. t ≡ log_name scene.now name.now) }
+{
+    match name {
+        Some(name) => name.copy(),
+        None => scene.route.copy(),
+    }
+}
+
+/// The fault that is thrown.
+fn thrown(alloc: Global, kind: &Text, text: Option<Text>) -> Result<Fault, NoMemory>
+    ensures { IfOk result (λ f. f ≡ thrown kind.now text) }
+{
+    match text {
+        Some(text) => Ok(Fault {
+            kind: kind.copy()?,
+            text,
+        }),
+        None => too_long(alloc),
+    }
+}
+
+fn too_many_headers(alloc: Global, name: &Text) -> Result<Fault, NoMemory>
+    ensures { IfOk result (λ f. f ≡ fault (codes "TooManyHeaders") name.now) }
+{
+    Ok(Fault {
+        kind: Text::of_str(alloc, "TooManyHeaders")?,
+        text: name.copy()?,
+    })
 }
 
 fn too_long(alloc: Global) -> Result<Fault, NoMemory>

@@ -1,7 +1,7 @@
 use crate::{book_text, log_text, summary_text, totals};
 use eip_hub::Hub;
 use eip_ledger::Stop;
-use eip_route::RouteSet;
+use eip_route::{Handler, Names, RouteSet};
 use eip_text::{NoMemory, Series, Text};
 use std::alloc::Global;
 use std::test::Fail;
@@ -11,8 +11,11 @@ const NOTHING: &str = "accepted 0 refused 0\ntotal 0 completed 0 handled 0 faile
 /// The hub of a run of no routes that has no entry.
 fn no_entry(alloc: Global) -> Result<Hub, NoMemory> {
     let set = RouteSet {
+        names: Names::none(alloc),
         routes: Series::of(Vec::new(alloc)),
         blocks: Series::of(Vec::new(alloc)),
+        handler: Handler::plain(),
+        clauses: Series::of(Vec::new(alloc)),
     };
     Hub::new(alloc, set, 0, 10)
 }

@@ -7,6 +7,7 @@ pub mod headers;
 pub mod message;
 pub mod name;
 pub mod properties;
+pub mod setting;
 #[cfg(test)]
 mod tests;
 
@@ -15,3 +16,4 @@ pub use end::{End, Ended, Ending, Fault};
 pub use headers::{HeaderFault, Headers};
 pub use message::Message;
 pub use properties::Properties;
+pub use setting::{Clause, How, Policy, Strategy};

@@ -1,13 +1,16 @@
 use super::*;
 use eip_ledger::Stop;
-use eip_route::RouteSet;
+use eip_route::{Handler, Names, RouteSet};
 use eip_text::{NoMemory, Series};
 use std::test::*;
 
 fn empty_hub(rt: HostRuntime) -> Result<Hub, NoMemory> {
     let set = RouteSet {
+        names: Names::none(rt.alloc()),
         routes: Series::of(Vec::new(rt.alloc())),
         blocks: Series::of(Vec::new(rt.alloc())),
+        handler: Handler::plain(),
+        clauses: Series::of(Vec::new(rt.alloc())),
     };
     Hub::new(rt.alloc(), set, 0, 4)
 }

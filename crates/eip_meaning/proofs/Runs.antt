@@ -15,9 +15,10 @@ use Rattle.eip_frames.specs.declared.request.Request.{Request}
 use Rattle.eip_frames.specs.declared.request.Request.TheVariants.{Finish}
 use Rattle.eip_frames.specs.declared.answer.Answer.{Answer as Reply}
 use Rattle.eip_frames.specs.declared.answer.Answer.TheVariants as reply
+use Rattle.eip_meaning.specs.declared.scene.Scene.{Scene}
 use Rattle.eip_meaning.specs.Asked.{IsOfStep}
 use Rattle.eip_meaning.specs.Outcomes.{Outcome}
-use Rattle.eip_meaning.specs.Meaning.{mean, finished, finish_by, end_by, ends_or_strays, work_mean, place_of, is_committed, item_of, steps_of}
+use Rattle.eip_meaning.specs.Meaning.{mean, finished, finish_by, end_by, ends_or_strays, work_mean, place_of, scene_of, is_committed, item_of, steps_of}
 use Rattle.eip_meaning.proofs.Scripts.{Script, asks as script_asks, goes as script_goes, stops as script_stops, steps-script}
 
 module _ (commit : Bool) (item : List ℕ) (p : At) where
@@ -70,14 +71,14 @@ end-fits true item e m reply.CommitFailed = refl
 end-fits false item e m reply.CommitFailed = refl
 end-fits commit item e m _ = refl
 
-work-script : (set : RouteSet) (p : At) (w : Work) (m : Message) → Script false (work_mean set p w m)
-work-script set p (work.Block b) m = steps-script p (steps_of set b) m
-work-script set p (work.To text) m = script_goes m (λ A. refl)
+work-script : (set : RouteSet) (s : Scene) (w : Work) (m : Message) → Script false (work_mean set s w m)
+work-script set s (work.Block b) m = steps-script s (steps_of set b) m
+work-script set s (work.To text) m = script_goes m (λ A. refl)
 
 -- each birth is a run
 pub mean-run : (set : RouteSet) (b : Birth) → Run (is_committed set b) (item_of b.origin) (place_of b) (mean set b)
 unfolding mean
-mean-run set b = finished-run (is_committed set b) (item_of b.origin) (place_of b) (work-script set (place_of b) b.work b.message)
+mean-run set b = finished-run (is_committed set b) (item_of b.origin) (place_of b) (work-script set (scene_of set b) b.work b.message)
 
 -- where a birth stands behind some answers
 pub mean-standing : (set : RouteSet) (b : Birth) (given : List Reply) → Standing (is_committed set b) (item_of b.origin) (place_of b) (λ A. mean set b (given ++ A))

@@ -1,13 +1,15 @@
 -- How a part of a route behaves, whatever steps it is made of: it asks something and goes on as the answer says, or it is through.
-use Rattle.std.proofs.Common.{◌≡◌, Bool, true, false, cond, List, [], ◌∷◌, refl, sym, subst}
+use Rattle.std.proofs.Common.{◌≡◌, ℕ, Bool, true, false, cond, List, [], ◌∷◌, refl, sym, subst}
 use Rattle.std.specs.Prelude.{Option, Some, None}
 use Rattle.std.proofs.Math.Path.{fun_ext}
+use Rattle.eip_exchange.specs.Headers.{is_one_too_many}
 use Rattle.eip_exchange.specs.declared.message.Message.{Message}
 use Rattle.eip_exchange.specs.declared.end.End.{End}
 use Rattle.eip_exchange.specs.declared.end.End.TheVariants.{Failed}
 use Rattle.eip_exchange.specs.declared.end.Fault.{Fault}
 use Rattle.eip_uri.specs.declared.uri.Uri.{Uri}
 use Rattle.eip_uri.specs.declared.uri.Uri.TheVariants as uri
+use Rattle.eip_simple.specs.Values.{template_value}
 use Rattle.eip_route.specs.declared.step.Step.{Step}
 use Rattle.eip_route.specs.declared.step.Step.TheVariants as step
 use Rattle.eip_frames.specs.Fits.{fits}
@@ -16,7 +18,8 @@ use Rattle.eip_frames.specs.declared.request.Request.{Request}
 use Rattle.eip_frames.specs.declared.answer.Answer.{Answer as Reply}
 use Rattle.eip_meaning.specs.Asked.{IsOfStep, Logs, Sends}
 use Rattle.eip_meaning.specs.Outcomes.{Outcome, Asks, Goes, Stops, Faults, Stray, Runner, followed, caught, fault_in, answered_by, ask}
-use Rattle.eip_meaning.specs.Meaning.{value_of, is_too_long, to_mean, one_try, caught_message, ends_failed, steps_mean}
+use Rattle.eip_meaning.specs.declared.scene.Scene.{Scene}
+use Rattle.eip_meaning.specs.Meaning.{seen_in, value_of, short, too_long, with_short, sets_header, to_mean, log_name, one_try, caught_message, ends_failed, steps_mean}
 
 -- what a part gives on the answers to come; `faulty` says that it may fault
 pub data Script : (faulty : Bool) → (List Reply → Outcome) → Type 0 where
@@ -55,23 +58,38 @@ ask-script q p K i g =
     asks q p i refl (λ a A e. rw e refl)
     (λ a e. script-along (λ A. answered_by (fault_in q a) K a A) (λ A. ask q p K (a ∷ A)) (λ A. rw e refl) (answered-script (fault_in q a) K a (g a)))
 
-unless-script : (b : Bool) (f : Fault) (m : Message) → Script true (λ A. cond b (Faults f A) (Goes m A))
-unless-script true f m = faults f (λ A. refl)
-unless-script false f m = goes m (λ A. refl)
+either-script : {R S : List Reply → Outcome} (b : Bool) → Script true R → Script true S → Script true (λ A. cond b (R A) (S A))
+either-script true r s = r
+either-script false r s = s
+
+-- a value that is too long faults
+short-script : (o : Option (List ℕ)) (K : List ℕ → List Reply → Outcome) → ((value : List ℕ) → Script true (K value)) → Script true (λ A. with_short o K A)
+short-script None K g = faults too_long (λ A. refl)
+short-script (Some value) K g = g value
+
+header-script : (name value : List ℕ) (m : Message) → Script true (sets_header name value m)
+header-script name value m = either-script (is_one_too_many name m.headers) (faults _ (λ A. refl)) (goes _ (λ A. refl))
 
 to-script : (p : At) (u : Uri) (m : Message) → Script true (to_mean p u m)
 to-script p (uri.Log name) m = ask-script _ p _ (Logs name m.body) (λ a. goes m (λ A. refl))
 to-script p (uri.Lane name) m = ask-script _ p _ (Sends name m) (λ a. goes m (λ A. refl))
 to-script p _ m = goes m (λ A. refl)
 
-try-script : (p : At) (s : Step) (m : Message) → Script true (one_try p s m)
-try-script p (step.SetBody e) m = unless-script (is_too_long (value_of e m)) _ _
-try-script p (step.To u) m = to-script p u m
+try-script : (s : Scene) (x : Step) (m : Message) → Script true (one_try s x m)
+try-script s (step.SetBody e) m = short-script (short (value_of s e m)) _ (λ value. goes _ (λ A. refl))
+try-script s (step.SetHeader name e) m = short-script (short (value_of s e m)) _ (λ value. header-script name value m)
+try-script s (step.SetProperty name e) m = short-script (short (value_of s e m)) _ (λ value. goes _ (λ A. refl))
+try-script s (step.RemoveHeader name) m = goes _ (λ A. refl)
+try-script s (step.To u) m = to-script s.place u m
+try-script s (step.Log name template) m =
+    short-script (short (template_value template (seen_in s m))) _ (λ text. ask-script _ s.place _ (Logs (log_name s name) text) (λ a. goes m (λ A. refl)))
+try-script s (step.Throw kind template) m = faults _ (λ A. refl)
+try-script s _ m = goes m (λ A. refl)
 
 -- steps fault no more: what isn't handled stops the exchange
-pub steps-script : (p : At) (ss : List Step) (m : Message) → Script false (steps_mean p ss m)
-steps-script p [] m = goes m (λ A. refl)
-steps-script p (s ∷ ss) m =
-    followed-script (λ m' A'. steps_mean p ss m' A')
-    (caught-script (λ f A'. ends_failed f m A') (try-script p s m) (λ f. stops (Failed f) (caught_message m f) (λ A. refl)))
-    (λ m'. steps-script p ss m')
+pub steps-script : (s : Scene) (xs : List Step) (m : Message) → Script false (steps_mean s xs m)
+steps-script s [] m = goes m (λ A. refl)
+steps-script s (x ∷ xs) m =
+    followed-script (λ m' A'. steps_mean s xs m' A')
+    (caught-script (λ f A'. ends_failed f m A') (try-script s x m) (λ f. stops (Failed f) (caught_message m f) (λ A. refl)))
+    (λ m'. steps-script s xs m')

@@ -12,6 +12,7 @@ use Rattle.eip_uri.specs.declared.uri.Uri.TheVariants as uri
 use Rattle.eip_route.specs.declared.step.Expr.TheVariants as expr
 use Rattle.eip_route.specs.declared.step.Step.TheVariants as step
 use Rattle.eip_route.specs.declared.route.RouteSet.{RouteSet}
+use Rattle.eip_route.specs.Built.{no_names, plain_handler}
 use Rattle.eip_frames.specs.Fate.{AsksNext, Ends, Strays}
 use Rattle.eip_frames.specs.declared.request.At.{At}
 use Rattle.eip_frames.specs.declared.request.Target.TheVariants as target
@@ -25,10 +26,13 @@ plain text = record { body = text; headers = []; properties = [] }
 -- one route from the load generator
 abbrev pub greeting : RouteSet
 greeting = record {
+  names = no_names;
   routes = (record { id = codes "greet"; from = uri.Load 1; block = 0 }) ∷ [];
   blocks = (record {
     steps = step.SetBody (expr.Constant (codes "hi")) ∷ step.To (uri.Log (codes "out")) ∷ step.To (uri.Lane (codes "x")) ∷ [];
   }) ∷ [];
+  handler = plain_handler;
+  clauses = [];
 }
 
 abbrev pub first : Birth

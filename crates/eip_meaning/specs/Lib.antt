@@ -3,3 +3,4 @@ pub mod Meaning
 pub mod Asked
 pub mod Ending
 pub mod Example
+pub mod StepRows

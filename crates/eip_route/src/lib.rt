@@ -1,8 +1,16 @@
 // Routes: their steps, blocks and sets.
 #![tactic(auto)]
 
+mod built;
+pub mod fault;
+pub mod goal;
+mod nesting;
+pub mod repository;
 pub mod route;
 pub mod step;
 
-pub use route::{Block, Route, RouteSet};
-pub use step::{Expr, Step};
+pub use fault::SetFault;
+pub use goal::Goal;
+pub use repository::own_repository;
+pub use route::{Block, Handler, Names, Route, RouteSet};
+pub use step::{Aggregate, Check, Expr, Fan, Step};

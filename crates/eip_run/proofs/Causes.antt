@@ -9,11 +9,16 @@ use Rattle.eip_text.specs.Causes.{Rose, Rises}
 use Rattle.eip_uri.specs.Inlets.{inlet_of}
 use Rattle.eip_route.specs.declared.route.Route.{Route}
 use Rattle.eip_route.specs.declared.route.RouteSet.{RouteSet}
-use Rattle.eip_command.specs.Words.{command_of}
+use Rattle.eip_route_table.specs.Sites.{Site, Stops, cause_failures}
+use Rattle.eip_route_json.specs.Reading.{Finds}
+use Rattle.eip_route_table.specs.Sites as sites_are
+use Rattle.eip_route_table.specs.declared.fault.Cause.{Cause}
+use Rattle.eip_route_table.specs.declared.fault.Cause.TheVariants as cause_is
+use Rattle.eip_route_table.specs.declared.fault.RouteFault.{RouteFault}
+use Rattle.eip_command.specs.Words.{command_of, path_in}
 use Rattle.eip_command.specs.declared.words.Path.{Path}
-use Rattle.eip_command.specs.declared.words.Command.TheVariants.{Drain}
-use Rattle.eip_command.specs.declared.fault.Cause.{Cause}
-use Rattle.eip_command.specs.declared.fault.RouteFault.{RouteFault}
+use Rattle.eip_command.specs.declared.words.Command.{Command}
+use Rattle.eip_command.specs.declared.words.Command.TheVariants.{Drain, Check}
 use Rattle.eip_endpoint.specs.Content.{IfTold}
 use Rattle.eip_endpoint.specs.Files.{File, bytes_at, read_of}
 use Rattle.eip_endpoint.specs.declared.files.FileRead.{FileRead}
@@ -44,11 +49,11 @@ use Rattle.eip_core.specs.Outside.{acts_by, inlet_acts_in, inlet_acts}
 use Rattle.eip_run.specs.declared.report.Outcome.{Outcome}
 use Rattle.eip_run.specs.declared.report.Outcome.TheVariants as outcome
 use Rattle.eip_run.specs.Outcomes.{behind}
-use Rattle.eip_run.specs.Routes.{file_limit, found}
-use Rattle.eip_run.specs.Prepared.{whole_file}
-use Rattle.eip_run.specs.Reports.{turn_limit, Setting, WasRead, HasRoutes, IsRun, Comes, NoCommand, NotRead, NoRoutes, Stopped, Starved, LacksMemory, LacksText, Reports}
-use Rattle.eip_run.specs.Caused.{InletRose, SourceFailed, CauseOfStop, CauseOf, IsUnharmed, Completes, IsFaultless, IsRefusedFor, Finds, Causes}
-use Rattle.eip_run.proofs.Runnable.{Runs, found-runs}
+use Rattle.eip_run.specs.Routes.{file_limit}
+use Rattle.eip_run.specs.Reports.{turn_limit, Setting, WasRead, sites, HasRoutes, IsRun, Comes, NoCommand, NotRead, NoRoutes, WasChecked, Stopped, Starved, LacksMemory, LacksText, Reports}
+use Rattle.eip_run.specs.Caused.{InletRose, SourceFailed, CauseOfStop, CauseOf, IsUnharmed, Completes, Prints, IsFaultless, IsRefusedFor, InFile, IsOfSize, IsRight, Causes}
+use Rattle.eip_run.proofs.Runnable.{Runs}
+use Rattle.eip_run.proofs.Ending.{routes-run}
 
 -- ---- counts
 
@@ -151,15 +156,16 @@ the-some : (o : Option ℕ) → IsSome o → (k : ℕ) × (o ≡ Some k)
 the-some None h = absurd (cc h)
 the-some (Some k) h = (k, refl)
 
-source-failed : (x : Setting) (set : RouteSet) (s : Stop) (t : ℕ) → HasRoutes x set → IsRun x set s → first_fault x.journal.past ≡ Some t → SourceFailed x t
-source-failed x set s t has ran h =
-    let runs : Runs set (lane_names x.lanes_before) (inlet_names x.inlets_before) = found-runs _ _ has.read set has.routes in
+source-failed : (x : Setting) (p : Path) (set : RouteSet) (s : Stop) (t : ℕ) → HasRoutes x (Drain p) set → IsRun x set s → first_fault x.journal.past ≡ Some t → SourceFailed x t
+source-failed x p set s t has ran h =
+    let runs : Runs set (lane_names x.lanes_before) (inlet_names x.inlets_before) = routes-run x p set has in
     let is : IsSource (plan_of set) t = fault-source (plan_of set) 0 turn_limit x.journal.past ran.legal t h in
     let door = the-some (inlet_at (inlet_names x.inlets_before) (slice_get set.routes t)) (runs.can_run.has_inlets t is) in
     let all : length (inlet_names x.inlets_before) ≡ length x.inlets_before = length-map x.inlets_before (λ v. v.name) in
     let among : door.0 < length (inlet_names x.inlets_before) = inlet-within _ (slice_get set.routes t) door.0 door.1 in
     let within : door.0 < length x.inlets_before = rw all at among in
     record {
+      path = p;
       set = set;
       routes = has;
       inlet = door.0;
@@ -170,26 +176,28 @@ source-failed x set s t has ran h =
 
 -- ---- the cause of what a command came to
 
-stop-caused : (x : Setting) (set : RouteSet) (r s : Stop) → HasRoutes x set → IsRun x set r → Says (first_fault x.journal.past) (turns x.journal.past) turn_limit s → CauseOfStop x s
-stop-caused x set r stop.Drained has ran h = tt
-stop-caused x set r (stop.SourceFault t) has ran h = source-failed x set r t has ran h
-stop-caused x set r (stop.Held groups) has ran h = h
-stop-caused x set r stop.Spent has ran h = h
-stop-caused x set r stop.NoMemory has ran h = tt
+stop-caused : (x : Setting) (p : Path) (set : RouteSet) (r s : Stop) → HasRoutes x (Drain p) set → IsRun x set r → Says (first_fault x.journal.past) (turns x.journal.past) turn_limit s
+    → CauseOfStop x s
+stop-caused x p set r stop.Drained has ran h = tt
+stop-caused x p set r (stop.SourceFault t) has ran h = source-failed x p set r t has ran h
+stop-caused x p set r (stop.Held groups) has ran h = h
+stop-caused x p set r stop.Spent has ran h = h
+stop-caused x p set r stop.NoMemory has ran h = tt
 
 told-caused : (x : Setting) (before after : ℕ) (told : Outcome) (text : List ℕ) → Comes x told text → CauseOf x before after told
-told-caused x before after told text (NoCommand none still count) = none
-told-caused x before after told text (NotRead p command still rises) = rises-rose 1 _ _ (omega arith) rises
-told-caused x before after told text (NoRoutes p read c command still was e) =
-    record { path = p; read = read; cause = c; command = command; answer = was; refused = e; is = refl }
-told-caused x before after told text (Stopped set s has ran ne) = by_stop ran.stops
+told-caused x before after told text (NoCommand none still calm) = none
+told-caused x before after told text (NotRead k command still rises calm) = rises-rose 1 _ _ (omega arith) rises
+told-caused x before after told text (NoRoutes k read f command still was h) =
+    record { command = k; read = read; asked = command; answer = was; refused = h }
+told-caused x before after told text (WasChecked p set has still) = (p, has.command)
+told-caused x before after told text (Stopped p set s has ran ne) = ((p, has.command), by_stop ran.stops)
   where
     by_stop : (s ≡ stop.NoMemory) ⊎ (stop_of (plan_of set) turn_limit x.journal.past ≡ Some s) → CauseOfStop x s
     by_stop (inl e) = absurd (ne e)
-    by_stop (inr h) = stop-caused x set s s has ran (stop-says (plan_of set) (plan-simple set) 0 turn_limit x.journal.past ran.legal s h)
-told-caused x before after told text (Starved set has ran) = tt
+    by_stop (inr h) = stop-caused x p set s s has ran (stop-says (plan_of set) (plan-simple set) 0 turn_limit x.journal.past ran.legal s h)
+told-caused x before after told text (Starved p set has ran) = ((p, has.command), tt)
 told-caused x before after told text (LacksMemory still count) = tt
-told-caused x before after told text (LacksText set s has ran) = tt
+told-caused x before after told text (LacksText p set s has ran) = tt
 
 -- the sink's fault is the cause where there was none before it
 behind-caused : (x : Setting) (before after : ℕ) (told : Outcome) (w : Result Unit SinkFault) → Rises (sink_failure w) before after → CauseOf x before after told
@@ -199,6 +207,7 @@ behind-caused x before after told (Err fault.NoMemory) rises h = tt
 behind-caused x before after outcome.Words (Err fault.Failed) rises h = h
 behind-caused x before after (outcome.Routes f) (Err fault.Failed) rises h = h
 behind-caused x before after outcome.FilesFault (Err fault.Failed) rises h = h
+behind-caused x before after outcome.Checked (Err fault.Failed) rises h = rises-rose 1 before after (omega arith) rises
 behind-caused x before after (outcome.Ran stop.Drained) (Err fault.Failed) rises h = rises-rose 1 before after (omega arith) rises
 behind-caused x before after (outcome.Ran (stop.SourceFault t)) (Err fault.Failed) rises h = h
 behind-caused x before after (outcome.Ran (stop.Held groups)) (Err fault.Failed) rises h = h
@@ -223,13 +232,14 @@ starved-behind (Err fault.Failed) = inr refl
 starved-behind (Err fault.NoMemory) = inr refl
 
 refused-behind : (x : Setting) (told : Outcome) (text : List ℕ) (w : Result Unit SinkFault) → command_of x.words ≡ None → Comes x told text → IsRefused (behind told w)
-refused-behind x told text w none (NoCommand _ still count) = words-behind w
-refused-behind x told text w none (NotRead p command still rises) = absurd (cc (none, command))
-refused-behind x told text w none (NoRoutes p read c command still was e) = absurd (cc (none, command))
-refused-behind x told text w none (Stopped set s has ran ne) = absurd (cc (none, has.command))
-refused-behind x told text w none (Starved set has ran) = absurd (cc (none, has.command))
+refused-behind x told text w none (NoCommand _ still calm) = words-behind w
+refused-behind x told text w none (NotRead k command still rises calm) = absurd (cc (none, command))
+refused-behind x told text w none (NoRoutes k read f command still was h) = absurd (cc (none, command))
+refused-behind x told text w none (WasChecked p set has still) = absurd (cc (none, has.command))
+refused-behind x told text w none (Stopped p set s has ran ne) = absurd (cc (none, has.command))
+refused-behind x told text w none (Starved p set has ran) = absurd (cc (none, has.command))
 refused-behind x told text w none (LacksMemory still count) = starved-behind w
-refused-behind x told text w none (LacksText set s has ran) = absurd (cc (none, has.command))
+refused-behind x told text w none (LacksText p set s has ran) = absurd (cc (none, has.command))
 
 -- ---- where nothing failed
 
@@ -237,9 +247,10 @@ without-faults : (x : Setting) (before after : ℕ) (o : Outcome) → CauseOf x 
 without-faults x before after outcome.Words h u = tt
 without-faults x before after (outcome.Routes f) h u = tt
 without-faults x before after outcome.FilesFault h u = u.files h
+without-faults x before after outcome.Checked h u = tt
 without-faults x before after (outcome.Ran stop.Drained) h u = tt
-without-faults x before after (outcome.Ran (stop.SourceFault t)) h u = u.inlets h.inlet h.failed
-without-faults x before after (outcome.Ran (stop.Held groups)) h u = h
+without-faults x before after (outcome.Ran (stop.SourceFault t)) h u = u.inlets h.1.inlet h.1.failed
+without-faults x before after (outcome.Ran (stop.Held groups)) h u = h.1
 without-faults x before after (outcome.Ran stop.Spent) h u = tt
 without-faults x before after (outcome.Ran stop.NoMemory) h u = tt
 without-faults x before after outcome.SinkFault h u = u.sink h
@@ -247,52 +258,96 @@ without-faults x before after outcome.NoMemory h u = tt
 
 -- ---- the file that the words name
 
+-- two commands of the same words are one
+one-command : (x : Setting) (k l : Command) → command_of x.words ≡ Some k → command_of x.words ≡ Some l → k ≡ l
+one-command x k l a b = cc (a, b)
+
 -- what was read is what is in the file
-read-found : (x : Setting) (r : Result RouteSet Cause) (p : Path) (read : FileRead) → Finds x r → command_of x.words ≡ Some (Drain p) → WasRead x p read
-    → found (lane_names x.lanes_before) (inlet_names x.inlets_before) read ≡ r
-read-found x r p read f command was =
-    let same : p ≡ f.path = cc (command, f.command) in
-    let told : read ≡ read_of file_limit (bytes_at p.folder p.name f.all) =
-    subst (λ (o : Option (List File)). IfTold o (λ fs. read ≡ read_of file_limit (bytes_at p.folder p.name fs))) f.files was.answer in
-    let here : read ≡ read_of file_limit (bytes_at f.path.folder f.path.name f.all) =
-    told ∙ ap (λ (q : Path). read_of file_limit (bytes_at q.folder q.name f.all)) same in
-    ap (found (lane_names x.lanes_before) (inlet_names x.inlets_before)) here ∙ f.in_file
+was-held : (x : Setting) (k l : Command) (held read : FileRead) → InFile x k held → command_of x.words ≡ Some l → WasRead x (path_in l) read → (l ≡ k) × (read ≡ held)
+was-held x k l held read f command was =
+    let same : l ≡ k = one-command x l k command f.command in
+    let told : read ≡ read_of file_limit (bytes_at (path_in l).folder (path_in l).name f.all) =
+    subst (λ (o : Option (List File)). IfTold o (λ fs. read ≡ read_of file_limit (bytes_at (path_in l).folder (path_in l).name fs))) f.files was.answer in
+    let here : read ≡ read_of file_limit (bytes_at (path_in k).folder (path_in k).name f.all) =
+    told ∙ ap (λ (c : Command). read_of file_limit (bytes_at (path_in c).folder (path_in c).name f.all)) same in
+    (same, here ∙ sym f.held)
 
--- so routes with a fault don't run
-none-run : (x : Setting) (c : Cause) (set : RouteSet) → Finds x (Err c) → HasRoutes x set → ⊥
-none-run x c set f has = let h = sym (read-found x (Err c) has.path has.read f has.command has.answer) ∙ has.routes in cc h
+-- so what is found in it is
+same-places : (x : Setting) (k l : Command) (held read : FileRead) → InFile x k held → command_of x.words ≡ Some l → WasRead x (path_in l) read → sites x l read ≡ sites x k held
+same-places x k l held read f command was =
+    let same = was-held x k l held read f command was in
+    ap (λ (c : Command). sites x c read) same.0 ∙ ap (λ (r : FileRead). sites x k r) same.1
 
-told-refused : (x : Setting) (c : Cause) (told : Outcome) (text : List ℕ) → Finds x (Err c) → Comes x told text → IsRefusedFor (whole_file c) told
-told-refused x c told text f (NoCommand none still count) = absurd (cc (none, f.command))
-told-refused x c told text f (NotRead p command still rises) = tt
-told-refused x c told text f (NoRoutes p read d command still was e) =
-    let h = sym e ∙ read-found x (Err c) p read f command was in
-    let same : d ≡ c = cc h in
-    ap whole_file same
-told-refused x c told text f (Stopped set s has ran ne) = none-run x c set f has
-told-refused x c told text f (Starved set has ran) = none-run x c set f has
-told-refused x c told text f (LacksMemory still count) = tt
-told-refused x c told text f (LacksText set s has ran) = tt
+-- routes with a fault aren't taken
+none-taken : (x : Setting) (k l : Command) (held : FileRead) (set : RouteSet) (g : RouteFault) → InFile x k held → sites_are.first_fault (sites x k held) ≡ Some g → HasRoutes x l set → ⊥
+none-taken x k l held set g f wrong has =
+    let same : sites x l has.read ≡ sites x k held = same-places x k l held has.read f has.command has.answer in
+    let none : None ≡ Some g = sym has.faultless ∙ ap sites_are.first_fault same ∙ wrong in
+    cc none
 
-behind-refused : (f : RouteFault) (told : Outcome) (w : Result Unit SinkFault) → IsRefusedFor f told → IsRefusedFor f (behind told w)
-behind-refused f told (Ok u) h = h
-behind-refused f told (Err fault.NoMemory) h = tt
-behind-refused f outcome.Words (Err fault.Failed) h = h
-behind-refused f (outcome.Routes g) (Err fault.Failed) h = h
-behind-refused f outcome.FilesFault (Err fault.Failed) h = h
-behind-refused f (outcome.Ran s) (Err fault.Failed) h = absurd h
-behind-refused f outcome.SinkFault (Err fault.Failed) h = h
-behind-refused f outcome.NoMemory (Err fault.Failed) h = h
+found-for : (at : List Site) (before after : ℕ) (f g : RouteFault) → Finds at before after g → sites_are.first_fault at ≡ Some f → (g ≡ f) ⊎ Stops at g
+found-for at before after f g (inl h) wrong = let both : Some g ≡ Some f = sym h.0 ∙ wrong in inl (cc both)
+found-for at before after f g (inr h) wrong = inr h.0
+
+told-refused : (x : Setting) (k : Command) (held : FileRead) (f : RouteFault) (told : Outcome) (text : List ℕ) → InFile x k held → sites_are.first_fault (sites x k held) ≡ Some f → Comes x told text
+    → IsRefusedFor (sites x k held) f told
+told-refused x k held f told text file wrong (NoCommand none still calm) = absurd (cc (none, file.command))
+told-refused x k held f told text file wrong (NotRead l command still rises calm) = tt
+told-refused x k held f told text file wrong (NoRoutes l read g command still was h) =
+    let same : sites x l read ≡ sites x k held = same-places x k l held read file command was in
+    found-for (sites x k held) x.patterns_before x.patterns_after f g (subst (λ (at : List Site). Finds at x.patterns_before x.patterns_after g) same h) wrong
+told-refused x k held f told text file wrong (WasChecked p set has still) = none-taken x k (Check p) held set f file wrong has
+told-refused x k held f told text file wrong (Stopped p set s has ran ne) = none-taken x k (Drain p) held set f file wrong has
+told-refused x k held f told text file wrong (Starved p set has ran) = none-taken x k (Drain p) held set f file wrong has
+told-refused x k held f told text file wrong (LacksMemory still count) = tt
+told-refused x k held f told text file wrong (LacksText p set s has ran) = tt
+
+behind-refused : (at : List Site) (f : RouteFault) (told : Outcome) (w : Result Unit SinkFault) → IsRefusedFor at f told → IsRefusedFor at f (behind told w)
+behind-refused at f told (Ok u) h = h
+behind-refused at f told (Err fault.NoMemory) h = tt
+behind-refused at f outcome.Words (Err fault.Failed) h = h
+behind-refused at f (outcome.Routes g) (Err fault.Failed) h = h
+behind-refused at f outcome.FilesFault (Err fault.Failed) h = h
+behind-refused at f outcome.Checked (Err fault.Failed) h = h
+behind-refused at f (outcome.Ran s) (Err fault.Failed) h = absurd h
+behind-refused at f outcome.SinkFault (Err fault.Failed) h = h
+behind-refused at f outcome.NoMemory (Err fault.Failed) h = h
+
+-- a pattern's fault that is one of size has its count
+of-size : (c : Cause) (before after : ℕ) → IsOfSize c → Rises (cause_failures c) before after → Rose before after
+of-size (cause_is.PatternTooLarge at) before after h rises = rises-rose 1 before after (omega arith) rises
+of-size _ before after h rises = absurd h
+
+right-found : (at : List Site) (g : RouteFault) (before after : ℕ) → IsRight at → Finds at before after g → Rose before after
+right-found at g before after right (inl h) = absurd (let both : None ≡ Some g = sym right.faultless ∙ h.0 in cc both)
+right-found at g before after right (inr h) = of-size g.cause before after (right.patterns g h.0) h.1
 
 -- and routes without one are not refused
-completes : (x : Setting) (before after : ℕ) (o : Outcome) → CauseOf x before after o → (set : RouteSet) → Finds x (Ok set) → IsFaultless o → Completes o
-completes x before after outcome.Words h set f u = absurd (cc (h, f.command))
-completes x before after (outcome.Routes g) h set f u =
-    absurd (let e = sym h.refused ∙ read-found x (Ok set) h.path h.read f h.command h.answer in cc e)
-completes x before after outcome.FilesFault h set f u = u
-completes x before after (outcome.Ran s) h set f u = u
-completes x before after outcome.SinkFault h set f u = u
-completes x before after outcome.NoMemory h set f u = u
+not-refused : (x : Setting) (before after : ℕ) (k : Command) (held : FileRead) (g : RouteFault) → CauseOf x before after (outcome.Routes g) → InFile x k held → IsRight (sites x k held)
+    → IsUnharmed x before after → ⊥
+not-refused x before after k held g h file right u =
+    let same : sites x h.command h.read ≡ sites x k held = same-places x k h.command held h.read file h.asked h.answer in
+    u.patterns (right-found (sites x k held) g x.patterns_before x.patterns_after right (subst (λ (at : List Site). Finds at x.patterns_before x.patterns_after g) same h.refused))
+
+drains : (x : Setting) (before after : ℕ) (p : Path) (held : FileRead) (o : Outcome) → CauseOf x before after o → InFile x (Drain p) held → IsRight (sites x (Drain p) held) → IsUnharmed x before after
+    → IsFaultless o → Completes o
+drains x before after p held outcome.Words h file right u f = absurd (cc (h, file.command))
+drains x before after p held (outcome.Routes g) h file right u f = absurd (not-refused x before after (Drain p) held g h file right u)
+drains x before after p held outcome.FilesFault h file right u f = f
+drains x before after p held outcome.Checked h file right u f = absurd (cc (h.1, file.command))
+drains x before after p held (outcome.Ran s) h file right u f = f
+drains x before after p held outcome.SinkFault h file right u f = f
+drains x before after p held outcome.NoMemory h file right u f = f
+
+prints : (x : Setting) (before after : ℕ) (p : Path) (held : FileRead) (o : Outcome) → CauseOf x before after o → InFile x (Check p) held → IsRight (sites x (Check p) held) → IsUnharmed x before after
+    → IsFaultless o → Prints o
+prints x before after p held outcome.Words h file right u f = absurd (cc (h, file.command))
+prints x before after p held (outcome.Routes g) h file right u f = absurd (not-refused x before after (Check p) held g h file right u)
+prints x before after p held outcome.FilesFault h file right u f = f
+prints x before after p held outcome.Checked h file right u f = tt
+prints x before after p held (outcome.Ran s) h file right u f = absurd (cc (h.0.1, file.command))
+prints x before after p held outcome.SinkFault h file right u f = f
+prints x before after p held outcome.NoMemory h file right u f = tt
 
 -- ---- the clause
 
@@ -307,6 +362,8 @@ causes x before after faults_before faults_after o r =
       cause = cause;
       no_command = λ none. subst IsRefused is (refused-behind x r.told r.text r.tells.write none r.comes);
       faultless = without-faults x faults_before faults_after o cause;
-      no_routes = λ c f. subst (IsRefusedFor (whole_file c)) is (behind-refused (whole_file c) r.told r.tells.write (told-refused x c r.told r.text f r.comes));
-      complete = λ set f u. completes x faults_before faults_after o cause set f (without-faults x faults_before faults_after o cause u);
+      no_routes = λ k read f file wrong.
+          subst (IsRefusedFor (sites x k read) f) is (behind-refused (sites x k read) f r.told r.tells.write (told-refused x k read f r.told r.text file wrong r.comes));
+      drained = λ p read file right u. drains x faults_before faults_after p read o cause file right u (without-faults x faults_before faults_after o cause u);
+      checked = λ p read file right u. prints x faults_before faults_after p read o cause file right u (without-faults x faults_before faults_after o cause u);
     }

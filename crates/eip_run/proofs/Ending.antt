@@ -1,8 +1,9 @@
 -- What a command comes to, by what was prepared and told.
-use Rattle.std.proofs.Common.{◌≡◌, ℕ, ◌++◌, List, [], Option, Some, Result, Ok, Err, codes, sym, ap, subst, ◌∙◌}
+use Rattle.std.proofs.Common.{◌≡◌, ℕ, true, ◌++◌, List, [], Option, Some, None, Result, Ok, Err, codes, sym, ap, subst, ◌∙◌}
 use Rattle.std.proofs.lemmas.List.{append-nil}
 use Rattle.eip_route.specs.declared.route.RouteSet.{RouteSet}
-use Rattle.eip_command.specs.declared.fault.RouteFault.{RouteFault}
+use Rattle.eip_route_table.specs.Sites.{first_fault}
+use Rattle.eip_route_table.specs.declared.fault.RouteFault.{RouteFault}
 use Rattle.eip_endpoint.specs.declared.files.FileRead.{FileRead}
 use Rattle.eip_endpoint.specs.Lanes.{LaneView}
 use Rattle.eip_endpoint.specs.Inlets.{InletView}
@@ -18,18 +19,23 @@ use Rattle.eip_core.specs.Drain.{IsStop, Drains}
 use Rattle.eip_run.specs.declared.prepare.Refusal.{Refusal}
 use Rattle.eip_run.specs.declared.report.Outcome.{Outcome}
 use Rattle.eip_run.specs.declared.report.Outcome.TheVariants as outcome
-use Rattle.eip_command.specs.Words.{command_of}
+use Rattle.eip_command.specs.Words.{command_of, path_in}
 use Rattle.eip_command.specs.declared.words.Path.{Path}
 use Rattle.eip_command.specs.declared.words.Command.{Command}
-use Rattle.eip_command.specs.declared.words.Command.TheVariants.{Drain}
-use Rattle.eip_command.specs.declared.fault.Cause.{Cause}
+use Rattle.eip_command.specs.declared.words.Command.TheVariants.{Drain, Check}
+use Rattle.eip_run.specs.declared.prepare.Job.{Job}
+use Rattle.eip_run.specs.declared.prepare.Job.TheVariants as job
 use Rattle.eip_run.specs.declared.prepare.Refusal.TheVariants as refusal
-use Rattle.eip_run.specs.Routes.{found}
-use Rattle.eip_run.specs.Prepared.{path_in, Given, Read, Answers, Prepares, NoCommand, NotRead, NoRoutes, Found, LacksMemory}
-use Rattle.eip_run.specs.Printed.{OfRefusal, OfWords, OfFiles, OfRoutes, OfNoLine, OfMemory, OfRun, OfStop, OfStarved, OfNoText, TellsRefusal, TellsRun}
+use Rattle.eip_endpoint.specs.Content.{IfTold}
+use Rattle.eip_endpoint.specs.Files.{bytes_at, read_of}
+use Rattle.eip_run.specs.Routes.{file_limit, is_runnable, sites_in, set_in, sites_for, set_for}
+use Rattle.eip_run.specs.Prepared.{job_of, Given, Read, Answers, Prepares, NoCommand, NotRead, NoRoutes, Found, LacksMemory}
+use Rattle.eip_run.specs.Printed.{OfRefusal, OfWords, OfFiles, OfRoutes, OfNoLine, OfMemory, OfCheck, OfText, OfNone, OfRun, OfStop, OfStarved, OfNoText, TellsRefusal, TellsCheck, TellsRun}
 use Rattle.eip_run.specs.Drained.{Drained, RanTo, NotBegun}
-use Rattle.eip_run.specs.Reports.{turn_limit, Setting, IsStill, WasRead, Ran, IsRun, HasRoutes, Comes, Reports, NoCommand as Refused, NotRead as Failed, NoRoutes as Faulty, Stopped, Starved, LacksMemory as Poor, LacksText}
-use Rattle.eip_run.proofs.Runnable.{Runs, found-runs}
+use Rattle.eip_run.specs.Reports.{turn_limit, Setting, IsStill, WasRead, Ran, IsRun, HasRoutes, Comes, Reports, NoCommand as Refused, NotRead as Failed, NoRoutes as Faulty, WasChecked, Stopped, Starved, LacksMemory as Poor, LacksText}
+use Rattle.eip_core.specs.Served.{names_of}
+use Rattle.eip_run.proofs.Runnable.{Runs, runnable-runs}
+use Rattle.eip_run.proofs.Sites.{runs-where}
 
 none-plain : (s : Plan) → IsPlain s []
 unfolding IsPlain
@@ -69,62 +75,118 @@ told-along {set} {other} {past} {behind} {s} {before} {after} {faults_before} {f
 
 -- ---- what was prepared
 
-pub command-drains : (o : Option Command) (k : Command) (p : Path) → o ≡ Some k → p ≡ path_in k → o ≡ Some (Drain p)
-command-drains o (Drain q) p e f = e ∙ ap (λ (r : Path). Some (Drain r)) (sym f)
+-- reading the file of a path
+pub read-at : (x : Given) (p q : Path) (read : FileRead) → q ≡ p → IfTold x.files (λ all. read ≡ read_of file_limit (bytes_at q.folder q.name all)) → x.files_behind ≡ x.files_before → Read x p read
+read-at x p q read same told count =
+    record { answer = subst (λ (r : Path). IfTold x.files (λ all. read ≡ read_of file_limit (bytes_at r.folder r.name all))) same told; count = count }
 
--- an answer to what was found
-pub prepared : (x : Given) (p : Path) (read : FileRead) (f : Result RouteSet Cause) (r : Result RouteSet Refusal) → command_of x.words ≡ Some (Drain p) → Read x p read
-    → found x.lanes x.inlets read ≡ f → Answers f r → Prepares x r
-prepared x p read (Ok set) (Ok s) command was e a = Found p read s command was (e ∙ ap Ok (sym a))
-prepared x p read (Ok set) (Err refusal.NoMemory) command was e a = LacksMemory was.count
-prepared x p read (Ok set) (Err refusal.Words) command was e a = absurd a
-prepared x p read (Ok set) (Err (refusal.Routes f)) command was e a = absurd a
-prepared x p read (Ok set) (Err refusal.FilesFault) command was e a = absurd a
-prepared x p read (Err c) (Ok s) command was e a = absurd a
-prepared x p read (Err c) (Err refusal.NoMemory) command was e a = LacksMemory was.count
-prepared x p read (Err c) (Err refusal.Words) command was e a = absurd a
-prepared x p read (Err c) (Err (refusal.Routes f)) command was e a =
-    subst (λ (h : RouteFault). Prepares x (Err (refusal.Routes h))) (sym a) (NoRoutes p read c command was e)
-prepared x p read (Err c) (Err refusal.FilesFault) command was e a = absurd a
+-- nothing to do
+pub prepared-none : (x : Given) (k : Command) (read : FileRead) (r : Refusal) → command_of x.words ≡ Some k → Read x (path_in k) read
+    → Answers (sites_for k x.lanes x.inlets read) (set_for x.lanes x.inlets read) x.patterns_before x.patterns_behind (Err r) → Prepares x (Err r)
+prepared-none x k read (refusal.Routes f) command was h = NoRoutes k read f command was h
+prepared-none x k read refusal.NoMemory command was h = LacksMemory was.count
+prepared-none x k read refusal.Words command was h = absurd h
+prepared-none x k read refusal.FilesFault command was h = absurd h
 
--- a set that was prepared can be run
-pub prepared-runs : (x : Given) (set : RouteSet) → Prepares x (Ok set) → Runs set x.lanes x.inlets
-prepared-runs x set (Found p read _ command was e) = found-runs x.lanes x.inlets read set e
+-- something to do
+pub prepared-job : (x : Given) (k : Command) (read : FileRead) (set : RouteSet) (j : Job) → command_of x.words ≡ Some k → Read x (path_in k) read
+    → Answers (sites_for k x.lanes x.inlets read) (set_for x.lanes x.inlets read) x.patterns_before x.patterns_behind (Ok set) → j ≡ job_of k set → Prepares x (Ok j)
+prepared-job x k read set j command was h made = subst (λ (i : Job). Prepares x (Ok i)) (sym made) (Found k read set command was h.0 h.1 h.2)
 
 -- ---- what a command comes to
 
 abbrev given_of : Setting → List (List ℕ) → List (List ℕ) → Given
-given_of x ls is = record { words = x.words; files = x.files; before = x.files_before; behind = x.files_after; lanes = ls; inlets = is }
+given_of x ls is = record { words = x.words; files = x.files; files_before = x.files_before; files_behind = x.files_after; patterns_before = x.patterns_before; patterns_behind = x.patterns_after; lanes = ls; inlets = is }
 
 was-read : (x : Setting) (ls is : List (List ℕ)) (p : Path) (read : FileRead) → Read (given_of x ls is) p read → WasRead x p read
 was-read x ls is p read r = record { answer = r.answer; count = r.count }
 
-has-routes : (x : Setting) (ls is : List (List ℕ)) (set : RouteSet) → lane_names x.lanes_before ≡ ls → inlet_names x.inlets_before ≡ is → Prepares (given_of x ls is) (Ok set) → HasRoutes x set
-has-routes x ls is set el ei (Found p read _ command was e) =
-    record { path = p; read = read; command = command; answer = was-read x ls is p read was; routes = rw (el, ei) e }
+-- the routes of a file that was found
+routes-in : (x : Setting) (ls is : List (List ℕ)) (k : Command) (read : FileRead) (set : RouteSet) → lane_names x.lanes_before ≡ ls → inlet_names x.inlets_before ≡ is
+    → command_of x.words ≡ Some k → Read (given_of x ls is) (path_in k) read → first_fault (sites_for k ls is read) ≡ None → set ≡ set_for ls is read → x.patterns_after ≡ x.patterns_before
+    → HasRoutes x k set
+routes-in x ls is k read set el ei command was faultless routes patterns =
+    record { read = read; command = command; answer = was-read x ls is (path_in k) read was; patterns = patterns; faultless = rw (el, ei) faultless; routes = rw (el, ei) routes }
 
-comes-ran : (x : Setting) (set : RouteSet) (s : Stop) (told : Outcome) (text : List ℕ) → HasRoutes x set → IsRun x set s → OfRun set x.journal.past s told text → Comes x told text
-comes-ran x set s told text has ran (OfStop _ ne) = Stopped set s has ran ne
-comes-ran x set s told text has ran OfStarved = Starved set has ran
-comes-ran x set s told text has ran (OfNoText _) = LacksText set s has ran
+-- a drain of these routes
+has-drain : (x : Setting) (ls is : List (List ℕ)) (r : Result Job Refusal) (set : RouteSet) → lane_names x.lanes_before ≡ ls → inlet_names x.inlets_before ≡ is
+    → Prepares (given_of x ls is) r → r ≡ Ok (job.Drain set) → (p : Path) × HasRoutes x (Drain p) set
+has-drain x ls is r set el ei (NoCommand none calm) e = absurd (cc e)
+has-drain x ls is r set el ei (NotRead k command rises calm) e = absurd (cc e)
+has-drain x ls is r set el ei (NoRoutes k read f command was h) e = absurd (cc e)
+has-drain x ls is r set el ei (Found (Drain p) read s command was faultless routes patterns) e =
+    let same : s ≡ set = cc e in
+    (p, subst (HasRoutes x (Drain p)) same (routes-in x ls is (Drain p) read s el ei command was faultless routes patterns))
+has-drain x ls is r set el ei (Found (Check p) read s command was faultless routes patterns) e = absurd (cc e)
+has-drain x ls is r set el ei (LacksMemory count) e = absurd (cc e)
 
-pub reports-drained : (x : Setting) (ls is : List (List ℕ)) (set : RouteSet) {before after : Option (List ℕ)} {faults_before faults_after : ℕ} {o : Outcome} → Prepares (given_of x ls is) (Ok set)
-    → lane_names x.lanes_before ≡ ls → inlet_names x.inlets_before ≡ is
+-- a check of these routes
+has-check : (x : Setting) (ls is : List (List ℕ)) (r : Result Job Refusal) (set : RouteSet) → lane_names x.lanes_before ≡ ls → inlet_names x.inlets_before ≡ is
+    → Prepares (given_of x ls is) r → r ≡ Ok (job.Check set) → (p : Path) × HasRoutes x (Check p) set
+has-check x ls is r set el ei (NoCommand none calm) e = absurd (cc e)
+has-check x ls is r set el ei (NotRead k command rises calm) e = absurd (cc e)
+has-check x ls is r set el ei (NoRoutes k read f command was h) e = absurd (cc e)
+has-check x ls is r set el ei (Found (Check p) read s command was faultless routes patterns) e =
+    let same : s ≡ set = cc e in
+    (p, subst (HasRoutes x (Check p)) same (routes-in x ls is (Check p) read s el ei command was faultless routes patterns))
+has-check x ls is r set el ei (Found (Drain p) read s command was faultless routes patterns) e = absurd (cc e)
+has-check x ls is r set el ei (LacksMemory count) e = absurd (cc e)
+
+-- routes that are drained can be run
+pub routes-run : (x : Setting) (p : Path) (set : RouteSet) → HasRoutes x (Drain p) set → Runs set (lane_names x.lanes_before) (inlet_names x.inlets_before)
+routes-run x p set has =
+    let ls = lane_names x.lanes_before in
+    let is = inlet_names x.inlets_before in
+    let runs : is_runnable ls is (set_in (names_of ls is) has.read) ≡ true = runs-where (sites_in (names_of ls is) has.read) (is_runnable ls is (set_in (names_of ls is) has.read)) has.faultless in
+    runnable-runs ls is set (ap (is_runnable ls is) has.routes ∙ runs)
+
+pub prepared-runs : (x : Given) (r : Result Job Refusal) (set : RouteSet) → Prepares x r → r ≡ Ok (job.Drain set) → Runs set x.lanes x.inlets
+prepared-runs x r set (NoCommand none calm) e = absurd (cc e)
+prepared-runs x r set (NotRead k command rises calm) e = absurd (cc e)
+prepared-runs x r set (NoRoutes k read f command was h) e = absurd (cc e)
+prepared-runs x r set (Found (Drain p) read s command was faultless routes patterns) e =
+    let same : s ≡ set = cc e in
+    let names = names_of x.lanes x.inlets in
+    let runs : is_runnable x.lanes x.inlets (set_in names read) ≡ true = runs-where (sites_in names read) (is_runnable x.lanes x.inlets (set_in names read)) faultless in
+    subst (λ (y : RouteSet). Runs y x.lanes x.inlets) same (runnable-runs x.lanes x.inlets s (ap (is_runnable x.lanes x.inlets) routes ∙ runs))
+prepared-runs x r set (Found (Check p) read s command was faultless routes patterns) e = absurd (cc e)
+prepared-runs x r set (LacksMemory count) e = absurd (cc e)
+
+comes-ran : (x : Setting) (p : Path) (set : RouteSet) (s : Stop) (told : Outcome) (text : List ℕ) → HasRoutes x (Drain p) set → IsRun x set s → OfRun set x.journal.past s told text → Comes x told text
+comes-ran x p set s told text has ran (OfStop _ ne) = Stopped p set s has ran ne
+comes-ran x p set s told text has ran OfStarved = Starved p set has ran
+comes-ran x p set s told text has ran (OfNoText _) = LacksText p set s has ran
+
+pub reports-drained : (x : Setting) (ls is : List (List ℕ)) (r : Result Job Refusal) (set : RouteSet) {before after : Option (List ℕ)} {faults_before faults_after : ℕ} {o : Outcome} → Prepares (given_of x ls is) r
+    → r ≡ Ok (job.Drain set) → lane_names x.lanes_before ≡ ls → inlet_names x.inlets_before ≡ is
     → Drained set x.journal x.lanes_before x.lanes_after x.inlets_before x.inlets_after before after faults_before faults_after o → Reports x before after faults_before faults_after o
-reports-drained x ls is set p el ei (RanTo s o ran tells) =
-    record { told = tells.told; text = tells.text; comes = comes-ran x set s tells.told tells.text (has-routes x ls is set el ei p) ran tells.of; tells = tells.tells }
-reports-drained x ls is set p el ei (NotBegun o past lanes inlets told) =
-    record { told = outcome.NoMemory; text = codes "error memory\n"; comes = Poor (record { lanes = lanes; inlets = inlets; past = past }) (has-routes x ls is set el ei p).answer.count; tells = told }
+reports-drained x ls is r set prep e el ei (RanTo s o ran tells) =
+    let has = has-drain x ls is r set el ei prep e in
+    record { told = tells.told; text = tells.text; comes = comes-ran x has.0 set s tells.told tells.text has.1 ran tells.of; tells = tells.tells }
+reports-drained x ls is r set prep e el ei (NotBegun o new lanes inlets told) =
+    let has = has-drain x ls is r set el ei prep e in
+    record { told = outcome.NoMemory; text = codes "error memory\n"; comes = Poor (record { lanes = lanes; inlets = inlets; journal = new }) has.1.answer.count; tells = told }
+
+comes-checked : (x : Setting) (p : Path) (set : RouteSet) (told : Outcome) (text : List ℕ) → HasRoutes x (Check p) set → IsStill x → OfCheck set told text → Comes x told text
+comes-checked x p set told text has still OfText = WasChecked p set has still
+comes-checked x p set told text has still OfNone = Poor still has.answer.count
+
+pub reports-checked : (x : Setting) (ls is : List (List ℕ)) (r : Result Job Refusal) (set : RouteSet) {before after : Option (List ℕ)} {faults_before faults_after : ℕ} {o : Outcome} → Prepares (given_of x ls is) r
+    → r ≡ Ok (job.Check set) → lane_names x.lanes_before ≡ ls → inlet_names x.inlets_before ≡ is → IsStill x
+    → TellsCheck set before after faults_before faults_after o → Reports x before after faults_before faults_after o
+reports-checked x ls is r set prep e el ei still tells =
+    let has = has-check x ls is r set el ei prep e in
+    record { told = tells.told; text = tells.text; comes = comes-checked x has.0 set tells.told tells.text has.1 still tells.of; tells = tells.tells }
 
 comes-refused : (x : Setting) (ls is : List (List ℕ)) (r : Refusal) (told : Outcome) (text : List ℕ) → lane_names x.lanes_before ≡ ls → inlet_names x.inlets_before ≡ is → IsStill x
     → Prepares (given_of x ls is) (Err r) → OfRefusal r told text → Comes x told text
-comes-refused x ls is r told text el ei still (NoCommand none count) OfWords = Refused none still count
-comes-refused x ls is r told text el ei still (NotRead p command rises) OfFiles = Failed p command still rises
-comes-refused x ls is r told text el ei still (NoRoutes p read c command was e) (OfRoutes _) = Faulty p read c command still (was-read x ls is p read was) (rw (el, ei) e)
-comes-refused x ls is r told text el ei still (NoRoutes p read c command was e) (OfNoLine _) = Poor still was.count
+comes-refused x ls is r told text el ei still (NoCommand none calm) OfWords = Refused none still (record { files = calm.files; patterns = calm.patterns })
+comes-refused x ls is r told text el ei still (NotRead k command rises calm) OfFiles = Failed k command still rises calm
+comes-refused x ls is r told text el ei still (NoRoutes k read f command was h) (OfRoutes _) = Faulty k read f command still (was-read x ls is (path_in k) read was) (rw (el, ei) h)
+comes-refused x ls is r told text el ei still (NoRoutes k read f command was h) (OfNoLine _) = Poor still was.count
 comes-refused x ls is r told text el ei still (LacksMemory count) OfMemory = Poor still count
 
 pub reports-refused : (x : Setting) (ls is : List (List ℕ)) (r : Refusal) {before after : Option (List ℕ)} {faults_before faults_after : ℕ} {o : Outcome} → Prepares (given_of x ls is) (Err r)
     → lane_names x.lanes_before ≡ ls → inlet_names x.inlets_before ≡ is → IsStill x → TellsRefusal r before after faults_before faults_after o → Reports x before after faults_before faults_after o
-reports-refused x ls is r p el ei still tells =
-    record { told = tells.told; text = tells.text; comes = comes-refused x ls is r tells.told tells.text el ei still p tells.of; tells = tells.tells }
+reports-refused x ls is r prep el ei still tells =
+    record { told = tells.told; text = tells.text; comes = comes-refused x ls is r tells.told tells.text el ei still prep tells.of; tells = tells.tells }

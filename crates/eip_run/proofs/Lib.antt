@@ -1,4 +1,5 @@
 pub mod Runnable
+pub mod Sites
 pub mod Telling
 pub mod Ending
 pub mod Causes

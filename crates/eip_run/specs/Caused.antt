@@ -1,24 +1,27 @@
 -- Which cause each outcome of a command has, and which outcomes are left where nothing that was handed in failed.
-use Rattle.std.specs.Prelude.{ℕ, ◌≡◌, ◌⊎◌, List, Some, None, Result, Ok, Err, slice_get}
+use Rattle.std.specs.Prelude.{ℕ, ◌≡◌, ◌⊎◌, List, Option, Some, None, slice_get}
 use Rattle.eip_text.specs.Causes.{Rose}
 use Rattle.eip_route.specs.declared.route.RouteSet.{RouteSet}
-use Rattle.eip_command.specs.Words.{command_of}
+use Rattle.eip_route_table.specs.Sites.{Site, first_fault, Stops}
+use Rattle.eip_route_json.specs.Reading.{Finds}
+use Rattle.eip_route_table.specs.declared.fault.Cause.{Cause}
+use Rattle.eip_route_table.specs.declared.fault.Cause.TheVariants as cause
+use Rattle.eip_route_table.specs.declared.fault.RouteFault.{RouteFault}
+use Rattle.eip_command.specs.Words.{command_of, path_in}
 use Rattle.eip_command.specs.declared.words.Path.{Path}
-use Rattle.eip_command.specs.declared.words.Command.TheVariants.{Drain}
-use Rattle.eip_command.specs.declared.fault.Cause.{Cause}
-use Rattle.eip_command.specs.declared.fault.RouteFault.{RouteFault}
+use Rattle.eip_command.specs.declared.words.Command.{Command}
+use Rattle.eip_command.specs.declared.words.Command.TheVariants.{Drain, Check}
 use Rattle.eip_endpoint.specs.Files.{File, bytes_at, read_of}
 use Rattle.eip_endpoint.specs.declared.files.FileRead.{FileRead}
 use Rattle.eip_endpoint.specs.Inlets.{InletView}
 use Rattle.eip_ledger.specs.declared.place.Stop.{Stop}
 use Rattle.eip_ledger.specs.declared.place.Stop.TheVariants as stop
 use Rattle.eip_history.specs.Own.{turns}
-use Rattle.eip_core.specs.Doors.{inlet_at, lane_names, inlet_names}
+use Rattle.eip_core.specs.Doors.{inlet_at, inlet_names}
 use Rattle.eip_run.specs.declared.report.Outcome.{Outcome}
 use Rattle.eip_run.specs.declared.report.Outcome.TheVariants as outcome
-use Rattle.eip_run.specs.Routes.{file_limit, found}
-use Rattle.eip_run.specs.Prepared.{whole_file}
-use Rattle.eip_run.specs.Reports.{turn_limit, Setting, WasRead, HasRoutes}
+use Rattle.eip_run.specs.Routes.{file_limit}
+use Rattle.eip_run.specs.Reports.{turn_limit, Setting, WasRead, sites, HasRoutes}
 
 -- the count of faults of the inlet with this index rose
 pub record InletRose (before after : List InletView) (inlet : ℕ) : Type 0 where
@@ -30,21 +33,28 @@ pub record InletRose (before after : List InletView) (inlet : ℕ) : Type 0 wher
 
 -- the inlet of a route's source failed: its count of faults rose
 pub record SourceFailed (x : Setting) (route : ℕ) : Type 0 where
+  pub path : Path
   pub set : RouteSet
-  pub routes : HasRoutes x set
+  pub routes : HasRoutes x (Drain path) set
   pub inlet : ℕ
   pub read_by : inlet_at (inlet_names x.inlets_before) (slice_get set.routes route) ≡ Some inlet
   pub failed : InletRose x.inlets_before x.inlets_after inlet
 
--- the file that the words name was read, and this is its fault
+-- the file that the words name was read, and this is its first fault, or that of a refused pattern before it
 pub record IsFaulty (x : Setting) (f : RouteFault) : Type 0 where
-  pub path : Path
+  pub command : Command
   pub read : FileRead
-  pub cause : Cause
-  pub command : command_of x.words ≡ Some (Drain path)
-  pub answer : WasRead x path read
-  pub refused : found (lane_names x.lanes_before) (inlet_names x.inlets_before) read ≡ Err cause
-  pub is : f ≡ whole_file cause
+  pub asked : command_of x.words ≡ Some command
+  pub answer : WasRead x (path_in command) read
+  pub refused : Finds (sites x command read) x.patterns_before x.patterns_after f
+
+-- the words ask for a drain
+abbrev pub IsDrain : Setting → Type 0
+IsDrain x = (path : Path) × (command_of x.words ≡ Some (Drain path))
+
+-- the words ask for a check
+abbrev pub IsCheck : Setting → Type 0
+IsCheck x = (path : Path) × (command_of x.words ≡ Some (Check path))
 
 -- the cause of each stop: a drained run and want of memory have none, and no run of these routes is held by its groups
 abbrev pub CauseOfStop : Setting → Stop → Type 0
@@ -59,13 +69,15 @@ abbrev pub CauseOf : Setting → ℕ → ℕ → Outcome → Type 0
 CauseOf x faults_before faults_after outcome.Words = command_of x.words ≡ None
 CauseOf x faults_before faults_after (outcome.Routes f) = IsFaulty x f
 CauseOf x faults_before faults_after outcome.FilesFault = Rose x.files_before x.files_after
-CauseOf x faults_before faults_after (outcome.Ran s) = CauseOfStop x s
+CauseOf x faults_before faults_after outcome.Checked = IsCheck x
+CauseOf x faults_before faults_after (outcome.Ran s) = IsDrain x × CauseOfStop x s
 CauseOf x faults_before faults_after outcome.SinkFault = Rose faults_before faults_after
 CauseOf x faults_before faults_after outcome.NoMemory = Unit {0}
 
--- no count of faults rose, of the files, of an inlet or of the sink
+-- no count of faults rose, of the files, of the patterns, of an inlet or of the sink
 pub record IsUnharmed (x : Setting) (faults_before faults_after : ℕ) : Type 0 where
   pub files : Rose x.files_before x.files_after → ⊥
+  pub patterns : Rose x.patterns_before x.patterns_after → ⊥
   pub inlets : (inlet : ℕ) → InletRose x.inlets_before x.inlets_after inlet → ⊥
   pub sink : Rose faults_before faults_after → ⊥
 
@@ -77,33 +89,50 @@ Completes (outcome.Ran stop.NoMemory) = Unit {0}
 Completes outcome.NoMemory = Unit {0}
 Completes _ = ⊥
 
--- or the words or the routes were refused
+-- the routes were printed, or memory was wanting
+abbrev pub Prints : Outcome → Type 0
+Prints outcome.Checked = Unit {0}
+Prints outcome.NoMemory = Unit {0}
+Prints _ = ⊥
+
+-- they were printed or drained, or the words or the routes were refused, or turns or memory were too few
 abbrev pub IsFaultless : Outcome → Type 0
 IsFaultless outcome.Words = Unit {0}
 IsFaultless (outcome.Routes f) = Unit {0}
+IsFaultless outcome.Checked = Unit {0}
 IsFaultless o = Completes o
 
--- the routes were refused for this fault, or the files failed or memory was wanting
-abbrev pub IsRefusedFor : RouteFault → Outcome → Type 0
-IsRefusedFor f (outcome.Routes g) = g ≡ f
-IsRefusedFor f outcome.FilesFault = Unit {0}
-IsRefusedFor f outcome.NoMemory = Unit {0}
-IsRefusedFor f _ = ⊥
+-- the routes were refused for this fault or for that of a refused pattern before it, or the files failed or memory was wanting
+abbrev pub IsRefusedFor : List Site → RouteFault → Outcome → Type 0
+IsRefusedFor at f (outcome.Routes g) = (g ≡ f) ⊎ Stops at g
+IsRefusedFor at f outcome.FilesFault = Unit {0}
+IsRefusedFor at f outcome.NoMemory = Unit {0}
+IsRefusedFor at f _ = ⊥
 
--- the routes, or the cause why there are none, in the file that the words name, among these files
-pub record Finds (x : Setting) (r : Result RouteSet Cause) : Type 0 where
-  pub path : Path
+-- the words are a command, and this is what its file holds among these files
+pub record InFile (x : Setting) (k : Command) (read : FileRead) : Type 0 where
   pub all : List File
-  pub command : command_of x.words ≡ Some (Drain path)
+  pub command : command_of x.words ≡ Some k
   pub files : x.files ≡ Some all
-  pub in_file : found (lane_names x.lanes_before) (inlet_names x.inlets_before) (read_of file_limit (bytes_at path.folder path.name all)) ≡ r
+  pub held : read ≡ read_of file_limit (bytes_at (path_in k).folder (path_in k).name all)
+
+-- each refused pattern is one that is too large
+abbrev pub IsOfSize : Cause → Type 0
+IsOfSize (cause.PatternTooLarge at) = Unit {0}
+IsOfSize _ = ⊥
+
+-- nothing is wrong at these places, and each of their patterns is one
+pub record IsRight (at : List Site) : Type 0 where
+  pub faultless : first_fault at ≡ None
+  pub patterns : (f : RouteFault) → Stops at f → IsOfSize f.cause
 
 -- an outcome has its cause. Words that are no command are refused, unless memory is wanting, and routes with a fault are refused, unless memory is
--- wanting or the files fail. Where no count of faults rose, the outcome is no fault of the files, a source or the sink, and a command whose file has
--- routes runs them until they are drained, or turns or memory are too few
+-- wanting or the files fail. Where no count of faults rose, the outcome is no fault of the files, a source or the sink; a drain whose file is right
+-- runs its routes until they are drained, or turns or memory are too few; and a check whose file is right prints them, or memory is wanting
 pub record Causes (x : Setting) (faults_before faults_after : ℕ) (o : Outcome) : Type 0 where
   pub cause : CauseOf x faults_before faults_after o
   pub no_command : command_of x.words ≡ None → (o ≡ outcome.Words) ⊎ (o ≡ outcome.NoMemory)
-  pub no_routes : (c : Cause) → Finds x (Err c) → IsRefusedFor (whole_file c) o
+  pub no_routes : (k : Command) (read : FileRead) (f : RouteFault) → InFile x k read → first_fault (sites x k read) ≡ Some f → IsRefusedFor (sites x k read) f o
   pub faultless : IsUnharmed x faults_before faults_after → IsFaultless o
-  pub complete : (set : RouteSet) → Finds x (Ok set) → IsUnharmed x faults_before faults_after → Completes o
+  pub drained : (p : Path) (read : FileRead) → InFile x (Drain p) read → IsRight (sites x (Drain p) read) → IsUnharmed x faults_before faults_after → Completes o
+  pub checked : (p : Path) (read : FileRead) → InFile x (Check p) read → IsRight (sites x (Check p) read) → IsUnharmed x faults_before faults_after → Prints o

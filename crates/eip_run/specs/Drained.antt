@@ -1,5 +1,5 @@
 -- What running a set leaves and tells.
-use Rattle.std.specs.Prelude.{ℕ, ◌≡◌, List, [], Option}
+use Rattle.std.specs.Prelude.{ℕ, ◌≡◌, List, Option}
 use Rattle.eip_route.specs.declared.route.RouteSet.{RouteSet}
 use Rattle.eip_endpoint.specs.Lanes.{LaneView}
 use Rattle.eip_endpoint.specs.Inlets.{InletView}
@@ -7,7 +7,7 @@ use Rattle.eip_ledger.specs.View.{JournalView}
 use Rattle.eip_ledger.specs.declared.place.Stop.{Stop}
 use Rattle.eip_run.specs.declared.report.Outcome.{Outcome}
 use Rattle.eip_run.specs.declared.report.Outcome.TheVariants as outcome
-use Rattle.eip_run.specs.Reports.{Told, Ran}
+use Rattle.eip_run.specs.Reports.{IsNew, Told, Ran}
 use Rattle.eip_run.specs.Printed.{TellsRun}
 use Rattle.std.specs.Prelude.{codes}
 
@@ -16,6 +16,6 @@ pub data Drained (set : RouteSet) (j : JournalView) (lanes_before lanes_after : 
     (before after : Option (List ℕ)) (faults_before faults_after : ℕ) : Outcome → Type 0 where
   RanTo : (s : Stop) (o : Outcome) → Ran set j s lanes_before lanes_after inlets_before inlets_after → TellsRun set j.past s before after faults_before faults_after o
       → Drained set j lanes_before lanes_after inlets_before inlets_after before after faults_before faults_after o
-  NotBegun : (o : Outcome) → j.past ≡ [] → lanes_after ≡ lanes_before → inlets_after ≡ inlets_before
+  NotBegun : (o : Outcome) → IsNew j → lanes_after ≡ lanes_before → inlets_after ≡ inlets_before
       → Told outcome.NoMemory (codes "error memory\n") before after faults_before faults_after o
       → Drained set j lanes_before lanes_after inlets_before inlets_after before after faults_before faults_after o

@@ -5,7 +5,7 @@ use Rattle.eip_ledger.specs.declared.place.Stop.TheVariants as stop
 use Rattle.eip_endpoint.specs.declared.sink.SinkFault.{SinkFault}
 use Rattle.eip_endpoint.specs.declared.sink.SinkFault.TheVariants as fault
 use Rattle.eip_run.specs.declared.report.Outcome.{Outcome}
-use Rattle.eip_run.specs.declared.report.Outcome.TheVariants.{Words, Routes, FilesFault, Ran, SinkFault as Unwritten, NoMemory}
+use Rattle.eip_run.specs.declared.report.Outcome.TheVariants.{Words, Routes, FilesFault, Checked, Ran, SinkFault as Unwritten, NoMemory}
 
 -- the status of a run by its stop
 abbrev pub stop_status : Stop → ℕ
@@ -15,18 +15,20 @@ stop_status (stop.Held groups) = 3
 stop_status stop.Spent = 4
 stop_status stop.NoMemory = 5
 
--- 0 drained, 1 words or routes refused, 2 a fault of files, a source or the sink, 3 held, 4 spent, 5 out of memory
+-- 0 drained or checked, 1 words or routes refused, 2 a fault of files, a source or the sink, 3 held, 4 spent, 5 out of memory
 abbrev pub status_of : Outcome → ℕ
 status_of Words = 1
 status_of (Routes f) = 1
 status_of FilesFault = 2
+status_of Checked = 0
 status_of (Ran s) = stop_status s
 status_of Unwritten = 2
 status_of NoMemory = 5
 
--- a sink that failed is the outcome of a run that was drained; every other outcome had an earlier cause
+-- a sink that failed is the outcome of a run that was drained and of a check; every other outcome had an earlier cause
 abbrev pub unwritten : Outcome → Outcome
 unwritten (Ran stop.Drained) = Unwritten
+unwritten Checked = Unwritten
 unwritten o = o
 
 -- the outcome behind the writing of its text

@@ -1,8 +1,9 @@
--- What is told of a refusal and of a run.
+-- What is told of a refusal, of a check and of a run.
 use Rattle.std.specs.Prelude.{ℕ, ◌≢◌, List, Option, codes}
 use Rattle.eip_route.specs.declared.route.RouteSet.{RouteSet}
 use Rattle.eip_command.specs.Causes.{fault_line}
-use Rattle.eip_command.specs.declared.fault.RouteFault.{RouteFault}
+use Rattle.eip_route_table.specs.declared.fault.RouteFault.{RouteFault}
+use Rattle.eip_route_print.specs.Canonical.{canonical_text}
 use Rattle.eip_ledger.specs.declared.place.Stop.{Stop}
 use Rattle.eip_ledger.specs.declared.place.Stop.TheVariants as stop
 use Rattle.eip_history.specs.Own.{Past}
@@ -26,6 +27,11 @@ pub data OfRun (set : RouteSet) (past : Past) : Stop → Outcome → List ℕ �
   OfStarved : OfRun set past stop.NoMemory (outcome.Ran stop.NoMemory) (codes "error memory\n")
   OfNoText : (s : Stop) → OfRun set past s outcome.NoMemory (codes "error memory\n")
 
+-- the outcome and the text of a check
+pub data OfCheck (set : RouteSet) : Outcome → List ℕ → Type 0 where
+  OfText : OfCheck set outcome.Checked (canonical_text set)
+  OfNone : OfCheck set outcome.NoMemory (codes "error memory\n")
+
 -- one of these was told
 pub record TellsRefusal (r : Refusal) (before after : Option (List ℕ)) (faults_before faults_after : ℕ) (o : Outcome) : Type 0 where
   pub told : Outcome
@@ -37,4 +43,10 @@ pub record TellsRun (set : RouteSet) (past : Past) (s : Stop) (before after : Op
   pub told : Outcome
   pub text : List ℕ
   pub of : OfRun set past s told text
+  pub tells : Told told text before after faults_before faults_after o
+
+pub record TellsCheck (set : RouteSet) (before after : Option (List ℕ)) (faults_before faults_after : ℕ) (o : Outcome) : Type 0 where
+  pub told : Outcome
+  pub text : List ℕ
+  pub of : OfCheck set told text
   pub tells : Told told text before after faults_before faults_after o

@@ -1,12 +1,16 @@
 -- What a command comes to, what it writes, and what it leaves.
-use Rattle.std.specs.Prelude.{ℕ, ◌≡◌, ◌≢◌, ◌++◌, ◌⊎◌, List, [], codes, Option, Some, None, Result, Ok, Err, IsErrOf}
+use Rattle.std.specs.Prelude.{ℕ, ◌≡◌, ◌≢◌, ◌++◌, ◌⊎◌, List, [], codes, Option, Some, None, Result, IsErrOf}
 use Rattle.eip_text.specs.Causes.{Rises}
 use Rattle.eip_route.specs.declared.route.RouteSet.{RouteSet}
-use Rattle.eip_command.specs.Words.{command_of}
+use Rattle.eip_route_table.specs.Sites.{Site, first_fault}
+use Rattle.eip_route_json.specs.Reading.{Finds}
+use Rattle.eip_route_table.specs.declared.fault.RouteFault.{RouteFault}
+use Rattle.eip_route_print.specs.Canonical.{canonical_text}
+use Rattle.eip_command.specs.Words.{command_of, path_in}
 use Rattle.eip_command.specs.Causes.{fault_line}
 use Rattle.eip_command.specs.declared.words.Path.{Path}
-use Rattle.eip_command.specs.declared.words.Command.TheVariants.{Drain}
-use Rattle.eip_command.specs.declared.fault.Cause.{Cause}
+use Rattle.eip_command.specs.declared.words.Command.{Command}
+use Rattle.eip_command.specs.declared.words.Command.TheVariants.{Drain, Check}
 use Rattle.eip_endpoint.specs.Content.{IfTold}
 use Rattle.eip_endpoint.specs.Files.{File, bytes_at, read_of}
 use Rattle.eip_endpoint.specs.declared.files.FileRead.{FileRead}
@@ -28,36 +32,48 @@ use Rattle.eip_core.specs.Doors.{doors_of, lane_names, inlet_names}
 use Rattle.eip_core.specs.Outside.{inlet_acts, lane_calls}
 use Rattle.eip_run.specs.declared.report.Outcome.{Outcome}
 use Rattle.eip_run.specs.declared.report.Outcome.TheVariants as outcome
-use Rattle.eip_run.specs.Routes.{file_limit, found}
-use Rattle.eip_run.specs.Prepared.{whole_file}
+use Rattle.eip_run.specs.Routes.{file_limit, sites_for, set_for}
 use Rattle.eip_run.specs.Outcomes.{behind}
 
 -- the limit on turns of a run without words for it
 abbrev pub turn_limit : ℕ
 turn_limit = 100000
 
--- what a command was given and what it left: the words, the files with their count of faults, the lanes, the inlets and the journal
+-- what a command was given and what it left: the words, the files and the builder of patterns with their counts of faults, the lanes, the
+-- inlets and the journal
 pub record Setting : Type 0 where
   pub words : List (List ℕ)
   pub files : Option (List File)
   pub files_before : ℕ
   pub files_after : ℕ
+  pub patterns_before : ℕ
+  pub patterns_after : ℕ
   pub lanes_before : List LaneView
   pub lanes_after : List LaneView
   pub inlets_before : List InletView
   pub inlets_after : List InletView
   pub journal : JournalView
 
--- nothing ran: lanes and inlets are as before and the journal is empty
+-- a journal as a run begins with it: without entries, for no workers and so many turns
+pub record IsNew (j : JournalView) : Type 0 where
+  pub workers : j.workers ≡ 0
+  pub turns : j.turns ≡ turn_limit
+  pub past : j.past ≡ []
+
+-- nothing ran: lanes and inlets are as before and the journal is new
 pub record IsStill (x : Setting) : Type 0 where
   pub lanes : x.lanes_after ≡ x.lanes_before
   pub inlets : x.inlets_after ≡ x.inlets_before
-  pub past : x.journal.past ≡ []
+  pub journal : IsNew x.journal
 
 -- reading the file of a path answered this; no count of faults rose
 pub record WasRead (x : Setting) (p : Path) (read : FileRead) : Type 0 where
   pub answer : IfTold x.files (λ all. read ≡ read_of file_limit (bytes_at p.folder p.name all))
   pub count : x.files_after ≡ x.files_before
+
+-- the places at which a command's file is judged
+abbrev pub sites : Setting → Command → FileRead → List Site
+sites x k read = sites_for k (lane_names x.lanes_before) (inlet_names x.inlets_before) read
 
 -- the headline of a run of a set: the journal is a legal history of the set in which each entry was made by the actor whose turn it was, its
 -- stop is what it says, and lanes and inlets did what its entries say, in their order
@@ -74,36 +90,44 @@ pub record Ran (set : RouteSet) (j : JournalView) (s : Stop) (lanes_before lanes
 abbrev pub IsRun : Setting → RouteSet → Stop → Type 0
 IsRun x set s = Ran set x.journal s x.lanes_before x.lanes_after x.inlets_before x.inlets_after
 
--- the routes of the file that the words name
-pub record HasRoutes (x : Setting) (set : RouteSet) : Type 0 where
-  pub path : Path
+-- the words are a command, whose file was read and has nothing wrong, and these are its routes
+pub record HasRoutes (x : Setting) (k : Command) (set : RouteSet) : Type 0 where
   pub read : FileRead
-  pub command : command_of x.words ≡ Some (Drain path)
-  pub answer : WasRead x path read
-  pub routes : found (lane_names x.lanes_before) (inlet_names x.inlets_before) read ≡ Ok set
+  pub command : command_of x.words ≡ Some k
+  pub answer : WasRead x (path_in k) read
+  pub patterns : x.patterns_after ≡ x.patterns_before
+  pub faultless : first_fault (sites x k read) ≡ None
+  pub routes : set ≡ set_for (lane_names x.lanes_before) (inlet_names x.inlets_before) read
 
 -- the log and the book of a run
 abbrev pub run_text : RouteSet → Past → Stop → List ℕ
 run_text set past stop = log_text_of (plan_of set) past ++ book_text_of (plan_of set) (route_names set) past stop
 
+-- neither the files' count of faults nor that of the patterns rose
+pub record IsCalm (x : Setting) : Type 0 where
+  pub files : x.files_after ≡ x.files_before
+  pub patterns : x.patterns_after ≡ x.patterns_before
+
 -- which outcome a command comes to, with the text that it is to write
 pub data Comes (x : Setting) : Outcome → List ℕ → Type 0 where
   -- the words are no command
-  NoCommand : command_of x.words ≡ None → IsStill x → x.files_after ≡ x.files_before → Comes x outcome.Words (codes "error words\n")
+  NoCommand : command_of x.words ≡ None → IsStill x → IsCalm x → Comes x outcome.Words (codes "error words\n")
   -- the route file could not be read, and the count of faults of the files rose
-  NotRead : (p : Path) → command_of x.words ≡ Some (Drain p) → IsStill x → Rises 1 x.files_before x.files_after
+  NotRead : (k : Command) → command_of x.words ≡ Some k → IsStill x → Rises 1 x.files_before x.files_after → x.patterns_after ≡ x.patterns_before
       → Comes x outcome.FilesFault (codes "error files\n")
-  -- the route file has a fault
-  NoRoutes : (p : Path) (read : FileRead) (c : Cause) → command_of x.words ≡ Some (Drain p) → IsStill x → WasRead x p read
-      → found (lane_names x.lanes_before) (inlet_names x.inlets_before) read ≡ Err c → Comes x (outcome.Routes (whole_file c)) (fault_line (whole_file c))
+  -- the route file has a fault, which is its first one or that of a refused pattern before it
+  NoRoutes : (k : Command) (read : FileRead) (f : RouteFault) → command_of x.words ≡ Some k → IsStill x → WasRead x (path_in k) read
+      → Finds (sites x k read) x.patterns_before x.patterns_after f → Comes x (outcome.Routes f) (fault_line f)
+  -- the routes were checked
+  WasChecked : (p : Path) (set : RouteSet) → HasRoutes x (Check p) set → IsStill x → Comes x outcome.Checked (canonical_text set)
   -- the routes ran to a stop
-  Stopped : (set : RouteSet) (s : Stop) → HasRoutes x set → IsRun x set s → s ≢ stop.NoMemory → Comes x (outcome.Ran s) (run_text set x.journal.past s)
+  Stopped : (p : Path) (set : RouteSet) (s : Stop) → HasRoutes x (Drain p) set → IsRun x set s → s ≢ stop.NoMemory → Comes x (outcome.Ran s) (run_text set x.journal.past s)
   -- the routes ran until no memory was left
-  Starved : (set : RouteSet) → HasRoutes x set → IsRun x set stop.NoMemory → Comes x (outcome.Ran stop.NoMemory) (codes "error memory\n")
-  -- no memory was left before the routes ran
+  Starved : (p : Path) (set : RouteSet) → HasRoutes x (Drain p) set → IsRun x set stop.NoMemory → Comes x (outcome.Ran stop.NoMemory) (codes "error memory\n")
+  -- no memory was left before the routes ran, or for the text of a check
   LacksMemory : IsStill x → x.files_after ≡ x.files_before → Comes x outcome.NoMemory (codes "error memory\n")
   -- no memory was left for the text of a run
-  LacksText : (set : RouteSet) (s : Stop) → HasRoutes x set → IsRun x set s → Comes x outcome.NoMemory (codes "error memory\n")
+  LacksText : (p : Path) (set : RouteSet) (s : Stop) → HasRoutes x (Drain p) set → IsRun x set s → Comes x outcome.NoMemory (codes "error memory\n")
 
 -- a text was written for an outcome, or the front of it where the sink failed, and the outcome is what that left of it
 pub record Told (told : Outcome) (text : List ℕ) (before after : Option (List ℕ)) (faults_before faults_after : ℕ) (o : Outcome) : Type 0 where

@@ -1,28 +1,60 @@
--- Which routes a command runs, by what reading their file answered.
-use Rattle.std.specs.Prelude.{ℕ, Bool, cond, List, Result, Ok, Err, is_some, codes}
+-- Which routes a command takes from its file, and what is wrong with the file, by what reading it answered.
+use Rattle.std.specs.Prelude.{ℕ, ◌≡◌, Bool, true, false, ◌&&◌, nat_le, List, [], ◌∷◌, ◌++◌, length, codes, None}
+use Rattle.eip_route.specs.Built.{is_built}
+use Rattle.eip_route.specs.declared.route.Names.{Names}
 use Rattle.eip_route.specs.declared.route.RouteSet.{RouteSet}
-use Rattle.eip_command.specs.declared.fault.Cause.{Cause}
-use Rattle.eip_command.specs.declared.fault.Cause.TheVariants as cause
-use Rattle.eip_command.specs.Form.{read_routes}
+use Rattle.eip_route_table.specs.Sites.{Site, wrong}
+use Rattle.eip_route_table.specs.declared.fault.Cause.{Cause}
+use Rattle.eip_route_table.specs.declared.fault.Cause.TheVariants as cause
+use Rattle.eip_route_json.specs.Reading.{byte_sites, set_of}
+use Rattle.eip_command.specs.declared.words.Command.{Command}
+use Rattle.eip_command.specs.declared.words.Command.TheVariants.{Drain, Check}
 use Rattle.eip_endpoint.specs.declared.files.FileRead.{FileRead}
 use Rattle.eip_endpoint.specs.declared.files.FileRead.TheVariants.{Bytes, Missing, TooLong}
-use Rattle.eip_endpoint.specs.Lanes.{first_named}
+use Rattle.eip_core.specs.Served.{is_served, names_of}
 
 -- the most bytes of a route file
 abbrev pub file_limit : ℕ
 file_limit = 1048576
 
--- the set, where the inlet `stream` is among the inlets
-abbrev pub with_stream : Bool → Result RouteSet Cause → Result RouteSet Cause
-with_stream has (Err c) = Err c
-with_stream has (Ok set) = cond has (Ok set) (Err cause.NotBuilt)
+-- the whole file is wrong
+abbrev pub whole_file : Cause → List Site
+whole_file c = (codes "$", wrong c) ∷ []
 
--- is the inlet `stream` handed in
-abbrev pub has_stream : List (List ℕ) → Bool
-has_stream inlets = is_some (first_named (codes "stream") inlets)
+-- the places at which a file is judged
+abbrev pub sites_in : Names → FileRead → List Site
+sites_in names Missing = whole_file cause.NoFile
+sites_in names TooLong = whole_file cause.TooLong
+sites_in names (Bytes bytes) = byte_sites names bytes
 
--- the routes of a file, or the first cause why there are none
-abbrev pub found : List (List ℕ) → List (List ℕ) → FileRead → Result RouteSet Cause
-found lanes inlets Missing = Err cause.NoFile
-found lanes inlets TooLong = Err cause.TooLong
-found lanes inlets (Bytes bytes) = with_stream (has_stream inlets) (read_routes lanes bytes)
+-- the bytes of a file; one without any has none
+abbrev pub bytes_in : FileRead → List ℕ
+bytes_in (Bytes bytes) = bytes
+bytes_in Missing = []
+bytes_in TooLong = []
+
+-- the routes that a file without a fault gives
+abbrev pub set_in : Names → FileRead → RouteSet
+set_in names read = set_of names (bytes_in read)
+
+-- a set runs where it is of the part that is run today. A set that was read has few routes and asks for nothing that isn't handed in; a run
+-- looks again
+unfoldable pub is_runnable : List (List ℕ) → List (List ℕ) → RouteSet → Bool
+is_runnable lanes inlets set = is_built set && (nat_le (length set.routes) 256 && is_served lanes inlets set)
+
+abbrev pub unless_runnable : Bool → List Site
+unless_runnable true = []
+unless_runnable false = whole_file cause.NotBuilt
+
+-- what a command asks beyond a file without a fault: a drain, that the routes run
+abbrev pub asked_sites : Command → List (List ℕ) → List (List ℕ) → RouteSet → List Site
+asked_sites (Drain p) lanes inlets set = unless_runnable (is_runnable lanes inlets set)
+asked_sites (Check p) lanes inlets set = []
+
+-- the places at which a command's file is judged, where lanes and inlets of these names are handed in
+abbrev pub sites_for : Command → List (List ℕ) → List (List ℕ) → FileRead → List Site
+sites_for k lanes inlets read = sites_in (names_of lanes inlets) read ++ asked_sites k lanes inlets (set_in (names_of lanes inlets) read)
+
+-- the routes that a command takes
+abbrev pub set_for : List (List ℕ) → List (List ℕ) → FileRead → RouteSet
+set_for lanes inlets read = set_in (names_of lanes inlets) read

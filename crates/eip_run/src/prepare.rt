@@ -1,122 +1,169 @@
-ghost use Rattle.std.specs.Prelude.{◌≡◌, Ok, Err, IfOk, map, cond};
-ghost use Rattle.eip_command.specs.Form.{read_routes};
-ghost use Rattle.eip_run.specs.Routes.{found, with_stream, has_stream};
-ghost use Rattle.eip_run.specs.Prepared.{path_in, Answers, Prepares};
+ghost use Rattle.std.specs.Prelude.{ℕ, ◌≡◌, map};
+ghost use Rattle.eip_run.specs.Routes.{sites_in, set_in, asked_sites, sites_for, set_for, is_runnable, unless_runnable};
+ghost use Rattle.eip_run.specs.Prepared.{job_of, Answers, Refuses, Prepares};
 
-use eip_command::{
-    Cause, Command, FormRefusal, Path, RouteFault, WordsFault, read_form, read_words,
-};
-use eip_endpoint::{FileRead, Files, FilesFault, Inlet, Lane, find_inlet};
-use eip_route::RouteSet;
+use eip_command::{Command, WordsFault, read_words};
+use eip_core::{Registry, is_served, names_of};
+use eip_endpoint::{FileRead, Files, FilesFault, Inlet, Lane};
+use eip_route::{Names, RouteSet};
+use eip_route_json::{RouteRefusal, read_routes};
+use eip_route_table::{Cause, RouteFault};
+use eip_simple_read::Patterns;
 use eip_text::{NoMemory, Text};
 use std::alloc::Global;
 
 /// The most bytes of a route file.
 const FILE_LIMIT: usize = 1_048_576;
 
-/// Why nothing runs.
+/// The most routes of a set.
+const ROUTE_LIMIT: usize = 256;
+
+/// What a command does with the routes of its file.
+#[derive(Drop)]
+pub enum Job {
+    /// They run until nothing is left to do.
+    Drain(RouteSet),
+    /// They are printed in their canonical form.
+    Check(RouteSet),
+}
+
+/// Why nothing is done.
 #[derive(Drop)]
 pub enum Refusal {
     /// The words are no command.
     Words,
-    /// The route file has this first fault.
+    /// The route file has this fault.
     Routes(RouteFault),
     /// The files failed.
     FilesFault,
     NoMemory,
 }
 
-/// The routes that the words ask to run, or the first cause why there are none: the words, then the reading of the route
-/// file, then the routes.
-pub fn prepare<F: Files>(
+/// What the words ask to do with the routes of their file, or the first cause why there is nothing to do: the words,
+/// then the reading of the route file, then the routes. A drain also asks that the routes are of the part that is run.
+pub fn prepare<F: Files, P: Patterns>(
     alloc: Global,
     words: &[Text],
     files: &mut F,
+    patterns: &mut P,
     lanes: &[Lane],
     inlets: &[Inlet],
-) -> Result<RouteSet, Refusal>
-    ensures answer { Prepares (record { words = words.now; files = F.files files.old; before = F.files_faults files.old; behind = F.files_faults files.new; lanes = map (λ l. l.name) lanes.now; inlets = map (λ i. i.name) inlets.now }) result }
+    registry: &Registry,
+) -> Result<Job, Refusal>
+    ensures answer { Prepares (record { words = words.now; files = F.files files.old; files_before = F.files_faults files.old; files_behind = F.files_faults files.new; patterns_before = P.pattern_faults patterns.old; patterns_behind = P.pattern_faults patterns.new; lanes = map (λ l. l.name) lanes.now; inlets = map (λ i. i.name) inlets.now }) result }
     ensures files { F.files files.new ≡ F.files files.old }
 {
-    let path = match read_words(alloc, words) {
-        Ok(command) => routes_path(command),
+    let command = match read_words(alloc, words) {
+        Ok(command) => command,
         Err(WordsFault::Refused) => return Err(Refusal::Words),
         Err(WordsFault::NoMemory) => return Err(Refusal::NoMemory),
     };
-    match files.read(&path.folder, &path.name, FILE_LIMIT) {
-        Ok(read) => routes_of(alloc, &read, lanes, inlets),
-        Err(FilesFault::Failed) => Err(Refusal::FilesFault),
-        Err(FilesFault::NoMemory) => Err(Refusal::NoMemory),
+    let routes = command.routes();
+    let read = match files.read(&routes.folder, &routes.name, FILE_LIMIT) {
+        Ok(read) => read,
+        Err(FilesFault::Failed) => return Err(Refusal::FilesFault),
+        Err(FilesFault::NoMemory) => return Err(Refusal::NoMemory),
+    };
+    match routes_for(alloc, &command, &read, patterns, lanes, inlets, registry) {
+        Ok(set) => Ok(job_of(&command, set)),
+        Err(refusal) => Err(refusal),
     }
 }
 
-/// The path of the route file that a command names.
-fn routes_path(command: Command) -> Path
-    ensures { result ≡ path_in command }
+/// What a command does with its routes.
+fn job_of(command: &Command, set: RouteSet) -> Job
+    ensures { result ≡ job_of command.now set }
 {
-    let Command::Drain { routes } = command;
-    routes
+    match command {
+        Command::Drain { .. } => Job::Drain(set),
+        Command::Check { .. } => Job::Check(set),
+    }
 }
 
-/// The routes of a file that was read.
-fn routes_of(
+/// The routes that a command takes from a file that was read.
+fn routes_for<P: Patterns>(
     alloc: Global,
+    command: &Command,
     read: &FileRead,
+    patterns: &mut P,
+    lanes: &[Lane],
+    inlets: &[Inlet],
+    registry: &Registry,
+) -> Result<RouteSet, Refusal>
+    ensures { Answers (sites_for command.now (map (λ l. l.name) lanes.now) (map (λ i. i.name) inlets.now) read.now) (set_for (map (λ l. l.name) lanes.now) (map (λ i. i.name) inlets.now) read.now) (P.pattern_faults patterns.old) (P.pattern_faults patterns.new) result }
+{
+    let Ok(names) = names_of(alloc, registry, lanes, inlets) else {
+        return Err(Refusal::NoMemory);
+    };
+    match routes_of(alloc, read, &names, patterns) {
+        Ok(set) => asked(alloc, command, set, lanes, inlets),
+        Err(refusal) => Err(refusal),
+    }
+}
+
+/// The set, where it is what a command asks for beyond a file without a fault.
+fn asked(
+    alloc: Global,
+    command: &Command,
+    set: RouteSet,
     lanes: &[Lane],
     inlets: &[Inlet],
 ) -> Result<RouteSet, Refusal>
-    ensures { Answers (found (map (λ l. l.name) lanes.now) (map (λ i. i.name) inlets.now) read.now) result }
+    ensures { (n : ℕ) → Answers (asked_sites command.now (map (λ l. l.name) lanes.now) (map (λ i. i.name) inlets.now) set) set n n result }
+{
+    match command {
+        Command::Drain { .. } => runnable(alloc, set, lanes, inlets),
+        Command::Check { .. } => Ok(set),
+    }
+}
+
+/// The routes of a file that was read.
+fn routes_of<P: Patterns>(
+    alloc: Global,
+    read: &FileRead,
+    names: &Names,
+    patterns: &mut P,
+) -> Result<RouteSet, Refusal>
+    ensures { Answers (sites_in names.now read.now) (set_in names.now read.now) (P.pattern_faults patterns.old) (P.pattern_faults patterns.new) result }
 {
     match read {
         FileRead::Missing => Err(refused(alloc, Cause::NoFile)),
         FileRead::TooLong => Err(refused(alloc, Cause::TooLong)),
-        FileRead::Bytes(bytes) => routes_in(alloc, bytes.items(), lanes, inlets),
+        FileRead::Bytes(bytes) => match read_routes(alloc, bytes.items(), names, patterns) {
+            Ok(set) => Ok(set),
+            Err(RouteRefusal::Refused(fault)) => Err(Refusal::Routes(fault)),
+            Err(RouteRefusal::NoMemory) => Err(Refusal::NoMemory),
+        },
     }
 }
 
-/// The routes that bytes spell.
-fn routes_in(
+/// The set, where it runs over these lanes and inlets.
+fn runnable(
     alloc: Global,
-    bytes: &[u8],
+    set: RouteSet,
     lanes: &[Lane],
     inlets: &[Inlet],
 ) -> Result<RouteSet, Refusal>
-    ensures { Answers (with_stream (has_stream (map (λ i. i.name) inlets.now)) (read_routes (map (λ l. l.name) lanes.now) bytes.now)) result }
+    ensures { (n : ℕ) → Answers (unless_runnable (is_runnable (map (λ l. l.name) lanes.now) (map (λ i. i.name) inlets.now) set)) set n n result }
 {
-    let Ok(names) = lane_names(alloc, lanes) else {
-        return Err(Refusal::NoMemory);
-    };
-    match read_form(alloc, bytes, &names) {
-        Ok(set) => with_stream(alloc, set, inlets),
-        Err(FormRefusal::Refused(fault)) => Err(Refusal::Routes(fault)),
-        Err(FormRefusal::NoMemory) => Err(Refusal::NoMemory),
+    if is_runnable(&set, lanes, inlets) {
+        Ok(set)
+    } else {
+        Err(refused(alloc, Cause::NotBuilt))
     }
 }
 
-/// The set, where its inlet `stream` is handed in.
-fn with_stream(alloc: Global, set: RouteSet, inlets: &[Inlet]) -> Result<RouteSet, Refusal>
-    ensures { Answers (with_stream (has_stream (map (λ i. i.name) inlets.now)) (Ok set)) result }
+/// Whether a set runs over these lanes and inlets.
+#[tactic(auto, unfolding(crate::specs::Routes::is_runnable))]
+fn is_runnable(set: &RouteSet, lanes: &[Lane], inlets: &[Inlet]) -> bool
+    ensures { result ≡ is_runnable (map (λ l. l.name) lanes.now) (map (λ i. i.name) inlets.now) set.now }
 {
-    match find_inlet(inlets, b"stream") {
-        Some(_) => Ok(set),
-        None => Err(refused(alloc, Cause::NotBuilt)),
-    }
-}
-
-/// The names of lanes.
-fn lane_names(alloc: Global, lanes: &[Lane]) -> Result<Vec<Text>, NoMemory>
-    ensures { IfOk result (λ v. v.items ≡ map (λ l. l.name) lanes.now) }
-{
-    let mut names = Vec::with_capacity(alloc, lanes.len())?;
-    for lane in lanes {
-        names.push(lane.name.copy()?)?;
-    }
-    Ok(names)
+    set.is_built() && set.routes.items().len() <= ROUTE_LIMIT && is_served(set, lanes, inlets)
 }
 
 /// The refusal of the whole file for a cause.
 fn refused(alloc: Global, cause: Cause) -> Refusal
-    ensures { Answers (Err cause) (Err result) }
+    ensures { Refuses cause result }
 {
     match Text::of_str(alloc, "$") {
         Ok(path) => Refusal::Routes(RouteFault { path, cause }),

@@ -1,7 +1,7 @@
 ghost use Rattle.std.specs.Prelude.{◌≡◌, IfOk, codes, string_bytes};
 ghost use Rattle.eip_books.specs.View.{plan};
 ghost use Rattle.eip_run.specs.Reports.{Told, run_text};
-ghost use Rattle.eip_run.specs.Printed.{TellsRefusal, TellsRun};
+ghost use Rattle.eip_run.specs.Printed.{TellsRefusal, TellsCheck, TellsRun};
 
 use crate::prepare::Refusal;
 use crate::report::Outcome;
@@ -10,6 +10,8 @@ use eip_endbook::{book_text, log_text};
 use eip_endpoint::{Sink, SinkFault};
 use eip_hub::Hub;
 use eip_ledger::Stop;
+use eip_route::RouteSet;
+use eip_route_print::print_routes;
 use eip_text::NoMemory;
 use std::alloc::Global;
 
@@ -43,6 +45,16 @@ pub fn tell_refusal<O: Sink>(alloc: Global, out: &mut O, refusal: Refusal) -> Ou
             Ok(line) => tell(out, line.as_str(), Outcome::Routes(fault)),
             Err(NoMemory) => tell_memory(out, Outcome::NoMemory),
         },
+    }
+}
+
+/// Writes routes in their canonical form.
+pub fn tell_check<O: Sink>(alloc: Global, out: &mut O, set: &RouteSet) -> Outcome
+    ensures { TellsCheck set.now (O.bytes out.old) (O.bytes out.new) (O.sink_faults out.old) (O.sink_faults out.new) result }
+{
+    match print_routes(alloc, set) {
+        Ok(text) => tell(out, text.as_str(), Outcome::Checked),
+        Err(NoMemory) => tell_memory(out, Outcome::NoMemory),
     }
 }
 

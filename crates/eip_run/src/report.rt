@@ -1,8 +1,8 @@
 ghost use Rattle.std.specs.Prelude.{◌≡◌};
 ghost use Rattle.eip_run.specs.Outcomes.{stop_status, status_of, unwritten};
 
-use eip_command::RouteFault;
 use eip_ledger::{Journal, Stop};
+use eip_route_table::RouteFault;
 
 /// What a command came to.
 #[derive(Drop)]
@@ -13,6 +13,8 @@ pub enum Outcome {
     Routes(RouteFault),
     /// The files failed.
     FilesFault,
+    /// The route file was printed in its canonical form.
+    Checked,
     /// The routes ran until this stop.
     Ran(Stop),
     /// The sink failed, and there was no earlier cause.
@@ -43,7 +45,7 @@ fn stop_status(stop: Stop) -> u8
 }
 
 impl Outcome {
-    /// The exit status: 0 drained, 1 words or routes refused, 2 a fault of files, a source or the sink, 3 groups held, 4 turns
+    /// The exit status: 0 drained or checked, 1 words or routes refused, 2 a fault of files, a source or the sink, 3 groups held, 4 turns
     /// spent, 5 out of memory.
     pub fn status(&self) -> u8
         ensures { result ≡ status_of self.now }
@@ -52,19 +54,20 @@ impl Outcome {
             Outcome::Words => 1,
             Outcome::Routes(_) => 1,
             Outcome::FilesFault => 2,
+            Outcome::Checked => 0,
             Outcome::Ran(stop) => stop_status(*stop),
             Outcome::SinkFault => 2,
             Outcome::NoMemory => 5,
         }
     }
 
-    /// What is left of an outcome whose text could not be written: the failure of the sink where the run was drained, else
-    /// the outcome, whose cause came earlier.
+    /// What is left of an outcome whose text could not be written: the failure of the sink where the run was drained or the
+    /// routes were checked, else the outcome, whose cause came earlier.
     pub fn unwritten(self) -> Outcome
         ensures { result ≡ unwritten self }
     {
         match self {
-            Outcome::Ran(Stop::Drained) => Outcome::SinkFault,
+            Outcome::Ran(Stop::Drained) | Outcome::Checked => Outcome::SinkFault,
             other => other,
         }
     }

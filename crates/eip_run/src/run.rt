@@ -7,8 +7,8 @@ ghost use Rattle.eip_run.specs.Reports.{Reports};
 ghost use Rattle.eip_run.specs.Caused.{Causes};
 ghost use Rattle.eip_run.specs.Drained.{Drained};
 
-use crate::prepare::prepare;
-use crate::print::{tell_memory, tell_refusal, tell_run};
+use crate::prepare::{Job, prepare};
+use crate::print::{tell_check, tell_memory, tell_refusal, tell_run};
 use crate::report::{Outcome, Report};
 use eip_core::Registry;
 use eip_core::drain::drain_alone;
@@ -16,6 +16,7 @@ use eip_endpoint::{Endpoint, Files, Inlet, Lane, Sink, Source};
 use eip_hub::Hub;
 use eip_ledger::Journal;
 use eip_route::RouteSet;
+use eip_simple_read::Patterns;
 use eip_text::Text;
 use std::alloc::Global;
 
@@ -44,11 +45,12 @@ fn drain<O: Sink>(
     (outcome, hub.into_journal())
 }
 
-/// Runs the routes that the words ask for, or tells why nothing runs.
-fn carry_out<F: Files, O: Sink>(
+/// Does what the words ask for, or tells why nothing is done.
+fn carry_out<F: Files, P: Patterns, O: Sink>(
     alloc: Global,
     words: &[Text],
     files: &mut F,
+    patterns: &mut P,
     lanes: &mut [Lane],
     inlets: &mut [Inlet],
     registry: &Registry,
@@ -59,6 +61,8 @@ fn carry_out<F: Files, O: Sink>(
       files = F.files files.old;
       files_before = F.files_faults files.old;
       files_after = F.files_faults files.new;
+      patterns_before = P.pattern_faults patterns.old;
+      patterns_after = P.pattern_faults patterns.new;
       lanes_before = map (seen_lane (λ b. (⟦<dyn Endpoint as Endpoint>⟧ b.vtable).calls b.value) (λ b. (⟦<dyn Endpoint as Endpoint>⟧ b.vtable).lane_faults b.value)) lanes.old;
       lanes_after = map (seen_lane (λ b. (⟦<dyn Endpoint as Endpoint>⟧ b.vtable).calls b.value) (λ b. (⟦<dyn Endpoint as Endpoint>⟧ b.vtable).lane_faults b.value)) lanes.new;
       inlets_before = map (seen_inlet (λ b. (⟦<dyn Source as Source>⟧ b.vtable).given b.value) (λ b. (⟦<dyn Source as Source>⟧ b.vtable).left b.value) (λ b. (⟦<dyn Source as Source>⟧ b.vtable).commits b.value) (λ b. (⟦<dyn Source as Source>⟧ b.vtable).inlet_faults b.value)) inlets.old;
@@ -68,8 +72,12 @@ fn carry_out<F: Files, O: Sink>(
         (O.bytes out.old) (O.bytes out.new) (O.sink_faults out.old) (O.sink_faults out.new) result.0 }
     ensures files { F.files files.new ≡ F.files files.old }
 {
-    match prepare(alloc, words, files, lanes, inlets) {
-        Ok(set) => drain(alloc, set, lanes, inlets, registry, out),
+    match prepare(alloc, words, files, patterns, lanes, inlets, registry) {
+        Ok(Job::Drain(set)) => drain(alloc, set, lanes, inlets, registry, out),
+        Ok(Job::Check(set)) => (
+            tell_check(alloc, out, &set),
+            Journal::new(alloc, 0, TURN_LIMIT),
+        ),
         Err(refusal) => (
             tell_refusal(alloc, out, refusal),
             Journal::new(alloc, 0, TURN_LIMIT),
@@ -77,13 +85,15 @@ fn carry_out<F: Files, O: Sink>(
     }
 }
 
-/// Runs the command of these words: reads its route file from `files`, drains its routes over the lanes and inlets that are
-/// handed in, and writes log and book to `out` by one call. The first cause that applies decides the outcome: the words, the
+/// Runs the command of these words: reads its route file from `files`, with `patterns` for the patterns of its predicates.
+/// A `drain` runs the routes over the lanes and inlets that are handed in, and writes log and book to `out` by one call; a
+/// `check` writes the routes in their canonical form. The first cause that applies decides the outcome: the words, the
 /// reading of the route file, the routes, the stop of the run, the sink. Want of memory ends the command where it is met.
-pub fn run<F: Files, O: Sink>(
+pub fn run<F: Files, P: Patterns, O: Sink>(
     alloc: Global,
     words: &[Text],
     files: &mut F,
+    patterns: &mut P,
     lanes: &mut Vec<Lane>,
     inlets: &mut Vec<Inlet>,
     registry: &Registry,
@@ -94,6 +104,8 @@ pub fn run<F: Files, O: Sink>(
       files = F.files files.old;
       files_before = F.files_faults files.old;
       files_after = F.files_faults files.new;
+      patterns_before = P.pattern_faults patterns.old;
+      patterns_after = P.pattern_faults patterns.new;
       lanes_before = map (seen_lane (λ b. (⟦<dyn Endpoint as Endpoint>⟧ b.vtable).calls b.value) (λ b. (⟦<dyn Endpoint as Endpoint>⟧ b.vtable).lane_faults b.value)) lanes.old.items;
       lanes_after = map (seen_lane (λ b. (⟦<dyn Endpoint as Endpoint>⟧ b.vtable).calls b.value) (λ b. (⟦<dyn Endpoint as Endpoint>⟧ b.vtable).lane_faults b.value)) lanes.new.items;
       inlets_before = map (seen_inlet (λ b. (⟦<dyn Source as Source>⟧ b.vtable).given b.value) (λ b. (⟦<dyn Source as Source>⟧ b.vtable).left b.value) (λ b. (⟦<dyn Source as Source>⟧ b.vtable).commits b.value) (λ b. (⟦<dyn Source as Source>⟧ b.vtable).inlet_faults b.value)) inlets.old.items;
@@ -106,6 +118,8 @@ pub fn run<F: Files, O: Sink>(
       files = F.files files.old;
       files_before = F.files_faults files.old;
       files_after = F.files_faults files.new;
+      patterns_before = P.pattern_faults patterns.old;
+      patterns_after = P.pattern_faults patterns.new;
       lanes_before = map (seen_lane (λ b. (⟦<dyn Endpoint as Endpoint>⟧ b.vtable).calls b.value) (λ b. (⟦<dyn Endpoint as Endpoint>⟧ b.vtable).lane_faults b.value)) lanes.old.items;
       lanes_after = map (seen_lane (λ b. (⟦<dyn Endpoint as Endpoint>⟧ b.vtable).calls b.value) (λ b. (⟦<dyn Endpoint as Endpoint>⟧ b.vtable).lane_faults b.value)) lanes.new.items;
       inlets_before = map (seen_inlet (λ b. (⟦<dyn Source as Source>⟧ b.vtable).given b.value) (λ b. (⟦<dyn Source as Source>⟧ b.vtable).left b.value) (λ b. (⟦<dyn Source as Source>⟧ b.vtable).commits b.value) (λ b. (⟦<dyn Source as Source>⟧ b.vtable).inlet_faults b.value)) inlets.old.items;
@@ -120,6 +134,7 @@ pub fn run<F: Files, O: Sink>(
         alloc,
         words,
         files,
+        patterns,
         lanes.as_mut_slice(),
         inlets.as_mut_slice(),
         registry,

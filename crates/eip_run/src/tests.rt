@@ -1,17 +1,29 @@
-ghost use Rattle.std.specs.Prelude.{IfOk};
+ghost use Rattle.std.specs.Prelude.{◌≡◌, true, IfOk, IsErrOf, None};
+ghost use Rattle.eip_frames.specs.Fits.{may_exist};
 ghost use Rattle.eip_endpoint.specs.MemorySources.{AreNew};
 
 use crate::run::run;
 use eip_core::Registry;
-use eip_endpoint::{Inlet, Lane, MemoryFiles, MemoryLane, MemorySink, MemorySource, Pulled};
+use eip_endpoint::endpoint::{Call, Outcome as CallOutcome};
+use eip_endpoint::{
+    Endpoint, Inlet, Lane, MemoryFiles, MemoryLane, MemorySink, MemorySource, Pulled, SendFault,
+};
 use eip_exchange::Message;
-use eip_text::{NoMemory, Series, Text};
+use eip_frames::{Answer, Target};
+use eip_ledger::{Entry, Kind};
+use eip_simple_read::CratePatterns;
+use eip_text::{NoMemory, Series, Text, decimal};
 use std::alloc::Global;
+use std::sync::{Arc, Mutex};
 use std::test::*;
 
 /// Steps to a log and to two lanes.
 const STEPS: &str =
     "[{\"from\":{\"uri\":\"stream:in\",\"steps\":[{\"setBody\":{\"constant\":\"hi\"}},{\"to\":\"log:out\"},{\"to\":\"lane:a\"},{\"to\":\"lane:b\"}]}}]";
+
+/// A step to a log.
+const LOGGED: &str =
+    "[{\"from\":{\"uri\":\"stream:in\",\"steps\":[{\"setBody\":{\"constant\":\"hi\"}},{\"to\":\"log:out\"}]}}]";
 
 /// No steps.
 const NO_STEPS: &str = "[{\"from\":{\"steps\":[],\"uri\":\"stream:in\"}}]";
@@ -82,10 +94,12 @@ fn drained(
     inlets.push(Inlet { name, object })?;
     let mut out = MemorySink::new(alloc, failing);
     let registry = Registry::new();
+    let mut patterns = CratePatterns::new(Vec::new(alloc));
     let report = run(
         alloc,
         &words,
         &mut files,
+        &mut patterns,
         &mut lanes,
         &mut inlets,
         &registry,
@@ -165,7 +179,13 @@ fn a_lane_that_is_not_handed_in_is_refused(rt: HostRuntime) -> Result<(), Fail> 
         Vec::new(alloc),
         Vec::new(alloc),
     )?;
-    assert!(rt; came(&ending, 1, "error routes $ NotBuilt\n"));
+    assert!(rt;
+        came(
+            &ending,
+            1,
+            "error routes $[0].from.steps[0].to NotRegistered lane:c\n"
+        )
+    );
     Ok(())
 }
 
@@ -177,17 +197,63 @@ fn other_words_are_refused(rt: HostRuntime) -> Result<(), Fail> {
     Ok(())
 }
 
+/// The kinds of a journal's entries, each by a letter.
+fn letters(alloc: Global, entries: &[Entry]) -> Result<Vec<u8>, NoMemory> {
+    let mut letters = Vec::new(alloc);
+    for entry in entries {
+        letters.push(letter(&entry.kind))?;
+    }
+    Ok(letters)
+}
+
+/// A letter for a kind of entry: `p` a pull, `a` an exchange accepted, `n` a line noted, `f` an exchange finished, `e` the
+/// end of a source.
+fn letter(kind: &Kind) -> u8 {
+    match kind {
+        Kind::Pull(_) => b'p',
+        Kind::Accept { .. } => b'a',
+        Kind::Answer { answer, .. } => match answer {
+            Answer::Noted => b'n',
+            Answer::Finished => b'f',
+            _ => b'?',
+        },
+        Kind::SourceEnd(_) => b'e',
+        _ => b'?',
+    }
+}
+
 #[test]
-fn a_sink_that_fails_is_the_outcome_of_a_drained_run(rt: HostRuntime) -> Result<(), Fail> {
+fn a_sink_that_fails_is_the_outcome_of_a_drained_run_and_leaves_its_journal(
+    rt: HostRuntime,
+) -> Result<(), Fail> {
     let alloc = rt.alloc();
-    let ending = drained(
+    let words = drain_words(alloc, "r.json")?;
+    let mut files = files_with(alloc, LOGGED)?;
+    let mut lanes: Vec<Lane> = Vec::new(alloc);
+    let mut inlets: Vec<Inlet> = Vec::new(alloc);
+    let object = Box::new(
         alloc,
-        "r.json",
-        STEPS,
-        two_lines(alloc)?,
-        vec![in alloc; 1]?,
+        MemorySource::new(alloc, two_lines(alloc)?, Vec::new(alloc)),
     )?;
-    assert!(rt; came(&ending, 2, ""));
+    let name = Text::of_str(alloc, "stream")?;
+    inlets.push(Inlet { name, object })?;
+    let mut out = MemorySink::new(alloc, vec![in alloc; 1]?);
+    let registry = Registry::new();
+    let mut patterns = CratePatterns::new(Vec::new(alloc));
+    let report = run(
+        alloc,
+        &words,
+        &mut files,
+        &mut patterns,
+        &mut lanes,
+        &mut inlets,
+        &registry,
+        &mut out,
+    );
+    assert!(rt; report.status == 2);
+    assert!(rt; out.bytes().is_empty());
+    let letters = letters(alloc, report.journal.entries())?;
+    assert!(rt; letters.as_slice() == b"panfpanfpe".as_slice());
     Ok(())
 }
 
@@ -198,25 +264,37 @@ const SENT: &str =
 /// Drains the route file `r.json` of these files over this lane, called `x`, and this source.
 fn drained_over(
     alloc: Global,
-    mut files: MemoryFiles,
+    files: MemoryFiles,
     lane: MemoryLane,
+    source: MemorySource,
+) -> Result<(u8, MemorySink), NoMemory> {
+    let object = Box::new(alloc, lane)?;
+    let name = Text::of_str(alloc, "lane:x")?;
+    drained_to(alloc, files, Lane { name, object }, source)
+}
+
+/// Drains the route file `r.json` of these files over this lane and this source.
+fn drained_to(
+    alloc: Global,
+    mut files: MemoryFiles,
+    lane: Lane,
     source: MemorySource,
 ) -> Result<(u8, MemorySink), NoMemory> {
     let words = drain_words(alloc, "r.json")?;
     let mut lanes: Vec<Lane> = Vec::new(alloc);
-    let object = Box::new(alloc, lane)?;
-    let name = Text::of_str(alloc, "lane:x")?;
-    lanes.push(Lane { name, object })?;
+    lanes.push(lane)?;
     let mut inlets: Vec<Inlet> = Vec::new(alloc);
     let object = Box::new(alloc, source)?;
     let name = Text::of_str(alloc, "stream")?;
     inlets.push(Inlet { name, object })?;
     let mut out = MemorySink::new(alloc, Vec::new(alloc));
     let registry = Registry::new();
+    let mut patterns = CratePatterns::new(Vec::new(alloc));
     let report = run(
         alloc,
         &words,
         &mut files,
+        &mut patterns,
         &mut lanes,
         &mut inlets,
         &registry,
@@ -225,18 +303,76 @@ fn drained_over(
     Ok((report.status, out))
 }
 
+/// A lane that a test shares with a run, so that its calls can be looked at behind the run. It tells none to the run.
+#[derive(Drop)]
+struct SharedLane {
+    lane: Arc<Mutex<MemoryLane>>,
+    faults: u64,
+}
+
+impl SharedLane {
+    /// What the shared lane answers; a lane that somebody else holds has failed.
+    fn answer(&mut self, target: &Target, message: &Message) -> Result<(), SendFault>
+        ensures exists { IsErrOf result SendFault.Exists → may_exist target.now ≡ true }
+        ensures faults { self.new.faults ≡ self.old.faults }
+    {
+        match self.lane.try_lock() {
+            Some(mut lane) => lane.send(target, message),
+            None => Err(SendFault::Failed),
+        }
+    }
+}
+
+impl Endpoint for SharedLane {
+    ghost calls = { λ _. None };
+
+    ghost lane_faults = { λ l. l.faults };
+
+    fn send(&mut self, target: &Target, message: &Message) -> Result<(), SendFault> {
+        let answer = self.answer(target, message);
+        if answer == Err(SendFault::Failed) {
+            self.faults = self.faults.saturating_add(1);
+        }
+        answer
+    }
+}
+
+/// Whether a lane's calls came out as done and then as failed.
+fn are_done_and_failed(calls: &[Call]) -> bool {
+    match calls {
+        [first, second] => {
+            first.outcome == CallOutcome::Done && second.outcome == CallOutcome::Failed
+        }
+        _ => false,
+    }
+}
+
 #[test]
 fn a_lane_that_fails_fails_its_exchange_alone(rt: HostRuntime) -> Result<(), Fail> {
     let alloc = rt.alloc();
-    let lane = MemoryLane::new(alloc, vec![in alloc; 2]?);
+    let kept = MemoryLane::new(alloc, vec![in alloc; 2]?);
+    let shared = Arc::new(alloc, Mutex::new(kept))?;
+    let lane = shared.clone()?;
+    let object = Box::new(alloc, SharedLane { lane, faults: 0 })?;
+    let name = Text::of_str(alloc, "lane:x")?;
     let source = MemorySource::new(alloc, two_lines(alloc)?, Vec::new(alloc));
-    let ending = drained_over(alloc, files_with(alloc, SENT)?, lane, source)?;
+    let ending = drained_to(
+        alloc,
+        files_with(alloc, SENT)?,
+        Lane { name, object },
+        source,
+    )?;
     assert!(rt;
         came(
             &ending,
             0,
             "log 1 o: a\nexchange 1 source route1 completed\nexchange 2 source route1 failed SendFailed \"lane:x\"\naccepted 2 refused 0\ntotal 2 completed 1 handled 0 failed 1 waiting 0\ndrained\n"
         )
+    );
+    assert!(rt;
+        shared
+            .try_lock()
+            .is_some_and(|lane| are_done_and_failed(lane.calls()))
     );
     Ok(())
 }
@@ -297,4 +433,259 @@ fn long_file(alloc: Global) -> Result<MemoryFiles, NoMemory> {
     let mut content = Vec::new(alloc);
     content.push((folder, name, Series::of(bytes)))?;
     Ok(MemoryFiles::new(alloc, content, Vec::new(alloc)))
+}
+
+/// The line `1` with this body.
+fn one_line(alloc: Global, body: &str) -> Result<Vec<(Text, Series<Pulled>)>, NoMemory>
+    ensures { IfOk result (λ v. AreNew v.items) }
+{
+    let mut items = Vec::new(alloc);
+    items.push(Pulled::Item {
+        item: Text::of_str(alloc, "1")?,
+        message: Message::of_body(alloc, Text::of_str(alloc, body)?),
+    })?;
+    let mut pairs = Vec::new(alloc);
+    pairs.push((Text::of_str(alloc, "stream:in")?, Series::of(items)))?;
+    Ok(pairs)
+}
+
+/// A route file of one route from standard input with these steps.
+fn route_of(alloc: Global, steps: &str) -> Result<String, NoMemory> {
+    let mut file = String::from_str(alloc, "[{\"from\":{\"uri\":\"stream:in\",\"steps\":")?;
+    file.push_str(steps)?;
+    file.push_str("}}]")?;
+    Ok(file)
+}
+
+/// Drains a line through these steps, and gives the status and the sink.
+fn stepped(alloc: Global, steps: &str, body: &str) -> Result<(u8, MemorySink), NoMemory> {
+    let file = route_of(alloc, steps)?;
+    drained(
+        alloc,
+        "r.json",
+        file.as_str(),
+        one_line(alloc, body)?,
+        Vec::new(alloc),
+    )
+}
+
+/// What stands in the book of one exchange behind its line, by how many completed and failed.
+const COMPLETED: &str =
+    "accepted 1 refused 0\ntotal 1 completed 1 handled 0 failed 0 waiting 0\ndrained\n";
+
+const FAILED: &str =
+    "accepted 1 refused 0\ntotal 1 completed 0 handled 0 failed 1 waiting 0\ndrained\n";
+
+/// Steps, a line, what is printed before the totals, and the totals.
+const STEPPED: [(&str, &str, &str, &str); 9] = [
+    (
+        "[{\"setHeader\":{\"name\":\"n\",\"constant\":9}},{\"log\":\"${header.N}\"}]",
+        "x",
+        "log 1 route1: 9\nexchange 1 source route1 completed\n",
+        COMPLETED,
+    ),
+    (
+        "[{\"setHeader\":{\"name\":\"n\",\"constant\":true}},{\"remove-header\":\"N\"},{\"log\":\"<${header.n}>\"}]",
+        "x",
+        "log 1 route1: <>\nexchange 1 source route1 completed\n",
+        COMPLETED,
+    ),
+    (
+        "[{\"setProperty\":{\"name\":\"p\",\"simple\":\"${body}!\"}},{\"setBody\":{\"exchangeProperty\":\"p\"}},{\"to\":\"log:o\"}]",
+        "x",
+        "log 1 o: x!\nexchange 1 source route1 completed\n",
+        COMPLETED,
+    ),
+    (
+        "[{\"log\":{\"message\":\"${exchangeId} ${routeId} ${body}\",\"logName\":\"named\"}}]",
+        "x",
+        "log 1 named: 1 route1 x\nexchange 1 source route1 completed\n",
+        COMPLETED,
+    ),
+    (
+        "[{\"setBody\":{\"constant\":\"a\\tb\\n\\\"\"}},{\"to\":\"log:o\"}]",
+        "x",
+        "log 1 o: a\\x09b\\n\"\nexchange 1 source route1 completed\n",
+        COMPLETED,
+    ),
+    (
+        "[{\"throwException\":{\"exceptionType\":\"acme.Bad\",\"message\":\"no ${body}\"}},{\"to\":\"log:o\"}]",
+        "a",
+        "exchange 1 source route1 failed Bad \"no a\"\n",
+        FAILED,
+    ),
+    (
+        "[{\"throwException\":{\"exceptionType\":\"Bad\",\"message\":\"say \\\"${body}\\\"\"}}]",
+        "a",
+        "exchange 1 source route1 failed Bad \"say \\\"a\\\"\"\n",
+        FAILED,
+    ),
+    (
+        "[{\"setBody\":{\"header\":\"none\"}},{\"log\":\"<${body}>\"}]",
+        "a",
+        "log 1 route1: <>\nexchange 1 source route1 completed\n",
+        COMPLETED,
+    ),
+    (
+        "[{\"setBody\":{\"simple\":\"${exception.message}\"}},{\"log\":\"<${body}>\"}]",
+        "a",
+        "log 1 route1: <>\nexchange 1 source route1 completed\n",
+        COMPLETED,
+    ),
+];
+
+#[test]
+fn simple_steps_do_what_they_mean(rt: HostRuntime) -> Result<(), Fail> {
+    let alloc = rt.alloc();
+    for (steps, body, front, totals) in STEPPED {
+        let ending = stepped(alloc, steps, body)?;
+        let mut text = String::from_str(alloc, front)?;
+        text.push_str(totals)?;
+        assert!(rt; came(&ending, 0, text.as_str()));
+    }
+    Ok(())
+}
+
+/// So many times this text.
+fn repeated(alloc: Global, text: &str, times: usize) -> Result<String, NoMemory> {
+    let mut out = String::new(alloc);
+    for _ in 0..times {
+        out.push_str(text)?;
+    }
+    Ok(out)
+}
+
+#[test]
+fn a_body_of_more_than_its_bytes_fails(rt: HostRuntime) -> Result<(), Fail> {
+    let alloc = rt.alloc();
+    let steps = "[{\"setBody\":{\"simple\":\"${body}${body}\"}}]";
+    let longest = stepped(alloc, steps, repeated(alloc, "x", 32_768)?.as_str())?;
+    let longer = stepped(alloc, steps, repeated(alloc, "x", 32_769)?.as_str())?;
+    assert!(rt;
+        came(
+            &longest,
+            0,
+            "exchange 1 source route1 completed\naccepted 1 refused 0\ntotal 1 completed 1 handled 0 failed 0 waiting 0\ndrained\n"
+        )
+    );
+    assert!(rt;
+        came(
+            &longer,
+            0,
+            "exchange 1 source route1 failed TooLong \"\"\naccepted 1 refused 0\ntotal 1 completed 0 handled 0 failed 1 waiting 0\ndrained\n"
+        )
+    );
+    Ok(())
+}
+
+/// Steps that set the headers `h1` to `hN`.
+fn headers_to(alloc: Global, count: u64) -> Result<String, NoMemory> {
+    let mut steps = String::from_str(alloc, "[")?;
+    for number in 1..count {
+        steps.push_str("{\"setHeader\":{\"name\":\"h")?;
+        steps.push_str(decimal(alloc, number)?.as_str())?;
+        steps.push_str("\",\"constant\":1}},")?;
+    }
+    steps.push_str("{\"setHeader\":{\"name\":\"h")?;
+    steps.push_str(decimal(alloc, count)?.as_str())?;
+    steps.push_str("\",\"constant\":1}}]")?;
+    Ok(steps)
+}
+
+#[test]
+fn the_sixty_fifth_header_fails(rt: HostRuntime) -> Result<(), Fail> {
+    let alloc = rt.alloc();
+    let most = stepped(alloc, headers_to(alloc, 64)?.as_str(), "x")?;
+    let more = stepped(alloc, headers_to(alloc, 65)?.as_str(), "x")?;
+    assert!(rt;
+        came(
+            &most,
+            0,
+            "exchange 1 source route1 completed\naccepted 1 refused 0\ntotal 1 completed 1 handled 0 failed 0 waiting 0\ndrained\n"
+        )
+    );
+    assert!(rt;
+        came(
+            &more,
+            0,
+            "exchange 1 source route1 failed TooManyHeaders \"h65\"\naccepted 1 refused 0\ntotal 1 completed 0 handled 0 failed 1 waiting 0\ndrained\n"
+        )
+    );
+    Ok(())
+}
+
+/// Steps that no drain runs, and what is told.
+const REFUSED: [(&str, &str); 2] = [
+    (
+        "[{\"filter\":{\"simple\":\"${body} == 'x'\",\"steps\":[{\"shout\":\"y\"}]}}]",
+        "error routes $[0].from.steps[0].filter.steps[0] UnknownStep shout\n",
+    ),
+    (
+        "[{\"filter\":{\"simple\":\"${body} == 'x'\",\"steps\":[]}}]",
+        "error routes $ NotBuilt\n",
+    ),
+];
+
+#[test]
+fn routes_that_are_wrong_or_not_run_are_refused(rt: HostRuntime) -> Result<(), Fail> {
+    let alloc = rt.alloc();
+    for (steps, text) in REFUSED {
+        let ending = stepped(alloc, steps, "x")?;
+        assert!(rt; came(&ending, 1, text));
+    }
+    Ok(())
+}
+
+/// Checks this route file without lanes and with the inlet `stream`, and gives the status and the sink.
+fn checked(alloc: Global, routes: &str) -> Result<(u8, MemorySink), NoMemory> {
+    let mut words = Vec::new(alloc);
+    words.push(Text::of_str(alloc, "check")?)?;
+    words.push(Text::of_str(alloc, "r.json")?)?;
+    let mut files = files_with(alloc, routes)?;
+    let mut lanes: Vec<Lane> = Vec::new(alloc);
+    let mut inlets: Vec<Inlet> = Vec::new(alloc);
+    let object = Box::new(
+        alloc,
+        MemorySource::new(alloc, Vec::new(alloc), Vec::new(alloc)),
+    )?;
+    let name = Text::of_str(alloc, "stream")?;
+    inlets.push(Inlet { name, object })?;
+    let mut out = MemorySink::new(alloc, Vec::new(alloc));
+    let mut patterns = CratePatterns::new(Vec::new(alloc));
+    let report = run(
+        alloc,
+        &words,
+        &mut files,
+        &mut patterns,
+        &mut lanes,
+        &mut inlets,
+        &Registry::new(),
+        &mut out,
+    );
+    Ok((report.status, out))
+}
+
+/// Route files and what their check prints.
+const CHECKED: [(&str, u8, &str); 3] = [
+    (
+        "[{\"route\":{\"id\":\"r\",\"from\":{\"uri\":\"stream:in\"},\"steps\":[{\"set-body\":{\"constant\":\"x\"}},{\"recipient-list\":{\"simple\":\"${headers.to}\"}}]}}]",
+        0,
+        "[{\"route\":{\"from\":{\"steps\":[{\"setBody\":{\"constant\":\"x\"}},{\"recipientList\":{\"simple\":\"${header.to}\"}}],\"uri\":\"stream:in\"},\"id\":\"r\"}}]\n",
+    ),
+    (
+        "[{\"route\":{\"id\":\"r\",\"from\":{\"uri\":\"stream:in\"},\"steps\":[{\"setBody\":{\"constant\":\"x\"}},{\"recipientList\":{\"simple\":\"${header.to}\"}}]}}]",
+        0,
+        "[{\"route\":{\"from\":{\"steps\":[{\"setBody\":{\"constant\":\"x\"}},{\"recipientList\":{\"simple\":\"${header.to}\"}}],\"uri\":\"stream:in\"},\"id\":\"r\"}}]\n",
+    ),
+    ("{}", 1, "error routes $ WrongKind\n"),
+];
+
+#[test]
+fn a_check_prints_the_canonical_text_or_the_first_fault(rt: HostRuntime) -> Result<(), Fail> {
+    let alloc = rt.alloc();
+    for (routes, status, text) in CHECKED {
+        let ending = checked(alloc, routes)?;
+        assert!(rt; came(&ending, status, text));
+    }
+    Ok(())
 }

@@ -6,7 +6,7 @@ use Rattle.eip_run.proofs.Ending.{Begins, ran-to, told-along}
 use Rattle.eip_run.proofs.run.drain.Goals as goal
 
 pub returns-in_default : goal.returns-in_default
-returns-in_default g c = NotBegun _ c.new-in_default.ensures.past refl refl c.tell_memory-outcome.ensures
+returns-in_default g c = NotBegun _ (record { workers = c.new-in_default.ensures.workers; turns = c.new-in_default.ensures.turns; past = c.new-in_default.ensures.past }) refl refl c.tell_memory-outcome.ensures
 
 pub drain_alone-stop-requires-clause-home : goal.drain_alone-stop-requires-clause-home
 drain_alone-stop-requires-clause-home g c = none-out c.in-Ok.hub c.in-Ok.ensures.past

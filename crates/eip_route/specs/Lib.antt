@@ -1,0 +1,5 @@
+pub mod Built
+pub mod Nest
+pub mod Faults
+pub mod Goals
+pub mod Valid

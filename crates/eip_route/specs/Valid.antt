@@ -1,0 +1,174 @@
+-- The sets that can be run: what a route file gives.
+use Rattle.std.specs.Prelude.{◌≡◌, ◌<◌, ℕ, Bool, true, false, not, ◌||◌, ◌&&◌, ◌==◌, nat_le, nat_eq, length, List, [], ◌∷◌, ◌++◌, Option, Some, None, is_some, codes, bytes_eq, All, count_by}
+use Rattle.std.specs.List.{list_all}
+use Rattle.eip_exchange.specs.declared.setting.Clause.{Clause}
+use Rattle.eip_exchange.specs.declared.setting.How.{How}
+use Rattle.eip_exchange.specs.declared.setting.How.TheVariants as how
+use Rattle.eip_exchange.specs.declared.setting.Policy.{Policy}
+use Rattle.eip_exchange.specs.declared.setting.Strategy.{Strategy}
+use Rattle.eip_exchange.specs.declared.setting.Strategy.TheVariants as strategy
+use Rattle.eip_text.specs.Names.{is_name, is_alphanumeric}
+use Rattle.eip_uri.specs.Inlets.{inlet_of}
+use Rattle.eip_uri.specs.Ranges.{is_uri, is_between}
+use Rattle.eip_uri.specs.Sides.{is_consumer, is_producer}
+use Rattle.eip_uri.specs.declared.uri.Uri.{Uri}
+use Rattle.eip_uri.specs.declared.uri.Uri.TheVariants as uri
+use Rattle.eip_route.specs.Faults.{set_fault, outer_numbers, steps_numbers}
+use Rattle.eip_route.specs.Goals.{is_among, lane_of}
+use Rattle.eip_route.specs.Nest.{own_repository}
+use Rattle.eip_route.specs.declared.route.Block.{Block}
+use Rattle.eip_route.specs.declared.route.Handler.{Handler}
+use Rattle.eip_route.specs.declared.route.Names.{Names}
+use Rattle.eip_route.specs.declared.route.Route.{Route}
+use Rattle.eip_route.specs.declared.route.RouteSet.{RouteSet}
+use Rattle.eip_route.specs.declared.step.Aggregate.{Aggregate}
+use Rattle.eip_route.specs.declared.step.Check.{Check}
+use Rattle.eip_route.specs.declared.step.Check.TheVariants as check
+use Rattle.eip_route.specs.declared.step.Expr.{Expr}
+use Rattle.eip_route.specs.declared.step.Expr.TheVariants as expr
+use Rattle.eip_route.specs.declared.step.Fan.{Fan}
+use Rattle.eip_route.specs.declared.step.Step.{Step}
+use Rattle.eip_route.specs.declared.step.Step.TheVariants as step
+
+-- ---- ranges
+
+-- within the range, where it is given
+abbrev pub is_given_between : ℕ → ℕ → Option ℕ → Bool
+is_given_between low high None = true
+is_given_between low high (Some n) = is_between low high n
+
+abbrev pub is_policy : Policy → Bool
+is_policy p = (is_given_between 0 1000 p.maximum && is_given_between 0 1000000000 p.delay) && (is_given_between 1 100 p.multiplier && is_given_between 0 1000000000 p.greatest)
+
+abbrev pub is_filled : {A : Type 0} → List A → Bool
+is_filled xs = nat_le 1 (length xs)
+
+-- a byte that may stand in a kind of fault
+abbrev pub is_kind_byte : ℕ → Bool
+is_kind_byte b = is_alphanumeric b || ((b == 95) || ((b == 45) || (b == 36)))
+
+-- a kind of fault that a step may raise: 1 to 64 ASCII letters, digits, `_`, `-` and `$`
+unfoldable pub is_kind : List ℕ → Bool
+is_kind bs = (nat_le 1 (length bs) && nat_le (length bs) 64) && list_all is_kind_byte bs
+
+abbrev pub is_given_name : Option (List ℕ) → Bool
+is_given_name None = true
+is_given_name (Some name) = is_name name
+
+abbrev pub is_expr : Expr → Bool
+is_expr (expr.Simple template) = true
+is_expr (expr.Constant text) = true
+is_expr (expr.Header name) = is_name name
+is_expr (expr.Property name) = is_name name
+
+abbrev pub is_token : How → Bool
+is_token (how.Token token) = is_filled token
+is_token how.JsonArray = true
+
+-- the parent's handlers are never shared yet
+abbrev pub is_fan : Fan → Bool
+is_fan fan = not fan.share
+
+-- a group takes its messages as they come: there is none before the first
+abbrev pub is_group_strategy : Strategy → Bool
+is_group_strategy strategy.Original = false
+is_group_strategy strategy.Latest = true
+is_group_strategy (strategy.Joined between) = true
+is_group_strategy strategy.Grouped = true
+is_group_strategy strategy.Sum = true
+
+-- a group is closed by something
+abbrev pub is_completed : Aggregate → Bool
+is_completed a = (is_some a.size || is_some a.timeout) || (is_some a.predicate || a.force)
+
+abbrev pub is_aggregate : Aggregate → Bool
+is_aggregate a = ((is_expr a.key && is_group_strategy a.strategy) && (is_given_between 1 1000000 a.size && is_given_between 1 1000000000 a.timeout)) && is_completed a
+
+-- a repository that is named, or the own one of the block
+abbrev pub is_repository : ℕ → List ℕ → Bool
+is_repository b repository = is_name repository || bytes_eq repository (own_repository b)
+
+-- ---- what is handed in
+
+-- the lane of a target
+abbrev pub has_lane : Names → Uri → Bool
+has_lane names (uri.File folder after failed exist) = is_among (codes "file") names.lanes
+has_lane names (uri.Line host port) = is_among (codes "line") names.lanes
+has_lane names (uri.Lane name) = is_among (lane_of name) names.lanes
+has_lane names _ = true
+
+abbrev pub is_given_among : Option (List ℕ) → List (List ℕ) → Bool
+is_given_among None names = true
+is_given_among (Some name) names = is_among name names
+
+-- an endpoint at `from`, with its inlet
+abbrev pub is_source : Names → Uri → Bool
+is_source names u = (is_uri u && is_consumer u) && is_given_among (inlet_of u) names.inlets
+
+-- an endpoint at `to`, with its lane
+abbrev pub is_target : Names → Uri → Bool
+is_target names u = (is_uri u && is_producer u) && has_lane names u
+
+-- a dead letter channel's endpoint, where there is one
+abbrev pub is_dead : Names → Option Uri → Bool
+is_dead names None = true
+is_dead names (Some u) = is_target names u
+
+abbrev pub is_check : Names → Check → Bool
+is_check names (check.Simple predicate) = true
+is_check names (check.Fixed flag) = true
+is_check names (check.Stored name) = is_among name names.predicates
+
+abbrev pub are_cases : Names → List (Check × ℕ) → Bool
+are_cases names [] = true
+are_cases names (c ∷ cs) = is_check names c.0 && are_cases names cs
+
+-- ---- steps, and what holds them
+
+-- the flags `eager` and `remove` can only be set
+abbrev pub is_step : Names → Step → Bool
+is_step names (step.SetBody value) = is_expr value
+is_step names (step.SetHeader name value) = is_name name && is_expr value
+is_step names (step.SetProperty name value) = is_name name && is_expr value
+is_step names (step.RemoveHeader name) = is_name name
+is_step names (step.To u) = is_target names u
+is_step names (step.Log name message) = is_given_name name
+is_step names (step.Throw kind message) = is_kind kind
+is_step names (step.Process name) = is_among name names.processors
+is_step names (step.Choice cases otherwise) = is_filled cases && are_cases names cases
+is_step names (step.Filter check b) = is_check names check
+is_step names (step.Split how fan b) = is_token how && is_fan fan
+is_step names (step.Multicast fan bs) = is_filled bs && is_fan fan
+is_step names (step.Recipients addresses delimiter fan) = (is_expr addresses && is_filled delimiter) && is_fan fan
+is_step names (step.Aggregate a) = is_aggregate a
+is_step names (step.Idempotent key repository skip eager remove b) = (is_expr key && is_repository b repository) && (eager && remove)
+
+abbrev pub are_steps : Names → List Step → Bool
+are_steps names [] = true
+are_steps names (s ∷ ss) = is_step names s && are_steps names ss
+
+abbrev pub is_route : Names → Route → Bool
+is_route names r = is_name r.id && is_source names r.from
+
+abbrev pub is_handler : Names → Handler → Bool
+is_handler names h = is_dead names h.dead && is_policy h.policy
+
+abbrev pub is_clause : Clause → Bool
+is_clause c = is_filled c.names && is_policy c.policy
+
+-- the numbers of all blocks, by the places at which they stand
+abbrev pub blocks_numbers : List Block → List ℕ
+blocks_numbers [] = []
+blocks_numbers (b ∷ bs) = steps_numbers b.steps ++ blocks_numbers bs
+
+abbrev pub places : RouteSet → List ℕ
+places s = outer_numbers s ++ blocks_numbers s.blocks
+
+pub record IsValid (s : RouteSet) : Type 0 where
+  pub checked : set_fault s ≡ None
+  pub routes : All (λ r. is_route s.names r ≡ true) s.routes
+  pub handler : is_handler s.names s.handler ≡ true
+  pub clauses : All (λ c. is_clause c ≡ true) s.clauses
+  pub blocks : All (λ b. are_steps s.names b.steps ≡ true) s.blocks
+  -- each block stands in exactly one place
+  pub placed : (n : ℕ) → n < length s.blocks → count_by (nat_eq n) (places s) ≡ 1

@@ -1,0 +1,12 @@
+use Rattle.eip_text.specs.Json.{items_json}
+use Rattle.eip_route_file.proofs.Filed.{file_many, file_list}
+use Rattle.eip_route_file.proofs.file.find_in_file.Goals as goal
+
+pub returns-in_ok-fault-in-Some : goal.returns-in_ok-fault-in-Some
+returns-in_ok-fault-in-Some g c =
+    file_many c.args.names.now (items_json c.args.items.now) c.many_routes-many.result c.in-Some.cause c.in_ok-fault-in-Some.fault (g.P.Patterns.pattern_faults c.args.patterns.now) c.args.known.now
+    c.many_routes-many.ensures c.in-Some.is c.in_ok-fault-in-Some.ensures
+
+pub returns-in_ok-found-in-None : goal.returns-in_ok-found-in-None
+returns-in_ok-found-in-None g c =
+    file_list c.args.names.now (items_json c.args.items.now) c.many_routes-many.result _ _ _ _ _ c.many_routes-many.ensures c.in-None.is c.in_ok-found-in-None.ensures

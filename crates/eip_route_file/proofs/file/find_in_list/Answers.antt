@@ -1,0 +1,8 @@
+use Rattle.eip_route_file.proofs.Filed.{file_item, file_later}
+use Rattle.eip_route_file.proofs.file.find_in_list.Goals as goal
+
+pub returns-in-Some : goal.returns-in-Some
+returns-in-Some g c = file_item _ _ c.in_ok-found.found c.in-Some.fault _ _ _ _ c.in_ok-found.ensures c.in-Some.is
+
+pub returns-in_ok-later-in-None : goal.returns-in_ok-later-in-None
+returns-in_ok-later-in-None g c = file_later _ _ c.in_ok-found.found _ _ _ _ _ c.in_ok-found.ensures c.in-None.is c.in_ok-later-in-None.ensures

@@ -1,0 +1,12 @@
+use Rattle.std.proofs.Common.{None, Some, refl}
+use Rattle.eip_text.specs.Json.{json, items_json}
+use Rattle.eip_route_file.proofs.Filed.{whole_wrong, whole_walks}
+use Rattle.eip_route_file.proofs.file.find_whole.Goals as goal
+
+pub returns-in_ok-fault-in-None : goal.returns-in_ok-fault-in-None
+returns-in_ok-fault-in-None g c =
+    whole_wrong c.args.names.now (json c.args.tree.now) None c.in_ok-fault-in-None.fault (g.P.Patterns.pattern_faults c.args.patterns.now) c.args.known.now c.in-None.ensures refl c.in_ok-fault-in-None.ensures
+
+pub returns-in_ok-found-in-Some : goal.returns-in_ok-found-in-Some
+returns-in_ok-found-in-Some g c =
+    whole_walks c.args.names.now (json c.args.tree.now) (Some (items_json c.in-Some.items.now)) (items_json c.in-Some.items.now) _ _ _ _ _ c.in-Some.ensures refl c.in_ok-found-in-Some.ensures

@@ -1,0 +1,9 @@
+use Rattle.std.proofs.Common.{◌≡◌, drop}
+use Rattle.eip_text.specs.Json.{items_json}
+use Rattle.eip_route.specs.Nest.{flat_clauses}
+use Rattle.eip_route_json.specs.Sets.{clauses_of}
+use Rattle.eip_route_json.proofs.Appended.{with_clauses}
+use Rattle.eip_route_json.proofs.sets.build_clauses.Given as goal
+
+abbrev pub invariant-loop-item : goal.invariant-loop-item
+invariant-loop-item l = flat_clauses 0 (clauses_of (items_json l.items)) ≡ with_clauses l.clauses.items l.blocks.items (flat_clauses l.n (clauses_of (items_json (drop l.item-index l.items))))

@@ -1,0 +1,304 @@
+-- The canonical route file of a set: keys in camelCase and in byte order, what has its default left out.
+use Rattle.std.specs.Prelude.{ℕ, pos, Bool, true, false, cond, bytes_eq, List, [], ◌∷◌, ◌++◌, Option, Some, None, codes}
+use Rattle.eip_exchange.specs.declared.setting.How.{How}
+use Rattle.eip_exchange.specs.declared.setting.How.TheVariants as how
+use Rattle.eip_exchange.specs.declared.setting.Policy.{Policy}
+use Rattle.eip_exchange.specs.declared.setting.Strategy.{Strategy}
+use Rattle.eip_exchange.specs.declared.setting.Strategy.TheVariants as strategy
+use Rattle.eip_simple_read.specs.Spelling.{template_text, predicate_text}
+use Rattle.eip_simple_read.specs.declared.tree.Predicate.{Predicate}
+use Rattle.eip_simple_read.specs.declared.tree.Template.{Template}
+use Rattle.eip_text.specs.Json.{Json, flag, whole, word, list, object, items_of, members_of}
+use Rattle.eip_text.specs.JsonText.{json_text}
+use Rattle.eip_uri.specs.Printed.{printed}
+use Rattle.eip_uri.specs.declared.uri.Uri.{Uri}
+use Rattle.eip_route.specs.Nest.{Gathering, NestedStep, NestedSteps, NestedCases, NestedLast, NestedClause, NestedRoute, NestedSet, sets_body, sets_header, sets_property, removes_header, goes_to, logs, throws, processes, chooses, filters, splits, multicasts, sends_to_list, aggregates, runs_once, none, more, no_case, more_case, no_last, last, un_set}
+use Rattle.eip_route.specs.declared.route.Handler.{Handler}
+use Rattle.eip_route.specs.declared.route.RouteSet.{RouteSet}
+use Rattle.eip_route.specs.declared.step.Check.{Check}
+use Rattle.eip_route.specs.declared.step.Check.TheVariants as check
+use Rattle.eip_route.specs.declared.step.Expr.{Expr}
+use Rattle.eip_route.specs.declared.step.Expr.TheVariants as expr
+use Rattle.eip_route.specs.declared.step.Fan.{Fan}
+
+-- ---- the members of an object, in their order
+
+abbrev pub Pairs : Type 0
+Pairs = List (List ℕ × Json)
+
+abbrev pub object_of : Pairs → Json
+object_of ms = object (members_of ms)
+
+abbrev pub list_of : List Json → Json
+list_of js = list (items_of js)
+
+abbrev pub one : List ℕ → Json → Pairs
+one k j = (k, j) ∷ []
+
+-- an object of one member
+abbrev pub alone : List ℕ → Json → Json
+alone k j = object_of (one k j)
+
+-- a flag whose default is false, and one whose default is true
+abbrev pub where_set : List ℕ → Bool → Pairs
+where_set k b = cond b (one k (flag true)) []
+
+abbrev pub where_unset : List ℕ → Bool → Pairs
+where_unset k b = cond b [] (one k (flag false))
+
+-- what is given
+abbrev pub given_word : List ℕ → Option (List ℕ) → Pairs
+given_word k None = []
+given_word k (Some w) = one k (word w)
+
+abbrev pub given_number : List ℕ → Option ℕ → Pairs
+given_number k None = []
+given_number k (Some n) = one k (whole (pos n))
+
+abbrev pub is_none : Pairs → Bool
+is_none [] = true
+is_none (m ∷ ms) = false
+
+-- an object, where it has a member
+abbrev pub where_any : List ℕ → Pairs → Pairs
+where_any k [] = []
+where_any k (m ∷ ms) = one k (object_of (m ∷ ms))
+
+-- ---- what steps are made of
+
+-- an expression's one member: a constant, a header or property, or a template
+abbrev pub constant_pairs : Expr → Pairs
+constant_pairs (expr.Constant text) = one (codes "constant") (word text)
+constant_pairs _ = []
+
+abbrev pub named_pairs : Expr → Pairs
+named_pairs (expr.Header name) = one (codes "header") (word name)
+named_pairs (expr.Property name) = one (codes "exchangeProperty") (word name)
+named_pairs _ = []
+
+abbrev pub simple_pairs : Expr → Pairs
+simple_pairs (expr.Simple template) = one (codes "simple") (word (template_text template))
+simple_pairs _ = []
+
+abbrev pub expr_pairs : Expr → Pairs
+expr_pairs e = constant_pairs e ++ named_pairs e ++ simple_pairs e
+
+abbrev pub check_pairs : Check → Pairs
+check_pairs (check.Simple predicate) = one (codes "simple") (word (predicate_text predicate))
+check_pairs (check.Fixed b) = one (codes "constant") (flag b)
+check_pairs (check.Stored name) = one (codes "ref") (word name)
+
+-- the delimiter of a joined strategy and of a list where none is given
+unfoldable pub is_comma : List ℕ → Bool
+is_comma d = bytes_eq d (codes ",")
+
+abbrev pub joined_text : List ℕ → List ℕ
+joined_text between = cond (is_comma between) (codes "joined") (codes "joined:" ++ between)
+
+unfoldable pub strategy_text : Strategy → List ℕ
+strategy_text strategy.Original = codes "original"
+strategy_text strategy.Latest = codes "latest"
+strategy_text (strategy.Joined between) = joined_text between
+strategy_text strategy.Grouped = codes "grouped"
+strategy_text strategy.Sum = codes "sum"
+
+abbrev pub this_strategy : Strategy → Pairs
+this_strategy s = one (codes "aggregationStrategy") (word (strategy_text s))
+
+abbrev pub strategy_pairs : Option Strategy → Pairs
+strategy_pairs None = []
+strategy_pairs (Some s) = this_strategy s
+
+-- of an aggregator, whose default is the latest message
+abbrev pub group_pairs : Strategy → Pairs
+group_pairs strategy.Latest = []
+group_pairs s = this_strategy s
+
+abbrev pub predicate_pairs : Option Predicate → Pairs
+predicate_pairs None = []
+predicate_pairs (Some p) = one (codes "completionPredicate") (alone (codes "simple") (word (predicate_text p)))
+
+abbrev pub delimiter_pairs : List ℕ → Pairs
+delimiter_pairs d = cond (is_comma d) [] (one (codes "delimiter") (word d))
+
+abbrev pub json_path : How → Pairs
+json_path (how.Token token) = []
+json_path how.JsonArray = one (codes "jsonpath") (word (codes "$[*]"))
+
+abbrev pub token_pairs : How → Pairs
+token_pairs (how.Token token) = one (codes "tokenize") (word token)
+token_pairs how.JsonArray = []
+
+abbrev pub backing_pairs : Option Bool → Pairs
+backing_pairs None = []
+backing_pairs (Some b) = one (codes "useExponentialBackOff") (flag b)
+
+unfoldable pub policy_pairs : Policy → Pairs
+policy_pairs p = given_number (codes "backOffMultiplier") p.multiplier
+    ++ given_number (codes "maximumRedeliveries") p.maximum
+    ++ given_number (codes "maximumRedeliveryDelay") p.greatest
+    ++ given_number (codes "redeliveryDelay") p.delay
+    ++ backing_pairs p.backing_off
+
+-- a policy, where it gives an attribute
+abbrev pub policy_in : Policy → Pairs
+policy_in p = where_any (codes "redeliveryPolicy") (policy_pairs p)
+
+-- ---- the steps, each by its own parts and the JSON values of what is nested in it
+
+unfoldable pub set_body_json : Expr → Json
+set_body_json e = alone (codes "setBody") (object_of (expr_pairs e))
+
+-- of `setHeader` or `setProperty`
+unfoldable pub named_value_json : List ℕ → List ℕ → Expr → Json
+named_value_json key name e = alone key (object_of (constant_pairs e ++ named_pairs e ++ one (codes "name") (word name) ++ simple_pairs e))
+
+unfoldable pub log_json : Option (List ℕ) → Template → Json
+log_json None message = alone (codes "log") (word (template_text message))
+log_json (Some name) message = alone (codes "log") (object_of (one (codes "logName") (word name) ++ one (codes "message") (word (template_text message))))
+
+unfoldable pub throw_json : List ℕ → Template → Json
+throw_json kind message = alone (codes "throwException") (object_of (one (codes "exceptionType") (word kind) ++ one (codes "message") (word (template_text message))))
+
+-- a step that is written as a text
+abbrev pub text_json : List ℕ → List ℕ → Json
+text_json key text = alone key (word text)
+
+-- of a `filter` and of a case of a choice
+unfoldable pub guarded_json : Check → Json → Json
+guarded_json check steps = object_of (check_pairs check ++ one (codes "steps") steps)
+
+unfoldable pub choice_json : Pairs → Json → Json
+choice_json otherwise cases = alone (codes "choice") (object_of (otherwise ++ one (codes "when") cases))
+
+unfoldable pub split_json : How → Fan → Json → Json
+split_json how fan steps = alone (codes "split") (object_of (strategy_pairs fan.strategy
+    ++ json_path how
+    ++ where_set (codes "parallelProcessing") fan.parallel
+    ++ one (codes "steps") steps
+    ++ where_set (codes "stopOnException") fan.stop
+    ++ token_pairs how))
+
+unfoldable pub multicast_json : Fan → Json → Json
+multicast_json fan steps = alone (codes "multicast") (object_of (strategy_pairs fan.strategy
+    ++ where_set (codes "parallelProcessing") fan.parallel
+    ++ one (codes "steps") steps
+    ++ where_set (codes "stopOnException") fan.stop))
+
+unfoldable pub recipients_json : Expr → List ℕ → Fan → Json
+recipients_json e delimiter fan = alone (codes "recipientList") (object_of (strategy_pairs fan.strategy
+    ++ constant_pairs e
+    ++ delimiter_pairs delimiter
+    ++ named_pairs e
+    ++ where_set (codes "parallelProcessing") fan.parallel
+    ++ simple_pairs e
+    ++ where_set (codes "stopOnException") fan.stop))
+
+unfoldable pub aggregate_json : Gathering → Json → Json
+aggregate_json g steps = alone (codes "aggregate") (object_of (group_pairs g.strategy
+    ++ predicate_pairs g.predicate
+    ++ given_number (codes "completionSize") g.size
+    ++ given_number (codes "completionTimeout") g.timeout
+    ++ one (codes "correlationExpression") (object_of (expr_pairs g.key))
+    ++ where_set (codes "forceCompletionOnStop") g.force
+    ++ one (codes "steps") steps))
+
+unfoldable pub idempotent_json : Expr → Option (List ℕ) → Bool → Bool → Bool → Json → Json
+idempotent_json e name skip eager remove steps = alone (codes "idempotentConsumer") (object_of (constant_pairs e
+    ++ where_unset (codes "eager") eager
+    ++ named_pairs e
+    ++ given_word (codes "idempotentRepository") name
+    ++ where_unset (codes "removeOnFailure") remove
+    ++ simple_pairs e
+    ++ where_unset (codes "skipDuplicate") skip
+    ++ one (codes "steps") steps))
+
+-- the key `otherwise` of a choice
+abbrev pub otherwise_pairs : Option Json → Pairs
+otherwise_pairs None = []
+otherwise_pairs (Some steps) = one (codes "otherwise") (alone (codes "steps") steps)
+
+-- ---- nested
+
+abbrev mutual
+  pub steps_json : NestedSteps → List Json
+  steps_json none = []
+  steps_json (more s ss) = step_json s ∷ steps_json ss
+
+  pub step_json : NestedStep → Json
+  step_json (sets_body e) = set_body_json e
+  step_json (sets_header name e) = named_value_json (codes "setHeader") name e
+  step_json (sets_property name e) = named_value_json (codes "setProperty") name e
+  step_json (removes_header name) = text_json (codes "removeHeader") name
+  step_json (goes_to u) = text_json (codes "to") (printed u)
+  step_json (logs name message) = log_json name message
+  step_json (throws kind message) = throw_json kind message
+  step_json (processes name) = text_json (codes "process") name
+  step_json (chooses cs l) = choice_json (otherwise_pairs (last_json l)) (list_of (cases_json cs))
+  step_json (filters check ss) = alone (codes "filter") (guarded_json check (list_of (steps_json ss)))
+  step_json (splits how fan ss) = split_json how fan (list_of (steps_json ss))
+  step_json (multicasts fan ss) = multicast_json fan (list_of (steps_json ss))
+  step_json (sends_to_list e delimiter fan) = recipients_json e delimiter fan
+  step_json (aggregates g ss) = aggregate_json g (list_of (steps_json ss))
+  step_json (runs_once e name skip eager remove ss) = idempotent_json e name skip eager remove (list_of (steps_json ss))
+
+  pub cases_json : NestedCases → List Json
+  cases_json no_case = []
+  cases_json (more_case check ss cs) = guarded_json check (list_of (steps_json ss)) ∷ cases_json cs
+
+  pub last_json : NestedLast → Option Json
+  last_json no_last = None
+  last_json (last ss) = Some (list_of (steps_json ss))
+
+-- ---- the file
+
+abbrev pub words : List (List ℕ) → List Json
+words [] = []
+words (w ∷ ws) = word w ∷ words ws
+
+abbrev pub steps_pairs : Option Json → Pairs
+steps_pairs None = []
+steps_pairs (Some steps) = one (codes "steps") steps
+
+-- of a clause, by its own parts and its steps
+unfoldable pub clause_json : List (List ℕ) → Policy → Bool → Bool → Option Json → Json
+clause_json names policy handled continued steps = alone (codes "onException") (object_of (where_set (codes "continued") continued
+    ++ one (codes "exception") (list_of (words names))
+    ++ where_set (codes "handled") handled
+    ++ policy_in policy
+    ++ steps_pairs steps))
+
+unfoldable pub route_json : List ℕ → Uri → Json → Json
+route_json id from steps = alone (codes "route") (object_of (
+    one (codes "from") (object_of (one (codes "steps") steps ++ one (codes "uri") (word (printed from))))
+    ++ one (codes "id") (word id)))
+
+-- the default handler stands in the file only where its policy gives an attribute
+abbrev pub default_items : Pairs → List Json
+default_items [] = []
+default_items (m ∷ ms) = alone (codes "errorHandler") (alone (codes "defaultErrorHandler") (object_of (m ∷ ms))) ∷ []
+
+abbrev pub dead_items : Option Uri → Pairs → List Json
+dead_items None policy = default_items policy
+dead_items (Some u) policy = alone (codes "errorHandler") (alone (codes "deadLetterChannel") (object_of (one (codes "deadLetterUri") (word (printed u)) ++ policy))) ∷ []
+
+unfoldable pub handler_items : Handler → List Json
+handler_items h = dead_items h.dead (policy_in h.policy)
+
+abbrev pub clauses_json : List NestedClause → List Json
+clauses_json [] = []
+clauses_json (c ∷ cs) = clause_json c.names c.policy c.handled c.continued (last_json c.steps) ∷ clauses_json cs
+
+abbrev pub routes_json : List NestedRoute → List Json
+routes_json [] = []
+routes_json (r ∷ rs) = route_json r.id r.from (list_of (steps_json r.steps)) ∷ routes_json rs
+
+abbrev pub set_items : NestedSet → List Json
+set_items s = handler_items s.handler ++ clauses_json s.clauses ++ routes_json s.routes
+
+unfoldable pub set_json : RouteSet → Json
+set_json s = list_of (set_items (un_set s))
+
+-- the text of a set's file: compact, with a line feed
+unfoldable pub canonical_text : RouteSet → List ℕ
+canonical_text s = json_text (set_json s) ++ 10 ∷ []

@@ -1,0 +1,4 @@
+pub mod Trees
+pub mod Canonical
+pub mod Seen
+pub mod Named

@@ -1,0 +1,16 @@
+// Prints sets of routes as route files.
+#![tactic(auto)]
+
+mod laws;
+mod nested;
+mod object;
+mod parts;
+mod print;
+#[cfg(test)]
+mod set_tests;
+mod steps;
+#[cfg(test)]
+mod tests;
+
+pub use laws::numbering_law;
+pub use print::print_routes;

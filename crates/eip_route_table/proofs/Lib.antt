@@ -1,0 +1,7 @@
+pub mod Numbers
+pub mod Places
+pub mod Quiet
+pub mod Segments
+pub mod Shapes
+pub mod Sited
+pub mod Walking

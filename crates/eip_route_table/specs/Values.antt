@@ -1,0 +1,204 @@
+-- The rules for texts, numbers and truth values: what is wrong with one.
+use Rattle.std.specs.Prelude.{ℕ, ◌^◌, ℤ, pos, negsuc, Bool, false, not, ◌==◌, ◌&&◌, ◌||◌, nat_le, nat_lt, List, [], ◌∷◌, ◌++◌, length, drop, bytes_eq, codes, Option, Some, None, is_some, unwrap_or, Result, Ok, Err, if◌then◌else◌}
+use Rattle.std.specs.List.{list_all, list_any}
+use Rattle.std.specs.Str.Parse.{starts_with_minus, signed_digits_value}
+use Rattle.eip_text.specs.Cuts.{behind, holds_byte, is_digit}
+use Rattle.eip_text.specs.Names.{is_name, is_alphanumeric}
+use Rattle.eip_exchange.specs.declared.setting.Strategy.{Strategy}
+use Rattle.eip_exchange.specs.declared.setting.Strategy.TheVariants as strategy
+use Rattle.eip_uri.specs.declared.uri.Uri.{Uri}
+use Rattle.eip_uri.specs.declared.uri.Uri.TheVariants as uri
+use Rattle.eip_uri.specs.declared.fault.UriFault.{UriFault}
+use Rattle.eip_uri.specs.declared.fault.UriFault.TheVariants as uri_fault
+use Rattle.eip_uri.specs.Inlets.{inlet_of}
+use Rattle.eip_uri.specs.Options.{is_level}
+use Rattle.eip_uri.specs.Reading.{read}
+use Rattle.eip_uri.specs.Sides.{is_consumer, is_producer}
+use Rattle.eip_simple_read.specs.declared.fault.SimpleFault.{SimpleFault}
+use Rattle.eip_simple_read.specs.declared.fault.SimpleFault.TheVariants as simple_fault
+use Rattle.eip_simple_read.specs.Meaning.{template_of}
+use Rattle.eip_route.specs.declared.route.Names.{Names}
+use Rattle.eip_route_table.specs.declared.fault.Cause.{Cause}
+use Rattle.eip_route_table.specs.declared.fault.Cause.TheVariants as cause
+use Rattle.eip_route_table.specs.declared.table.Rule.{Rule}
+use Rattle.eip_route_table.specs.declared.table.Rule.TheVariants as rule
+
+abbrev pub or_else : {A : Type 0} → Option A → Option A → Option A
+or_else None b = b
+or_else (Some a) b = Some a
+
+-- a cause, unless the test holds
+abbrev pub unless : Bool → Cause → Option Cause
+unless ok c = if ok then None else Some c
+
+-- ---- names
+
+-- a text without the number sign in front
+abbrev pub unhashed : List ℕ → List ℕ
+unhashed w = unwrap_or (behind (codes "#") w) w
+
+abbrev pub name_cause : List ℕ → Option Cause
+name_cause w = unless (is_name w) cause.BadName
+
+abbrev pub is_among : List ℕ → List (List ℕ) → Bool
+is_among name names = list_any (λ n. bytes_eq n name) names
+
+-- what is handed in under this name
+abbrev pub handed_in : List ℕ → List (List ℕ) → Option Cause
+handed_in name names = unless (is_among name names) (cause.NotRegistered name)
+
+-- a Name under which something is handed in
+abbrev pub registered : List ℕ → List (List ℕ) → Option Cause
+registered name names = or_else (name_cause name) (handed_in name names)
+
+-- what stands behind the last dot
+abbrev pub last_segment : List ℕ → List ℕ
+last_segment [] = []
+last_segment (b ∷ bs) = if holds_byte 46 (b ∷ bs) then last_segment bs else b ∷ bs
+
+abbrev pub is_kind_byte : ℕ → Bool
+is_kind_byte c = is_alphanumeric c || ((c == 95) || ((c == 45) || (c == 36)))
+
+-- a kind of fault: 1 to 64 ASCII letters, digits, `_`, `-` and `$`
+unfoldable pub is_kind : List ℕ → Bool
+is_kind bs = (nat_le 1 (length bs) && nat_le (length bs) 64) && list_all is_kind_byte bs
+
+-- ---- endpoints
+
+-- what is wrong with a URI
+abbrev pub uri_cause : UriFault → Option Cause
+uri_cause uri_fault.UnknownScheme = Some cause.UnknownScheme
+uri_cause (uri_fault.BadUri at) = Some (cause.BadUri at)
+uri_cause (uri_fault.UnknownOption name) = Some (cause.UnknownOption name)
+uri_cause (uri_fault.BadOption name) = Some (cause.BadOption name)
+uri_cause (uri_fault.DoubleOption name) = Some (cause.DoubleOption name)
+uri_cause uri_fault.NoMemory = None
+
+-- the lane that messages take to an endpoint, or none where they need none
+abbrev pub lane_of : Uri → Option (List ℕ)
+lane_of (uri.File folder after failed exist) = Some (codes "file")
+lane_of (uri.Line host port) = Some (codes "line")
+lane_of (uri.Lane name) = Some (codes "lane:" ++ name)
+lane_of _ = None
+
+-- a lane or inlet that is needed is handed in
+abbrev pub served : Option (List ℕ) → List (List ℕ) → Option Cause
+served None names = None
+served (Some name) names = handed_in name names
+
+-- a route may begin there
+abbrev pub consumer_cause : Names → Uri → Option Cause
+consumer_cause n u = if is_consumer u then served (inlet_of u) n.inlets else Some cause.NotConsumer
+
+-- messages may go there
+abbrev pub producer_cause : Names → Uri → Option Cause
+producer_cause n u = if is_producer u then served (lane_of u) n.lanes else Some cause.NotProducer
+
+-- a fault of reading, or else of what was read
+abbrev pub read_cause : (Uri → Option Cause) → Result Uri UriFault → Option Cause
+read_cause judge (Ok u) = judge u
+read_cause judge (Err e) = uri_cause e
+
+-- ---- templates
+
+abbrev pub simple_cause : SimpleFault → Option Cause
+simple_cause (simple_fault.BadSimple at) = Some (cause.BadSimple at)
+simple_cause (simple_fault.UnknownFunction at) = Some (cause.UnknownFunction at)
+simple_cause (simple_fault.BadPattern at) = Some (cause.BadPattern at)
+simple_cause (simple_fault.PatternTooLarge at) = Some (cause.PatternTooLarge at)
+simple_cause simple_fault.NoMemory = None
+
+abbrev pub spelled_cause : {A : Type 0} → Result A SimpleFault → Option Cause
+spelled_cause (Ok x) = None
+spelled_cause (Err e) = simple_cause e
+
+-- ---- numbers and truth values
+
+-- one or more decimal digits
+abbrev pub is_numeral : List ℕ → Bool
+is_numeral ds = nat_lt 0 (length ds) && list_all is_digit ds
+
+-- a number of 64 bits with a sign
+abbrev pub is_small : ℤ → Bool
+is_small (pos n) = nat_lt n (2 ^ 63)
+is_small (negsuc n) = nat_lt n (2 ^ 63)
+
+abbrev pub is_whole : List ℕ → Bool
+is_whole bs = is_numeral (if starts_with_minus bs then drop 1 bs else bs) && is_small (signed_digits_value 10 bs)
+
+-- the number that an optional `-` and one or more digits spell, where it has 64 bits
+unfoldable pub whole_of : List ℕ → Option ℤ
+whole_of bs = if is_whole bs then Some (signed_digits_value 10 bs) else None
+
+abbrev pub is_within : ℕ → ℕ → ℤ → Bool
+is_within low high (pos n) = nat_le low n && nat_le n high
+is_within low high (negsuc n) = false
+
+abbrev pub is_count : ℕ → ℕ → Option ℤ → Bool
+is_count low high None = false
+is_count low high (Some z) = is_within low high z
+
+abbrev pub is_true : List ℕ → Bool
+is_true w = bytes_eq w (codes "true")
+
+abbrev pub is_flag : List ℕ → Bool
+is_flag w = is_true w || bytes_eq w (codes "false")
+
+-- ---- strategies
+
+abbrev pub joined_by : Option (List ℕ) → Option Strategy
+joined_by None = None
+joined_by (Some text) = Some (strategy.Joined text)
+
+-- the strategy of this name
+unfoldable pub strategy_of : List ℕ → Option Strategy
+strategy_of w =
+    if bytes_eq w (codes "original") then Some strategy.Original
+    else (if bytes_eq w (codes "latest") then Some strategy.Latest
+    else (if bytes_eq w (codes "joined") then Some (strategy.Joined (codes ","))
+    else (if bytes_eq w (codes "grouped") then Some strategy.Grouped
+    else (if bytes_eq w (codes "sum") then Some strategy.Sum
+    else joined_by (behind (codes "joined:") w)))))
+
+abbrev pub is_strategy : List ℕ → Bool
+is_strategy w = is_some (strategy_of w)
+
+abbrev pub is_group_strategy : List ℕ → Bool
+is_group_strategy w = not (bytes_eq w (codes "original")) && is_strategy w
+
+-- ---- the rules
+
+-- what is wrong with a text, where these names are handed in, and these parameters stand beside it; a predicate is judged where it stands
+abbrev pub word_cause : Names → List (List ℕ × List ℕ) → Rule → List ℕ → Option Cause
+word_cause n ps rule.Word w = None
+word_cause n ps rule.Name w = name_cause w
+word_cause n ps rule.Repository w = name_cause (unhashed w)
+word_cause n ps rule.Processor w = registered (unhashed w) n.processors
+word_cause n ps rule.StoredPredicate w = registered (unhashed w) n.predicates
+word_cause n ps rule.Consumer w = read_cause (consumer_cause n) (read w ps)
+word_cause n ps rule.Producer w = read_cause (producer_cause n) (read w ps)
+word_cause n ps rule.Template w = spelled_cause (template_of w)
+word_cause n ps rule.Predicate w = None
+word_cause n ps rule.Constant w = None
+word_cause n ps rule.Flag w = unless (is_flag w) cause.BadValue
+word_cause n ps rule.OnlyTrue w = unless (is_true w) cause.BadValue
+word_cause n ps (rule.Count low high) w = unless (is_count low high (whole_of w)) cause.BadValue
+word_cause n ps rule.Filled w = unless (nat_lt 0 (length w)) cause.BadValue
+word_cause n ps rule.WholeArray w = unless (bytes_eq w (codes "$[*]")) cause.BadValue
+word_cause n ps rule.Strategy w = unless (is_strategy (unhashed w)) cause.BadValue
+word_cause n ps rule.GroupStrategy w = unless (is_group_strategy (unhashed w)) cause.BadValue
+word_cause n ps rule.ExceptionType w = unless (is_kind (last_segment w)) cause.BadName
+word_cause n ps rule.Level w = unless (is_level w) cause.BadValue
+
+-- what is wrong with a whole number
+abbrev pub whole_cause : Option Rule → ℤ → Option Cause
+whole_cause (Some rule.Constant) z = None
+whole_cause (Some (rule.Count low high)) z = unless (is_within low high z) cause.BadValue
+whole_cause _ z = Some cause.WrongKind
+
+-- what is wrong with a truth value
+abbrev pub flag_cause : Option Rule → Bool → Option Cause
+flag_cause (Some rule.Constant) b = None
+flag_cause (Some rule.Flag) b = None
+flag_cause (Some rule.OnlyTrue) b = unless b cause.BadValue
+flag_cause _ b = Some cause.WrongKind
