@@ -62,7 +62,8 @@ fn routes_have_their_names_and_blocks(rt: HostRuntime) -> Result<(), Fail> {
         ),
     ];
     for (file, expected) in rows {
-        assert_eq!(rt; built(rt.alloc(), file)?, expected);
+        let told = built(rt.alloc(), file)?;
+        assert_eq!(rt; told.as_str(), expected, "of {file}");
     }
     Ok(())
 }
