@@ -435,10 +435,13 @@ fn long_file(alloc: Global) -> Result<MemoryFiles, NoMemory> {
     Ok(MemoryFiles::new(alloc, content, Vec::new(alloc)))
 }
 
-/// The line `1` with this body.
+/// The line `1` with this body, which a source gives only where it has at most 65,536 bytes.
 fn one_line(alloc: Global, body: &str) -> Result<Vec<(Text, Series<Pulled>)>, NoMemory>
     ensures { IfOk result (λ v. AreNew v.items) }
 {
+    if body.len() > 65_536 {
+        return Err(NoMemory);
+    }
     let mut items = Vec::new(alloc);
     items.push(Pulled::Item {
         item: Text::of_str(alloc, "1")?,
