@@ -76,7 +76,7 @@ fn members_in(tree: &Tree) -> &[(Text, Tree)]
 }
 
 /// The id of a route that names none, by its position among the routes, from 1.
-fn own_id(alloc: Global, position: u64) -> Result<Text, NoMemory>
+pub fn own_id(alloc: Global, position: u64) -> Result<Text, NoMemory>
     ensures { IfOk result (λ t. t ≡ spec.own_id position) }
 {
     let mut id = String::from_str(alloc, "route")?;

@@ -6,6 +6,7 @@ pub mod head;
 pub mod later;
 
 pub use file::find_fault;
+pub use head::own_id;
 
 #[cfg(test)]
 mod tests;

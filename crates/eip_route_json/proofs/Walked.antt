@@ -1,6 +1,7 @@
 -- What a walk over a file's places says of the routes that are read.
 use Rattle.std.proofs.Common.{◌≡◌, ◌⊎◌, ℕ, Bool, true, false, cond, List, Option, Some, None, Result, Ok, Err, refl, sym, ap, subst, ◌∙◌, inl, inr, codes}
 use Rattle.eip_text.specs.Json.{json_read}
+use Rattle.eip_route.specs.Valid.{IsValid}
 use Rattle.eip_route.specs.declared.route.Names.{Names}
 use Rattle.eip_route.specs.declared.route.RouteSet.{RouteSet}
 use Rattle.eip_route_table.specs.Sites.{Site, first_fault, Walks}
@@ -22,9 +23,9 @@ pub walk_passes : (at : List Site) (before after : ℕ) (k l : List Entry) → W
 unfolding Walks
 walk_passes at before after k l h = (h.0, h.1)
 
-pub walk_reads : (at : List Site) (set s : RouteSet) (a : Option RouteFault) (before after : ℕ) (k l : List Entry) → Walks at a before k after l → a ≡ None → s ≡ set → ReadsAt at set before after (Ok s)
-walk_reads at set s a before after k l h none e =
-    let w = walk_passes at before after k l (subst (λ (x : Option RouteFault). Walks at x before k after l) none h) in (w.0, e, w.1)
+pub walk_reads : (at : List Site) (set s : RouteSet) (a : Option RouteFault) (before after : ℕ) (k l : List Entry) → Walks at a before k after l → a ≡ None → s ≡ set → (first_fault at ≡ None → IsValid set) → ReadsAt at set before after (Ok s)
+walk_reads at set s a before after k l h none e valid =
+    let w = walk_passes at before after k l (subst (λ (x : Option RouteFault). Walks at x before k after l) none h) in (w.0, e, w.1, subst IsValid (sym e) (valid w.0))
 
 whole_first : (c : Cause) → first_fault (whole_file c) ≡ Some (record { path = codes "$"; cause = c })
 unfolding first_fault

@@ -5,3 +5,4 @@ pub mod Nesting
 pub mod Sets
 pub mod Built
 pub mod Reading
+pub mod Fit

@@ -3,6 +3,7 @@ use Rattle.std.specs.Prelude.{◌≡◌, ◌⊎◌, ℕ, Bool, nat_lt, length, L
 use Rattle.eip_text.specs.Causes.{Rises}
 use Rattle.eip_text.specs.Json.{Json, null, json_read}
 use Rattle.eip_route.specs.Nest.{flat_set}
+use Rattle.eip_route.specs.Valid.{IsValid}
 use Rattle.eip_route.specs.declared.route.Names.{Names}
 use Rattle.eip_route.specs.declared.route.RouteSet.{RouteSet}
 use Rattle.eip_route_table.specs.Sites.{Site, wrong, first_fault, Stops, cause_failures}
@@ -43,9 +44,10 @@ set_of n bytes = tree_set n (json_read bytes)
 abbrev pub Finds : List Site → ℕ → ℕ → RouteFault → Type 0
 Finds at before after f = ((first_fault at ≡ Some f) × (after ≡ before)) ⊎ (Stops at f × Rises (cause_failures f.cause) before after)
 
--- an answer to what is judged at these places and gives this set: the set where nothing is wrong; else a fault that is found; or want of memory
+-- an answer to what is judged at these places and gives this set: the set where nothing is wrong, which is valid; else a fault that is found; or
+-- want of memory
 abbrev pub ReadsAt : List Site → RouteSet → ℕ → ℕ → Result RouteSet RouteRefusal → Type 0
-ReadsAt at set before after (Ok s) = (first_fault at ≡ None) × (s ≡ set) × (after ≡ before)
+ReadsAt at set before after (Ok s) = (first_fault at ≡ None) × (s ≡ set) × (after ≡ before) × IsValid s
 ReadsAt at set before after (Err (refusal.Refused f)) = Finds at before after f
 ReadsAt at set before after (Err refusal.NoMemory) = Unit {0}
 

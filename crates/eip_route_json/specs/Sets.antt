@@ -1,5 +1,5 @@
 -- The set of routes that a route file says.
-use Rattle.std.specs.Prelude.{◌≡◌, ℕ, ◌+◌, Bool, true, false, if◌then◌else◌, List, [], ◌∷◌, ◌++◌, codes, decimal, Option, Some, None}
+use Rattle.std.specs.Prelude.{◌≡◌, ℕ, ◌+◌, Bool, true, false, if◌then◌else◌, List, [], ◌∷◌, Option, Some, None}
 use Rattle.eip_text.specs.Json.{Json, list, Items, no_items, item, Members}
 use Rattle.eip_uri.specs.declared.uri.Uri.{Uri}
 use Rattle.eip_uri.specs.declared.uri.Uri.TheVariants as uri
@@ -7,6 +7,7 @@ use Rattle.eip_route.specs.declared.route.Handler.{Handler}
 use Rattle.eip_route.specs.declared.route.Names.{Names}
 use Rattle.eip_route.specs.declared.route.RouteSet.{RouteSet}
 use Rattle.eip_route.specs.Nest.{NestedSteps, NestedLast, NestedClause, NestedRoute, NestedSet, none, more, no_last, last, flat_set}
+use Rattle.eip_route_file.specs.Later.{own_id}
 use Rattle.eip_route_table.specs.Sites.{value_at, outcome}
 use Rattle.eip_route_table.specs.declared.keys.Key.TheVariants as key
 use Rattle.eip_route_json.specs.Leaves.{members_at, members_in, text_of, text_at, exceptions_given, policy_at, no_policy}
@@ -75,10 +76,6 @@ handler_in no_items = default_handler
 handler_in (item t ts) = handler_or (members_in key.ErrorHandler t) (handler_in ts)
 
 -- ---- routes
-
--- the name of the route at this position, from 1, that gives none
-unfoldable pub own_id : ℕ → List ℕ
-own_id k = codes "route" ++ decimal k
 
 abbrev pub id_given : ℕ → Option Json → List ℕ
 id_given k None = own_id k

@@ -17,12 +17,12 @@ use crate::leaves::{
 use crate::parts::{endpoint, endpoint_in};
 use eip_exchange::Clause;
 use eip_route::{Block, Handler, Names, Route, RouteSet};
+use eip_route_file::own_id;
 use eip_route_table::keys::Key;
 use eip_route_table::known::Known;
 use eip_route_table::objects::value_at;
 use eip_text::{NoMemory, Series, Text, Tree};
 use eip_uri::Uri;
-use itoa::Buffer;
 use std::alloc::Global;
 
 // ---- clauses for exceptions
@@ -162,23 +162,12 @@ fn handler_in(alloc: Global, items: &[Tree]) -> Result<Handler, NoMemory>
 
 // ---- routes
 
-/// The name of the route at this position, from 1, that gives none.
-#[tactic(auto, unfolding(crate::specs::Sets::own_id))]
-fn own_id(alloc: Global, position: usize) -> Result<Text, NoMemory>
-    ensures { IfOk result (λ t. t ≡ spec.own_id position) }
-{
-    let mut digits = Buffer::new();
-    let mut id = String::from_str(alloc, "route")?;
-    id.push_str(digits.format(position))?;
-    Ok(Text::of(id))
-}
-
 fn id_in(alloc: Global, position: usize, members: &[(Text, Tree)]) -> Result<Text, NoMemory>
     ensures { IfOk result (λ t. t
         ≡ spec.id_given position (sites.value_at Key.Id (members_json members.now))) }
 {
     match value_at(Key::Id, members) {
-        None => own_id(alloc, position),
+        None => own_id(alloc, position as u64),
         Some(tree) => Text::of_str(alloc, text_of(tree)),
     }
 }
@@ -271,7 +260,7 @@ fn build_from_route(
     ensures { let x = spec.from_route position (members_json members.now) in
         IfOk result (λ b. IsRoute n b x) }
 {
-    let id = own_id(alloc, position)?;
+    let id = own_id(alloc, position as u64)?;
     let from = endpoint_in(alloc, members)?;
     let blocks = build_from_steps(alloc, n, known, members)?;
     Ok(BuiltRoute {

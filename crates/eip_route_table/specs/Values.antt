@@ -1,9 +1,9 @@
 -- The rules for texts, numbers and truth values: what is wrong with one.
-use Rattle.std.specs.Prelude.{ℕ, ◌^◌, ℤ, pos, negsuc, Bool, false, not, ◌==◌, ◌&&◌, ◌||◌, nat_le, nat_lt, List, [], ◌∷◌, ◌++◌, length, drop, bytes_eq, codes, Option, Some, None, is_some, unwrap_or, Result, Ok, Err, if◌then◌else◌}
+use Rattle.std.specs.Prelude.{ℕ, ◌^◌, ℤ, pos, negsuc, Bool, false, not, ◌&&◌, ◌||◌, nat_le, nat_lt, List, [], ◌∷◌, ◌++◌, length, drop, bytes_eq, codes, Option, Some, None, is_some, unwrap_or, Result, Ok, Err, if◌then◌else◌}
 use Rattle.std.specs.List.{list_all, list_any}
 use Rattle.std.specs.Str.Parse.{starts_with_minus, signed_digits_value}
 use Rattle.eip_text.specs.Cuts.{behind, holds_byte, is_digit}
-use Rattle.eip_text.specs.Names.{is_name, is_alphanumeric}
+use Rattle.eip_text.specs.Names.{is_name}
 use Rattle.eip_exchange.specs.declared.setting.Strategy.{Strategy}
 use Rattle.eip_exchange.specs.declared.setting.Strategy.TheVariants as strategy
 use Rattle.eip_uri.specs.declared.uri.Uri.{Uri}
@@ -17,6 +17,7 @@ use Rattle.eip_uri.specs.Sides.{is_consumer, is_producer}
 use Rattle.eip_simple_read.specs.declared.fault.SimpleFault.{SimpleFault}
 use Rattle.eip_simple_read.specs.declared.fault.SimpleFault.TheVariants as simple_fault
 use Rattle.eip_simple_read.specs.Meaning.{template_of}
+use Rattle.eip_route.specs.Valid.{is_kind}
 use Rattle.eip_route.specs.declared.route.Names.{Names}
 use Rattle.eip_route_table.specs.declared.fault.Cause.{Cause}
 use Rattle.eip_route_table.specs.declared.fault.Cause.TheVariants as cause
@@ -55,13 +56,6 @@ registered name names = or_else (name_cause name) (handed_in name names)
 abbrev pub last_segment : List ℕ → List ℕ
 last_segment [] = []
 last_segment (b ∷ bs) = if holds_byte 46 (b ∷ bs) then last_segment bs else b ∷ bs
-
-abbrev pub is_kind_byte : ℕ → Bool
-is_kind_byte c = is_alphanumeric c || ((c == 95) || ((c == 45) || (c == 36)))
-
--- a kind of fault: 1 to 64 ASCII letters, digits, `_`, `-` and `$`
-unfoldable pub is_kind : List ℕ → Bool
-is_kind bs = (nat_le 1 (length bs) && nat_le (length bs) 64) && list_all is_kind_byte bs
 
 -- ---- endpoints
 

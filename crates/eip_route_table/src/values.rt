@@ -3,6 +3,7 @@ ghost use Rattle.std.specs.List.{list_all};
 ghost use Rattle.eip_uri.specs.Options.{is_level};
 ghost use Rattle.eip_uri.specs.Reading.{read};
 ghost use Rattle.eip_simple_read.specs.Meaning.{template_of};
+ghost use Rattle.eip_route.specs.Valid as valid;
 ghost use Rattle.eip_route_table.specs.Values as spec;
 
 use crate::fault::Cause;
@@ -73,22 +74,22 @@ pub fn last_segment(text: &str) -> &str
 }
 
 /// Whether the text is a kind of fault: 1 to 64 ASCII letters, digits, `_`, `-` and `$`.
-#[tactic(auto, unfolding(crate::specs::Values::is_kind))]
+#[tactic(auto, unfolding(eip_route::specs::Valid::is_kind))]
 fn is_kind(text: &str) -> bool
-    ensures { result ≡ spec.is_kind text.now }
+    ensures { result ≡ valid.is_kind text.now }
 {
     let bytes = text.as_bytes();
     1 <= bytes.len() && bytes.len() <= 64 && are_kind_bytes(bytes)
 }
 
 fn are_kind_bytes(bytes: &[u8]) -> bool
-    ensures { result ≡ list_all spec.is_kind_byte bytes.now }
+    ensures { result ≡ list_all valid.is_kind_byte bytes.now }
 {
     bytes.iter().all(|byte| is_kind_byte(*byte))
 }
 
 fn is_kind_byte(byte: u8) -> bool
-    ensures { result ≡ spec.is_kind_byte byte }
+    ensures { result ≡ valid.is_kind_byte byte }
 {
     byte.is_ascii_alphanumeric() || matches!(byte, b'_' | b'-' | b'$')
 }

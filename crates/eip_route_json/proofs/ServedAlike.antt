@@ -1,0 +1,58 @@
+-- What is handed in is found alike where a file is judged and where a set is: sources, targets and checks that fit are good.
+use Rattle.std.proofs.Common.{ℕ, true, ◌||◌, List, [], ◌∷◌, Option, Some, None, ◌≡◌, refl, ap, ◌∙◌, codes, bytes_eq}
+use Rattle.std.proofs.lemmas.Bool.{and_from}
+use Rattle.eip_uri.specs.Inlets.{inlet_of}
+use Rattle.eip_uri.specs.declared.uri.Uri.{Uri}
+use Rattle.eip_uri.specs.declared.uri.Uri.TheVariants as uri
+use Rattle.eip_route.specs.Goals.{is_among}
+use Rattle.eip_route.specs.Valid.{has_lane, is_given_among, is_source, is_target, is_dead, is_check, is_expr, is_handler}
+use Rattle.eip_route.specs.declared.route.Handler.{Handler}
+use Rattle.eip_route.specs.declared.route.Names.{Names}
+use Rattle.eip_route.specs.declared.step.Check.{Check}
+use Rattle.eip_route.specs.declared.step.Check.TheVariants as check
+use Rattle.eip_route.specs.declared.step.Expr.{Expr}
+use Rattle.eip_route.specs.declared.step.Expr.TheVariants as expr
+use Rattle.eip_route_table.specs.Values as values
+use Rattle.eip_route_json.specs.Fit.{ExprFits, CheckFits, Served, TargetFits, SourceFits, DeadFits, HandlerFits}
+
+pub same_among : (name : List ℕ) (names : List (List ℕ)) → is_among name names ≡ values.is_among name names
+same_among name [] = refl
+same_among name (n ∷ ns) = ap (λ b. bytes_eq n name || b) (same_among name ns)
+
+among : (name : List ℕ) (names : List (List ℕ)) → values.is_among name names ≡ true → is_among name names ≡ true
+among name names h = same_among name names ∙ h
+
+-- the lane of a target is named alike
+lane_handed : (n : Names) (u : Uri) → Served (values.lane_of u) n.lanes → has_lane n u ≡ true
+lane_handed n (uri.File folder after failed exist) h = among (codes "file") n.lanes h
+lane_handed n (uri.Line host port) h = among (codes "line") n.lanes h
+lane_handed n (uri.Lane name) h = among _ n.lanes h
+lane_handed n _ h = refl
+
+given_handed : (o : Option (List ℕ)) (names : List (List ℕ)) → Served o names → is_given_among o names ≡ true
+given_handed None names h = refl
+given_handed (Some name) names h = among name names h
+
+pub good_target : (n : Names) (u : Uri) → TargetFits n u → is_target n u ≡ true
+good_target n u h = and_from _ _ (and_from _ _ h.0 h.1.0) (lane_handed n u h.1.1)
+
+pub good_source : (n : Names) (u : Uri) → SourceFits n u → is_source n u ≡ true
+good_source n u h = and_from _ _ (and_from _ _ h.0 h.1.0) (given_handed (inlet_of u) n.inlets h.1.1)
+
+good_dead : (n : Names) (o : Option Uri) → DeadFits n o → is_dead n o ≡ true
+good_dead n None h = refl
+good_dead n (Some u) h = good_target n u h
+
+pub good_handler : (n : Names) (x : Handler) → HandlerFits n x → is_handler n x ≡ true
+good_handler n x h = and_from _ _ (good_dead n x.dead h.dead) h.policy
+
+pub good_expr : (e : Expr) → ExprFits e → is_expr e ≡ true
+good_expr (expr.Simple template) h = refl
+good_expr (expr.Constant text) h = refl
+good_expr (expr.Header name) h = h
+good_expr (expr.Property name) h = h
+
+pub good_check : (n : Names) (c : Check) → CheckFits n c → is_check n c ≡ true
+good_check n (check.Simple predicate) h = refl
+good_check n (check.Fixed flag) h = refl
+good_check n (check.Stored name) h = among name n.predicates h.1

@@ -1,0 +1,10 @@
+pub mod Ids
+pub mod Parts
+pub mod Tables
+pub mod Routes
+pub mod Clauses
+pub mod Handlers
+pub mod Items
+pub mod Listed
+pub mod Apart
+pub mod Whole

@@ -1,0 +1,13 @@
+pub mod Faultless
+pub mod Keyed
+pub mod Groups
+pub mod Values
+pub mod Tables
+pub mod StepTables
+pub mod Endpoints
+pub mod Leaves
+pub mod Parts
+pub mod Gatherings
+pub mod StepKinds
+pub mod OneStep
+pub mod Steps
