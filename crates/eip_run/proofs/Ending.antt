@@ -1,10 +1,18 @@
 -- What a command comes to, by what was prepared and told.
-use Rattle.std.proofs.Common.{◌≡◌, ℕ, true, ◌++◌, List, [], Option, Some, None, Result, Ok, Err, codes, sym, ap, subst, ◌∙◌}
+use Rattle.std.proofs.Common.{◌≡◌, ℕ, true, ◌++◌, List, [], Option, Some, None, Result, Ok, Err, codes, refl, sym, ap, subst, ◌∙◌}
 use Rattle.std.proofs.lemmas.List.{append-nil}
+use Rattle.eip_text.specs.Json.{Json, json_read}
+use Rattle.eip_route.specs.Built.{is_built}
+use Rattle.eip_route.specs.Valid.{IsValid}
+use Rattle.eip_route.specs.declared.route.Names.{Names}
 use Rattle.eip_route.specs.declared.route.RouteSet.{RouteSet}
 use Rattle.eip_route_table.specs.Sites.{first_fault}
+use Rattle.eip_route_table.specs.declared.fault.Cause.TheVariants as cause
 use Rattle.eip_route_table.specs.declared.fault.RouteFault.{RouteFault}
+use Rattle.eip_route_json.specs.Reading.{set_of, tree_set}
+use Rattle.eip_route_json.proofs.Validity.{read_valid}
 use Rattle.eip_endpoint.specs.declared.files.FileRead.{FileRead}
+use Rattle.eip_endpoint.specs.declared.files.FileRead.TheVariants.{Bytes, Missing, TooLong}
 use Rattle.eip_endpoint.specs.Lanes.{LaneView}
 use Rattle.eip_endpoint.specs.Inlets.{InletView}
 use Rattle.eip_ledger.specs.View.{JournalView}
@@ -28,14 +36,14 @@ use Rattle.eip_run.specs.declared.prepare.Job.TheVariants as job
 use Rattle.eip_run.specs.declared.prepare.Refusal.TheVariants as refusal
 use Rattle.eip_endpoint.specs.Content.{IfTold}
 use Rattle.eip_endpoint.specs.Files.{bytes_at, read_of}
-use Rattle.eip_run.specs.Routes.{file_limit, is_runnable, sites_in, set_in, sites_for, set_for}
+use Rattle.eip_run.specs.Routes.{file_limit, unless_built, bytes_in, sites_in, set_in, sites_for, set_for}
 use Rattle.eip_run.specs.Prepared.{job_of, Given, Read, Answers, Prepares, NoCommand, NotRead, NoRoutes, Found, LacksMemory}
 use Rattle.eip_run.specs.Printed.{OfRefusal, OfWords, OfFiles, OfRoutes, OfNoLine, OfMemory, OfCheck, OfText, OfNone, OfRun, OfStop, OfStarved, OfNoText, TellsRefusal, TellsCheck, TellsRun}
 use Rattle.eip_run.specs.Drained.{Drained, RanTo, NotBegun}
 use Rattle.eip_run.specs.Reports.{turn_limit, Setting, IsStill, WasRead, Ran, IsRun, HasRoutes, Comes, Reports, NoCommand as Refused, NotRead as Failed, NoRoutes as Faulty, WasChecked, Stopped, Starved, LacksMemory as Poor, LacksText}
 use Rattle.eip_core.specs.Served.{names_of}
-use Rattle.eip_run.proofs.Runnable.{Runs, runnable-runs}
-use Rattle.eip_run.proofs.Sites.{runs-where}
+use Rattle.eip_run.proofs.Runnable.{Runs, valid-runs}
+use Rattle.eip_run.proofs.Sites.{none-front, none-behind, built-where}
 
 none-plain : (s : Plan) → IsPlain s []
 unfolding IsPlain
@@ -132,13 +140,32 @@ has-check x ls is r set el ei (Found (Check p) read s command was faultless rout
 has-check x ls is r set el ei (Found (Drain p) read s command was faultless routes patterns) e = absurd (cc e)
 has-check x ls is r set el ei (LacksMemory count) e = absurd (cc e)
 
+-- a file in which nothing is wrong gives a valid set, with the names that were handed in
+file-valid : (n : Names) (read : FileRead) → first_fault (sites_in n read) ≡ None → IsValid (set_in n read)
+file-valid n (Bytes bytes) h = read_valid n bytes h
+file-valid n Missing h = absurd (none-behind [] cause.NoFile h)
+file-valid n TooLong h = absurd (none-behind [] cause.TooLong h)
+
+file-names : (n : Names) (read : FileRead) → (set_in n read).names ≡ n
+unfolding set_of
+file-names n read = by_tree (json_read (bytes_in read))
+  where
+    by_tree : (t : Option Json) → (tree_set n t).names ≡ n
+    by_tree None = refl
+    by_tree (Some t) = refl
+
+drain-runs : (ls is : List (List ℕ)) (p : Path) (read : FileRead) → first_fault (sites_for (Drain p) ls is read) ≡ None → Runs (set_in (names_of ls is) read) ls is
+drain-runs ls is p read h =
+    let n = names_of ls is in
+    let set = set_in n read in
+    valid-runs n set (file-valid n read (none-front (sites_in n read) (unless_built (is_built set)) h)) (file-names n read) (built-where (sites_in n read) (is_built set) h)
+
 -- routes that are drained can be run
 pub routes-run : (x : Setting) (p : Path) (set : RouteSet) → HasRoutes x (Drain p) set → Runs set (lane_names x.lanes_before) (inlet_names x.inlets_before)
 routes-run x p set has =
     let ls = lane_names x.lanes_before in
     let is = inlet_names x.inlets_before in
-    let runs : is_runnable ls is (set_in (names_of ls is) has.read) ≡ true = runs-where (sites_in (names_of ls is) has.read) (is_runnable ls is (set_in (names_of ls is) has.read)) has.faultless in
-    runnable-runs ls is set (ap (is_runnable ls is) has.routes ∙ runs)
+    subst (λ (y : RouteSet). Runs y ls is) (sym has.routes) (drain-runs ls is p has.read has.faultless)
 
 pub prepared-runs : (x : Given) (r : Result Job Refusal) (set : RouteSet) → Prepares x r → r ≡ Ok (job.Drain set) → Runs set x.lanes x.inlets
 prepared-runs x r set (NoCommand none calm) e = absurd (cc e)
@@ -146,9 +173,7 @@ prepared-runs x r set (NotRead k command rises calm) e = absurd (cc e)
 prepared-runs x r set (NoRoutes k read f command was h) e = absurd (cc e)
 prepared-runs x r set (Found (Drain p) read s command was faultless routes patterns) e =
     let same : s ≡ set = cc e in
-    let names = names_of x.lanes x.inlets in
-    let runs : is_runnable x.lanes x.inlets (set_in names read) ≡ true = runs-where (sites_in names read) (is_runnable x.lanes x.inlets (set_in names read)) faultless in
-    subst (λ (y : RouteSet). Runs y x.lanes x.inlets) same (runnable-runs x.lanes x.inlets s (ap (is_runnable x.lanes x.inlets) routes ∙ runs))
+    subst (λ (y : RouteSet). Runs y x.lanes x.inlets) (sym routes ∙ same) (drain-runs x.lanes x.inlets p read faultless)
 prepared-runs x r set (Found (Check p) read s command was faultless routes patterns) e = absurd (cc e)
 prepared-runs x r set (LacksMemory count) e = absurd (cc e)
 

@@ -1,37 +1,65 @@
--- A set that runs can be run over the lanes and inlets that it was looked up in.
-use Rattle.std.proofs.Common.{◌≡◌, ℕ, zero, suc, ◌<◌, ◌≤◌, ◌&&◌, Bool, true, false, leb, List, [], ◌∷◌, length, Option, Some, None, refl, arith}
+-- A valid set of the part that is run can be run over the lanes and inlets with whose names it was read.
+use Rattle.std.proofs.Common.{◌≡◌, ℕ, zero, suc, ◌+◌, ◌<◌, ◌≤◌, ◌&&◌, ◌||◌, ◌++◌, Bool, true, false, cond, List, [], ◌∷◌, length, Option, Some, None, codes, refl, sym, ap, subst, arith}
+use Rattle.std.specs.Prelude.{All, nat_lt, bytes_eq}
 use Rattle.std.specs.Option.{IsSome, is_some}
-use Rattle.std.specs.List.{list_all, slice_get}
-use Rattle.std.proofs.lemmas.Bool.{and_parts, leb-true}
+use Rattle.std.specs.List.{list_all, slice_get, position_from}
+use Rattle.std.proofs.lemmas.Bool.{and_parts, ltb-false}
+use Rattle.eip_text.specs.Names.{is_name}
 use Rattle.eip_uri.specs.Inlets.{inlet_of}
+use Rattle.eip_uri.specs.Ranges.{is_uri}
+use Rattle.eip_uri.specs.Sides.{is_consumer, is_producer}
 use Rattle.eip_uri.specs.declared.uri.Uri.{Uri}
 use Rattle.eip_uri.specs.declared.uri.Uri.TheVariants as uri
 use Rattle.eip_route.specs.Built.{is_built, is_stream, is_built_route, are_built_routes, are_built_blocks, is_empty, is_plain_handler}
+use Rattle.eip_route.specs.Faults.{or_else, set_fault}
+use Rattle.eip_route.specs.Goals.{is_among}
+use Rattle.eip_route.specs.Valid.{IsValid, has_lane, is_given_among, is_source, is_route, is_step, are_steps}
+use Rattle.eip_route.specs.declared.fault.SetFault.{SetFault}
+use Rattle.eip_route.specs.declared.fault.SetFault.TheVariants.{TooManyRoutes}
 use Rattle.eip_route.specs.declared.step.Step.{Step}
 use Rattle.eip_route.specs.declared.step.Step.TheVariants as step
 use Rattle.eip_route.specs.declared.route.Block.{Block}
+use Rattle.eip_route.specs.declared.route.Names.{Names}
 use Rattle.eip_route.specs.declared.route.Route.{Route}
 use Rattle.eip_route.specs.declared.route.RouteSet.{RouteSet}
 use Rattle.eip_meaning.specs.Meaning.{steps_in, is_told, is_told_route}
 use Rattle.eip_plan.specs.Plan.{plan_of}
 use Rattle.eip_core.specs.Doors.{inlet_named, inlet_at, HasInlets, SendsWithin, HasLanes, TellsNone, CanRun}
-use Rattle.eip_core.specs.Served.{lane_named, is_served_route, is_served_step, is_served_block, is_served}
-use Rattle.eip_run.specs.Routes.{is_runnable}
 
-some-of : {A : Type 0} → (o : Option A) → is_some o ≡ true → IsSome o
-some-of None h = absurd (cc h)
-some-of (Some a) h = h
+-- ---- what is handed in is found
+
+among-named : (name : List ℕ) (names : List (List ℕ)) (k : ℕ) → is_among name names ≡ true → IsSome (position_from (λ m. bytes_eq m name) k names)
+among-named name [] k h = absurd (cc h)
+among-named name (x ∷ xs) k h = by_first (bytes_eq x name) h (among-named name xs (k + 1))
+  where
+    by_first : (b : Bool) → (b || is_among name xs) ≡ true → (is_among name xs ≡ true → IsSome (position_from (λ m. bytes_eq m name) (k + 1) xs))
+        → IsSome (cond b (Some k) (position_from (λ m. bytes_eq m name) (k + 1) xs))
+    by_first true h later = refl
+    by_first false h later = later h
 
 -- ---- sources
 
-inlets-of : (inlets : List (List ℕ)) (rs : List Route) (t : ℕ) → list_all (is_served_route inlets) rs ≡ true → t < length rs → IsSome (inlet_at inlets (slice_get rs t))
-inlets-of inlets [] t h within = absurd (omega (arith, within))
-inlets-of inlets (r ∷ rs) zero h within = some-of (inlet_named inlets (inlet_of r.from)) (and_parts (is_served_route inlets r) (list_all (is_served_route inlets) rs) h).0
-inlets-of inlets (r ∷ rs) (suc t) h within = inlets-of inlets rs t (and_parts (is_served_route inlets r) (list_all (is_served_route inlets) rs) h).1 (omega (arith, within))
+stream-named : (inlets : List (List ℕ)) (u : Uri) → is_stream u ≡ true → is_given_among (inlet_of u) inlets ≡ true → IsSome (inlet_named inlets (inlet_of u))
+stream-named inlets uri.StreamIn s h = among-named (codes "stream") inlets 0 h
+stream-named inlets (uri.Direct name) s h = absurd (cc s)
+stream-named inlets (uri.Seda name size consumers discard) s h = absurd (cc s)
+stream-named inlets (uri.File folder after failed exist) s h = absurd (cc s)
+stream-named inlets (uri.Log name) s h = absurd (cc s)
+stream-named inlets (uri.Line host port) s h = absurd (cc s)
+stream-named inlets (uri.Listen port) s h = absurd (cc s)
+stream-named inlets (uri.Lane name) s h = absurd (cc s)
+stream-named inlets (uri.Load n) s h = absurd (cc s)
 
-has-inlets : (set : RouteSet) (inlets : List (List ℕ)) → list_all (is_served_route inlets) set.routes ≡ true → HasInlets set inlets
+inlets-of : (n : Names) (rs : List Route) (t : ℕ) → All (λ (r : Route). is_route n r ≡ true) rs → list_all is_built_route rs ≡ true → t < length rs → IsSome (inlet_at n.inlets (slice_get rs t))
+inlets-of n [] t valid built within = absurd (omega (arith, within))
+inlets-of n (r ∷ rs) zero valid built within =
+    let source = (and_parts (is_name r.id) (is_source n r.from) (valid 0 r (omega arith))).1 in
+    stream-named n.inlets r.from (and_parts (is_built_route r) (list_all is_built_route rs) built).0 (and_parts (is_uri r.from && is_consumer r.from) (is_given_among (inlet_of r.from) n.inlets) source).1
+inlets-of n (r ∷ rs) (suc t) valid built within = inlets-of n rs t (λ k d inside. valid (suc k) d (omega (arith, inside))) (and_parts (is_built_route r) (list_all is_built_route rs) built).1 (omega (arith, within))
+
+has-inlets : (n : Names) (set : RouteSet) → All (λ (r : Route). is_route n r ≡ true) set.routes → list_all is_built_route set.routes ≡ true → HasInlets set n.inlets
 unfolding plan_of
-has-inlets set inlets h t is = inlets-of inlets set.routes t h is.0
+has-inlets n set valid built t is = inlets-of n set.routes t valid built is.0
 
 stream-untold : (u : Uri) → is_stream u ≡ true → is_told u ≡ false
 stream-untold uri.StreamIn h = refl
@@ -51,14 +79,14 @@ none-told (r ∷ rs) (suc t) h = none-told rs t (and_parts (is_built_route r) (l
 
 -- ---- lanes
 
-sends-within : (lanes : List (List ℕ)) (ss : List Step) → list_all (is_served_step lanes) ss ≡ true → SendsWithin lanes ss
-sends-within lanes [] h = tt
-sends-within lanes (s ∷ ss) h =
-    by_step s (and_parts (is_served_step lanes s) (list_all (is_served_step lanes) ss) h).0
-    (sends-within lanes ss (and_parts (is_served_step lanes s) (list_all (is_served_step lanes) ss) h).1)
+sends-within : (n : Names) (ss : List Step) → are_steps n ss ≡ true → SendsWithin n.lanes ss
+sends-within n [] h = tt
+sends-within n (s ∷ ss) h =
+    by_step s (and_parts (is_step n s) (are_steps n ss) h).0 (sends-within n ss (and_parts (is_step n s) (are_steps n ss) h).1)
   where
-    by_step : (s : Step) → is_served_step lanes s ≡ true → SendsWithin lanes ss → SendsWithin lanes (s ∷ ss)
-    by_step (step.To (uri.Lane name)) h rest = (some-of (lane_named lanes name) h, rest)
+    by_step : (s : Step) → is_step n s ≡ true → SendsWithin n.lanes ss → SendsWithin n.lanes (s ∷ ss)
+    by_step (step.To (uri.Lane name)) h rest =
+        (among-named (codes "lane:" ++ name) n.lanes 0 (and_parts (is_uri (uri.Lane name) && is_producer (uri.Lane name)) (has_lane n (uri.Lane name)) h).1, rest)
     by_step (step.To (uri.Direct name)) h rest = rest
     by_step (step.To (uri.Seda name size consumers discard)) h rest = rest
     by_step (step.To (uri.File folder after failed exist)) h rest = rest
@@ -69,10 +97,10 @@ sends-within lanes (s ∷ ss) h =
     by_step (step.To (uri.Load n)) h rest = rest
     by_step _ h rest = rest
 
-lanes-of : (lanes : List (List ℕ)) (bs : List Block) (b : ℕ) → list_all (is_served_block lanes) bs ≡ true → SendsWithin lanes (steps_in (slice_get bs b))
-lanes-of lanes [] b h = tt
-lanes-of lanes (x ∷ xs) zero h = sends-within lanes x.steps (and_parts (is_served_block lanes x) (list_all (is_served_block lanes) xs) h).0
-lanes-of lanes (x ∷ xs) (suc b) h = lanes-of lanes xs b (and_parts (is_served_block lanes x) (list_all (is_served_block lanes) xs) h).1
+lanes-of : (n : Names) (bs : List Block) (b : ℕ) → All (λ (x : Block). are_steps n x.steps ≡ true) bs → SendsWithin n.lanes (steps_in (slice_get bs b))
+lanes-of n [] b h = tt
+lanes-of n (x ∷ xs) zero h = sends-within n x.steps (h 0 x (omega arith))
+lanes-of n (x ∷ xs) (suc b) h = lanes-of n xs b (λ k d inside. h (suc k) d (omega (arith, inside)))
 
 -- ---- the set
 
@@ -81,21 +109,25 @@ pub record Runs (set : RouteSet) (lanes inlets : List (List ℕ)) : Type 0 where
   pub can_run : CanRun set lanes inlets
   pub few : length set.routes ≤ 256
 
+few-routes : (set : RouteSet) → set_fault set ≡ None → length set.routes ≤ 256
+unfolding set_fault
+few-routes set h = by_count _ (nat_lt 256 (length set.routes)) h (ltb-false 256 (length set.routes))
+  where
+    by_count : (later : Option SetFault) (b : Bool) → or_else (cond b (Some TooManyRoutes) None) later ≡ None → (b ≡ false → length set.routes ≤ 256) → length set.routes ≤ 256
+    by_count later true h few = absurd (cc h)
+    by_count later false h few = few refl
+
 streams : (set : RouteSet) → is_built set ≡ true → list_all is_built_route set.routes ≡ true
 unfolding is_built
 streams set h = (and_parts (are_built_routes set.routes) (are_built_blocks set.blocks && (is_empty set.clauses && is_plain_handler set.handler)) h).0
 
-pub runnable-runs : (lanes inlets : List (List ℕ)) (set : RouteSet) → is_runnable lanes inlets set ≡ true → Runs set lanes inlets
-unfolding is_runnable
-runnable-runs lanes inlets set h =
-    let built = and_parts (is_built set) (leb (length set.routes) 256 && is_served lanes inlets set) h in
-    let few = and_parts (leb (length set.routes) 256) (is_served lanes inlets set) built.1 in
-    let served = and_parts (list_all (is_served_route inlets) set.routes) (list_all (is_served_block lanes) set.blocks) few.1 in
-    record {
+pub valid-runs : (n : Names) (set : RouteSet) → IsValid set → set.names ≡ n → is_built set ≡ true → Runs set n.lanes n.inlets
+valid-runs n set valid same built =
+    subst (λ (m : Names). Runs set m.lanes m.inlets) same (record {
       can_run = record {
-        has_inlets = has-inlets set inlets served.0;
-        has_lanes = λ b. lanes-of lanes set.blocks b served.1;
-        tells_none = λ t. none-told set.routes t (streams set built.0);
+        has_inlets = has-inlets set.names set valid.routes (streams set built);
+        has_lanes = λ b. lanes-of set.names set.blocks b valid.blocks;
+        tells_none = λ t. none-told set.routes t (streams set built);
       };
-      few = leb-true (length set.routes) 256 few.0;
-    }
+      few = few-routes set valid.checked;
+    })

@@ -14,8 +14,9 @@ use Rattle.eip_command.specs.declared.words.Command.{Command}
 use Rattle.eip_command.specs.declared.words.Command.TheVariants.{Drain, Check}
 use Rattle.eip_endpoint.specs.declared.files.FileRead.{FileRead}
 use Rattle.eip_endpoint.specs.declared.files.FileRead.TheVariants.{Missing, TooLong}
+use Rattle.eip_route.specs.Built.{is_built}
 use Rattle.eip_core.specs.Served.{names_of}
-use Rattle.eip_run.specs.Routes.{whole_file, unless_runnable, is_runnable, sites_in, set_in, asked_sites, sites_for, set_for}
+use Rattle.eip_run.specs.Routes.{whole_file, unless_built, sites_in, set_in, asked_sites, sites_for, set_for}
 use Rattle.eip_run.specs.Prepared.{Answers, Refuses}
 
 later-none : (path : List ℕ) (o : Option Cause) (f : Option RouteFault) → or_later path o f ≡ None → (o ≡ None) × (f ≡ None)
@@ -32,6 +33,14 @@ first-behind [] b h = refl
 first-behind (s ∷ a) b h =
     let parts = later-none s.0 (cause_at s.1) (first_fault a) h in
     later-same s.0 (cause_at s.1) (first_fault (a ++ b)) None parts.0 ∙ first-behind a b parts.1
+
+-- where nothing is wrong, nothing is wrong in the front
+pub none-front : (a b : List Site) → first_fault (a ++ b) ≡ None → first_fault a ≡ None
+unfolding first_fault
+none-front [] b h = refl
+none-front (s ∷ a) b h =
+    let parts = later-none s.0 (cause_at s.1) (first_fault (a ++ b)) h in
+    later-same s.0 (cause_at s.1) (first_fault a) None parts.0 ∙ none-front a b parts.1
 
 -- what is wrong in the front is wrong first
 pub first-front : (a b : List Site) (f : RouteFault) → first_fault a ≡ Some f → first_fault (a ++ b) ≡ Some f
@@ -86,31 +95,31 @@ answers-behind a b set before after (Err refusal.NoMemory) none front still h = 
 answers-behind a b set before after (Err refusal.Words) none front still h = absurd (h 0)
 answers-behind a b set before after (Err refusal.FilesFault) none front still h = absurd (h 0)
 
--- ---- a set that runs
+-- ---- a set of the part that is run
 
-none-behind : (a : List Site) (c : Cause) → first_fault (a ++ whole_file c) ≡ None → ⊥
+pub none-behind : (a : List Site) (c : Cause) → first_fault (a ++ whole_file c) ≡ None → ⊥
 unfolding first_fault
 none-behind [] c h = cc h
 none-behind (s ∷ a) c h = none-behind a c (later-none s.0 (cause_at s.1) (first_fault (a ++ whole_file c)) h).1
 
-pub runs-where : (a : List Site) (b : Bool) → first_fault (a ++ unless_runnable b) ≡ None → b ≡ true
-runs-where a true h = refl
-runs-where a false h = absurd (none-behind a cause.NotBuilt h)
+pub built-where : (a : List Site) (b : Bool) → first_fault (a ++ unless_built b) ≡ None → b ≡ true
+built-where a true h = refl
+built-where a false h = absurd (none-behind a cause.NotBuilt h)
 
-pub unrunnable-stops : (b : Bool) (f : RouteFault) → Stops (unless_runnable b) f → ⊥
+pub unbuilt-stops : (b : Bool) (f : RouteFault) → Stops (unless_built b) f → ⊥
 unfolding Stops
-unrunnable-stops true f h = h
-unrunnable-stops false f (inl h) = h
-unrunnable-stops false f (inr h) = h.1
+unbuilt-stops true f h = h
+unbuilt-stops false f (inl h) = h
+unbuilt-stops false f (inr h) = h.1
 
-pub runnable-answers : (b : Bool) (set : RouteSet) → b ≡ true → (n : ℕ) → Answers (unless_runnable b) set n n (Ok set)
+pub built-answers : (b : Bool) (set : RouteSet) → b ≡ true → (n : ℕ) → Answers (unless_built b) set n n (Ok set)
 unfolding first_fault
-runnable-answers true set h n = (refl, refl, refl)
-runnable-answers false set h n = absurd (cc h)
+built-answers true set h n = (refl, refl, refl)
+built-answers false set h n = absurd (cc h)
 
-pub unrunnable-answers : (b : Bool) (set : RouteSet) (r : Refusal) → b ≡ false → Refuses cause.NotBuilt r → (n : ℕ) → Answers (unless_runnable b) set n n (Err r)
-unrunnable-answers true set r h refuses n = absurd (cc h)
-unrunnable-answers false set r h refuses n = refuses-answers cause.NotBuilt r set n refuses
+pub unbuilt-answers : (b : Bool) (set : RouteSet) (r : Refusal) → b ≡ false → Refuses cause.NotBuilt r → (n : ℕ) → Answers (unless_built b) set n n (Err r)
+unbuilt-answers true set r h refuses n = absurd (cc h)
+unbuilt-answers false set r h refuses n = refuses-answers cause.NotBuilt r set n refuses
 
 -- ---- what reading a file answered
 
@@ -124,33 +133,33 @@ long-answers names read r n is refuses =
 
 -- ---- what a command asks
 
-pub asked-drain : (k : Command) (p : Path) (lanes inlets : List (List ℕ)) (set : RouteSet) (r : Result RouteSet Refusal) → k ≡ Drain p
-    → ((n : ℕ) → Answers (unless_runnable (is_runnable lanes inlets set)) set n n r) → (n : ℕ) → Answers (asked_sites k lanes inlets set) set n n r
-asked-drain k p lanes inlets set r is h n = subst (λ (c : Command). Answers (asked_sites c lanes inlets set) set n n r) (sym is) (h n)
+pub asked-drain : (k : Command) (p : Path) (set : RouteSet) (r : Result RouteSet Refusal) → k ≡ Drain p
+    → ((n : ℕ) → Answers (unless_built (is_built set)) set n n r) → (n : ℕ) → Answers (asked_sites k set) set n n r
+asked-drain k p set r is h n = subst (λ (c : Command). Answers (asked_sites c set) set n n r) (sym is) (h n)
 
-pub asked-check : (k : Command) (p : Path) (lanes inlets : List (List ℕ)) (set : RouteSet) → k ≡ Check p → (n : ℕ) → Answers (asked_sites k lanes inlets set) set n n (Ok set)
+pub asked-check : (k : Command) (p : Path) (set : RouteSet) → k ≡ Check p → (n : ℕ) → Answers (asked_sites k set) set n n (Ok set)
 unfolding first_fault
-asked-check k p lanes inlets set is n = subst (λ (c : Command). Answers (asked_sites c lanes inlets set) set n n (Ok set)) (sym is) (refl, refl, refl)
+asked-check k p set is n = subst (λ (c : Command). Answers (asked_sites c set) set n n (Ok set)) (sym is) (refl, refl, refl)
 
-asked-stops : (k : Command) (lanes inlets : List (List ℕ)) (set : RouteSet) (f : RouteFault) → Stops (asked_sites k lanes inlets set) f → ⊥
+asked-stops : (k : Command) (set : RouteSet) (f : RouteFault) → Stops (asked_sites k set) f → ⊥
 unfolding Stops
-asked-stops (Drain p) lanes inlets set f h = unrunnable-stops (is_runnable lanes inlets set) f h
-asked-stops (Check p) lanes inlets set f h = h
+asked-stops (Drain p) set f h = unbuilt-stops (is_built set) f h
+asked-stops (Check p) set f h = h
 
 -- a file in which nothing is wrong is asked further
 pub asked-behind : (k : Command) (lanes inlets : List (List ℕ)) (read : FileRead) (names : Names) (s : RouteSet) (before after : ℕ) (r : Result RouteSet Refusal) → names ≡ names_of lanes inlets
-    → Answers (sites_in names read) (set_in names read) before after (Ok s) → ((n : ℕ) → Answers (asked_sites k lanes inlets s) s n n r)
+    → Answers (sites_in names read) (set_in names read) before after (Ok s) → ((n : ℕ) → Answers (asked_sites k s) s n n r)
     → Answers (sites_for k lanes inlets read) (set_for lanes inlets read) before after r
 asked-behind k lanes inlets read names s before after r is h more =
     let here : Answers (sites_in (names_of lanes inlets) read) (set_in (names_of lanes inlets) read) before after (Ok s) =
     subst (λ (x : Names). Answers (sites_in x read) (set_in x read) before after (Ok s)) is h in
     let set = set_in (names_of lanes inlets) read in
-    answers-behind (sites_in (names_of lanes inlets) read) (asked_sites k lanes inlets set) set before after r (asked-stops k lanes inlets set) here.0 here.2
-    (λ n. subst (λ (x : RouteSet). Answers (asked_sites k lanes inlets x) x n n r) here.1 (more n))
+    answers-behind (sites_in (names_of lanes inlets) read) (asked_sites k set) set before after r (asked-stops k set) here.0 here.2
+    (λ n. subst (λ (x : RouteSet). Answers (asked_sites k x) x n n r) here.1 (more n))
 
 -- a fault of the file comes first
 pub asked-front : (k : Command) (lanes inlets : List (List ℕ)) (read : FileRead) (names : Names) (before after : ℕ) (r : Refusal) → names ≡ names_of lanes inlets
     → Answers (sites_in names read) (set_in names read) before after (Err r) → Answers (sites_for k lanes inlets read) (set_for lanes inlets read) before after (Err r)
 asked-front k lanes inlets read names before after r is h =
-    answers-front (sites_in (names_of lanes inlets) read) (asked_sites k lanes inlets (set_in (names_of lanes inlets) read)) (set_for lanes inlets read) before after r
+    answers-front (sites_in (names_of lanes inlets) read) (asked_sites k (set_in (names_of lanes inlets) read)) (set_for lanes inlets read) before after r
     (subst (λ (x : Names). Answers (sites_in x read) (set_in x read) before after (Err r)) is h)

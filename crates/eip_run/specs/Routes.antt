@@ -1,5 +1,5 @@
 -- Which routes a command takes from its file, and what is wrong with the file, by what reading it answered.
-use Rattle.std.specs.Prelude.{ℕ, ◌≡◌, Bool, true, false, ◌&&◌, nat_le, List, [], ◌∷◌, ◌++◌, length, codes, None}
+use Rattle.std.specs.Prelude.{ℕ, Bool, true, false, List, [], ◌∷◌, ◌++◌, codes}
 use Rattle.eip_route.specs.Built.{is_built}
 use Rattle.eip_route.specs.declared.route.Names.{Names}
 use Rattle.eip_route.specs.declared.route.RouteSet.{RouteSet}
@@ -11,7 +11,7 @@ use Rattle.eip_command.specs.declared.words.Command.{Command}
 use Rattle.eip_command.specs.declared.words.Command.TheVariants.{Drain, Check}
 use Rattle.eip_endpoint.specs.declared.files.FileRead.{FileRead}
 use Rattle.eip_endpoint.specs.declared.files.FileRead.TheVariants.{Bytes, Missing, TooLong}
-use Rattle.eip_core.specs.Served.{is_served, names_of}
+use Rattle.eip_core.specs.Served.{names_of}
 
 -- the most bytes of a route file
 abbrev pub file_limit : ℕ
@@ -37,23 +37,18 @@ bytes_in TooLong = []
 abbrev pub set_in : Names → FileRead → RouteSet
 set_in names read = set_of names (bytes_in read)
 
--- a set runs where it is of the part that is run today. A set that was read has few routes and asks for nothing that isn't handed in; a run
--- looks again
-unfoldable pub is_runnable : List (List ℕ) → List (List ℕ) → RouteSet → Bool
-is_runnable lanes inlets set = is_built set && (nat_le (length set.routes) 256 && is_served lanes inlets set)
+abbrev pub unless_built : Bool → List Site
+unless_built true = []
+unless_built false = whole_file cause.NotBuilt
 
-abbrev pub unless_runnable : Bool → List Site
-unless_runnable true = []
-unless_runnable false = whole_file cause.NotBuilt
-
--- what a command asks beyond a file without a fault: a drain, that the routes run
-abbrev pub asked_sites : Command → List (List ℕ) → List (List ℕ) → RouteSet → List Site
-asked_sites (Drain p) lanes inlets set = unless_runnable (is_runnable lanes inlets set)
-asked_sites (Check p) lanes inlets set = []
+-- what a command asks beyond a file without a fault: a drain, that the routes are of the part that is run today
+abbrev pub asked_sites : Command → RouteSet → List Site
+asked_sites (Drain p) set = unless_built (is_built set)
+asked_sites (Check p) set = []
 
 -- the places at which a command's file is judged, where lanes and inlets of these names are handed in
 abbrev pub sites_for : Command → List (List ℕ) → List (List ℕ) → FileRead → List Site
-sites_for k lanes inlets read = sites_in (names_of lanes inlets) read ++ asked_sites k lanes inlets (set_in (names_of lanes inlets) read)
+sites_for k lanes inlets read = sites_in (names_of lanes inlets) read ++ asked_sites k (set_in (names_of lanes inlets) read)
 
 -- the routes that a command takes
 abbrev pub set_for : List (List ℕ) → List (List ℕ) → FileRead → RouteSet

@@ -1,9 +1,10 @@
 ghost use Rattle.std.specs.Prelude.{ℕ, ◌≡◌, map};
-ghost use Rattle.eip_run.specs.Routes.{sites_in, set_in, asked_sites, sites_for, set_for, is_runnable, unless_runnable};
+ghost use Rattle.eip_run.specs.Routes.{sites_in, set_in, asked_sites, sites_for, set_for, unless_built};
+ghost use Rattle.eip_route.specs.Built.{is_built};
 ghost use Rattle.eip_run.specs.Prepared.{job_of, Answers, Refuses, Prepares};
 
 use eip_command::{Command, WordsFault, read_words};
-use eip_core::{Registry, is_served, names_of};
+use eip_core::{Registry, names_of};
 use eip_endpoint::{FileRead, Files, FilesFault, Inlet, Lane};
 use eip_route::{Names, RouteSet};
 use eip_route_json::{RouteRefusal, read_routes};
@@ -14,9 +15,6 @@ use std::alloc::Global;
 
 /// The most bytes of a route file.
 const FILE_LIMIT: usize = 1_048_576;
-
-/// The most routes of a set.
-const ROUTE_LIMIT: usize = 256;
 
 /// What a command does with the routes of its file.
 #[derive(Drop)]
@@ -96,23 +94,17 @@ fn routes_for<P: Patterns>(
         return Err(Refusal::NoMemory);
     };
     match routes_of(alloc, read, &names, patterns) {
-        Ok(set) => asked(alloc, command, set, lanes, inlets),
+        Ok(set) => asked(alloc, command, set),
         Err(refusal) => Err(refusal),
     }
 }
 
 /// The set, where it is what a command asks for beyond a file without a fault.
-fn asked(
-    alloc: Global,
-    command: &Command,
-    set: RouteSet,
-    lanes: &[Lane],
-    inlets: &[Inlet],
-) -> Result<RouteSet, Refusal>
-    ensures { (n : ℕ) → Answers (asked_sites command.now (map (λ l. l.name) lanes.now) (map (λ i. i.name) inlets.now) set) set n n result }
+fn asked(alloc: Global, command: &Command, set: RouteSet) -> Result<RouteSet, Refusal>
+    ensures { (n : ℕ) → Answers (asked_sites command.now set) set n n result }
 {
     match command {
-        Command::Drain { .. } => runnable(alloc, set, lanes, inlets),
+        Command::Drain { .. } => built(alloc, set),
         Command::Check { .. } => Ok(set),
     }
 }
@@ -137,28 +129,15 @@ fn routes_of<P: Patterns>(
     }
 }
 
-/// The set, where it runs over these lanes and inlets.
-fn runnable(
-    alloc: Global,
-    set: RouteSet,
-    lanes: &[Lane],
-    inlets: &[Inlet],
-) -> Result<RouteSet, Refusal>
-    ensures { (n : ℕ) → Answers (unless_runnable (is_runnable (map (λ l. l.name) lanes.now) (map (λ i. i.name) inlets.now) set)) set n n result }
+/// The set, where it is of the part that is run.
+fn built(alloc: Global, set: RouteSet) -> Result<RouteSet, Refusal>
+    ensures { (n : ℕ) → Answers (unless_built (is_built set)) set n n result }
 {
-    if is_runnable(&set, lanes, inlets) {
+    if set.is_built() {
         Ok(set)
     } else {
         Err(refused(alloc, Cause::NotBuilt))
     }
-}
-
-/// Whether a set runs over these lanes and inlets.
-#[tactic(auto, unfolding(crate::specs::Routes::is_runnable))]
-fn is_runnable(set: &RouteSet, lanes: &[Lane], inlets: &[Inlet]) -> bool
-    ensures { result ≡ is_runnable (map (λ l. l.name) lanes.now) (map (λ i. i.name) inlets.now) set.now }
-{
-    set.is_built() && set.routes.items().len() <= ROUTE_LIMIT && is_served(set, lanes, inlets)
 }
 
 /// The refusal of the whole file for a cause.

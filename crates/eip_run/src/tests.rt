@@ -2,6 +2,7 @@ ghost use Rattle.std.specs.Prelude.{◌≡◌, true, IfOk, IsErrOf, None};
 ghost use Rattle.eip_frames.specs.Fits.{may_exist};
 ghost use Rattle.eip_endpoint.specs.MemorySources.{AreNew};
 
+use crate::report::Report;
 use crate::run::run;
 use eip_core::Registry;
 use eip_endpoint::endpoint::{Call, Outcome as CallOutcome};
@@ -49,10 +50,8 @@ fn two_lines(alloc: Global) -> Result<Vec<(Text, Series<Pulled>)>, NoMemory>
     Ok(pairs)
 }
 
-/// The files with this one as `r.json`.
-fn files_with(alloc: Global, routes: &str) -> Result<MemoryFiles, NoMemory> {
-    let mut bytes = Vec::new(alloc);
-    bytes.extend_from_slice(routes.as_bytes())?;
+/// The file `r.json` with these bytes.
+fn file_of(alloc: Global, bytes: Vec<u8>) -> Result<MemoryFiles, NoMemory> {
     let folder = Text::of_str(alloc, ".")?;
     let name = Text::of_str(alloc, "r.json")?;
     let mut content = Vec::new(alloc);
@@ -60,52 +59,119 @@ fn files_with(alloc: Global, routes: &str) -> Result<MemoryFiles, NoMemory> {
     Ok(MemoryFiles::new(alloc, content, Vec::new(alloc)))
 }
 
-/// The words `drain` and this path.
-fn drain_words(alloc: Global, path: &str) -> Result<Vec<Text>, NoMemory> {
+/// The file `r.json` with these routes.
+fn files_with(alloc: Global, routes: &str) -> Result<MemoryFiles, NoMemory> {
+    let mut bytes = Vec::new(alloc);
+    bytes.extend_from_slice(routes.as_bytes())?;
+    file_of(alloc, bytes)
+}
+
+/// The words of a command and the path of its file.
+fn words_of(alloc: Global, command: &str, path: &str) -> Result<Vec<Text>, NoMemory> {
     let mut words = Vec::new(alloc);
-    words.push(Text::of_str(alloc, "drain")?)?;
+    words.push(Text::of_str(alloc, command)?)?;
     words.push(Text::of_str(alloc, path)?)?;
     Ok(words)
 }
 
-/// Drains this route file over the lanes `a` and `b` and a source with these items, and gives the status and the sink,
-/// whose writes with these numbers fail.
+/// A lane of this name that does all that is asked.
+fn lane(alloc: Global, name: &str) -> Result<Lane, NoMemory> {
+    let name = Text::of_str(alloc, name)?;
+    let object = Box::new(alloc, MemoryLane::new(alloc, Vec::new(alloc)))?;
+    Ok(Lane { name, object })
+}
+
+/// The lanes `a` and `b`.
+fn two_lanes(alloc: Global) -> Result<Vec<Lane>, NoMemory> {
+    let mut lanes = Vec::new(alloc);
+    lanes.push(lane(alloc, "lane:a")?)?;
+    lanes.push(lane(alloc, "lane:b")?)?;
+    Ok(lanes)
+}
+
+/// This lane alone, called `x`.
+fn lane_x(alloc: Global, object: Box<dyn Endpoint>) -> Result<Vec<Lane>, NoMemory> {
+    let name = Text::of_str(alloc, "lane:x")?;
+    let mut lanes = Vec::new(alloc);
+    lanes.push(Lane { name, object })?;
+    Ok(lanes)
+}
+
+/// This source as the inlet of standard input.
+fn stream(alloc: Global, source: MemorySource) -> Result<Vec<Inlet>, NoMemory> {
+    let name = Text::of_str(alloc, "stream")?;
+    let object = Box::new(alloc, source)?;
+    let mut inlets = Vec::new(alloc);
+    inlets.push(Inlet { name, object })?;
+    Ok(inlets)
+}
+
+/// A source of these items that never fails, as the inlet of standard input.
+fn stream_of(alloc: Global, items: Vec<(Text, Series<Pulled>)>) -> Result<Vec<Inlet>, NoMemory>
+    requires { AreNew items.items }
+{
+    stream(alloc, MemorySource::new(alloc, items, Vec::new(alloc)))
+}
+
+/// What is handed to a command beside its words.
+#[derive(Drop)]
+struct Given {
+    files: MemoryFiles,
+    lanes: Vec<Lane>,
+    inlets: Vec<Inlet>,
+}
+
+/// Runs the command of these words over what is given.
+fn report(alloc: Global, words: &[Text], given: &mut Given, out: &mut MemorySink) -> Report {
+    let mut patterns = CratePatterns::new(Vec::new(alloc));
+    run(
+        alloc,
+        words,
+        &mut given.files,
+        &mut patterns,
+        &mut given.lanes,
+        &mut given.inlets,
+        &Registry::new(),
+        out,
+    )
+}
+
+/// The status of the command of these words, and what it wrote.
+fn ending(alloc: Global, words: &[Text], given: &mut Given) -> (u8, MemorySink) {
+    let mut out = MemorySink::new(alloc, Vec::new(alloc));
+    let status = report(alloc, words, given, &mut out).status;
+    (status, out)
+}
+
+/// Drains these routes over the lanes `a` and `b` and a source of these items.
 fn drained(
     alloc: Global,
-    path: &str,
     routes: &str,
     items: Vec<(Text, Series<Pulled>)>,
-    failing: Vec<u64>,
 ) -> Result<(u8, MemorySink), NoMemory>
     requires { AreNew items.items }
 {
-    let words = drain_words(alloc, path)?;
-    let mut files = files_with(alloc, routes)?;
-    let mut lanes: Vec<Lane> = Vec::new(alloc);
-    let object = Box::new(alloc, MemoryLane::new(alloc, Vec::new(alloc)))?;
-    let name = Text::of_str(alloc, "lane:a")?;
-    lanes.push(Lane { name, object })?;
-    let object = Box::new(alloc, MemoryLane::new(alloc, Vec::new(alloc)))?;
-    let name = Text::of_str(alloc, "lane:b")?;
-    lanes.push(Lane { name, object })?;
-    let mut inlets: Vec<Inlet> = Vec::new(alloc);
-    let object = Box::new(alloc, MemorySource::new(alloc, items, Vec::new(alloc)))?;
-    let name = Text::of_str(alloc, "stream")?;
-    inlets.push(Inlet { name, object })?;
-    let mut out = MemorySink::new(alloc, failing);
-    let registry = Registry::new();
-    let mut patterns = CratePatterns::new(Vec::new(alloc));
-    let report = run(
-        alloc,
-        &words,
-        &mut files,
-        &mut patterns,
-        &mut lanes,
-        &mut inlets,
-        &registry,
-        &mut out,
-    );
-    Ok((report.status, out))
+    let inlets = stream_of(alloc, items)?;
+    commanded(alloc, "drain", "r.json", routes, inlets)
+}
+
+/// The command with this path, where `r.json` has these routes, over the lanes `a` and `b` and these inlets.
+fn commanded(
+    alloc: Global,
+    command: &str,
+    path: &str,
+    routes: &str,
+    inlets: Vec<Inlet>,
+) -> Result<(u8, MemorySink), NoMemory> {
+    let words = words_of(alloc, command, path)?;
+    let files = files_with(alloc, routes)?;
+    let lanes = two_lanes(alloc)?;
+    let given = &mut Given {
+        files,
+        lanes,
+        inlets,
+    };
+    Ok(ending(alloc, &words, given))
 }
 
 /// Whether a command came to this status and wrote this.
@@ -116,7 +182,7 @@ fn came(ending: &(u8, MemorySink), status: u8, text: &str) -> bool {
 #[test]
 fn each_line_is_sent_and_the_book_stands_behind_the_log(rt: HostRuntime) -> Result<(), Fail> {
     let alloc = rt.alloc();
-    let ending = drained(alloc, "r.json", STEPS, two_lines(alloc)?, Vec::new(alloc))?;
+    let ending = drained(alloc, STEPS, two_lines(alloc)?)?;
     assert!(rt;
         came(
             &ending,
@@ -130,7 +196,7 @@ fn each_line_is_sent_and_the_book_stands_behind_the_log(rt: HostRuntime) -> Resu
 #[test]
 fn empty_input_is_drained(rt: HostRuntime) -> Result<(), Fail> {
     let alloc = rt.alloc();
-    let ending = drained(alloc, "r.json", STEPS, Vec::new(alloc), Vec::new(alloc))?;
+    let ending = drained(alloc, STEPS, Vec::new(alloc))?;
     assert!(rt;
         came(
             &ending,
@@ -144,13 +210,7 @@ fn empty_input_is_drained(rt: HostRuntime) -> Result<(), Fail> {
 #[test]
 fn a_route_without_steps_completes_each_line(rt: HostRuntime) -> Result<(), Fail> {
     let alloc = rt.alloc();
-    let ending = drained(
-        alloc,
-        "r.json",
-        NO_STEPS,
-        two_lines(alloc)?,
-        Vec::new(alloc),
-    )?;
+    let ending = drained(alloc, NO_STEPS, two_lines(alloc)?)?;
     assert!(rt;
         came(
             &ending,
@@ -161,39 +221,39 @@ fn a_route_without_steps_completes_each_line(rt: HostRuntime) -> Result<(), Fail
     Ok(())
 }
 
+/// Whether a drain of this path, where `r.json` has these routes, is refused with this text.
+fn is_refused(alloc: Global, path: &str, routes: &str, text: &str) -> Result<bool, NoMemory> {
+    let inlets = stream_of(alloc, Vec::new(alloc))?;
+    let ending = commanded(alloc, "drain", path, routes, inlets)?;
+    Ok(came(&ending, 1, text))
+}
+
 #[test]
 fn a_missing_route_file_is_told(rt: HostRuntime) -> Result<(), Fail> {
-    let alloc = rt.alloc();
-    let ending = drained(alloc, "s.json", STEPS, Vec::new(alloc), Vec::new(alloc))?;
-    assert!(rt; came(&ending, 1, "error routes $ NoFile\n"));
+    let told = is_refused(rt.alloc(), "s.json", STEPS, "error routes $ NoFile\n")?;
+    assert!(rt; told);
     Ok(())
 }
 
 #[test]
 fn a_lane_that_is_not_handed_in_is_refused(rt: HostRuntime) -> Result<(), Fail> {
-    let alloc = rt.alloc();
-    let ending = drained(
-        alloc,
-        "r.json",
-        OTHER_LANE,
-        Vec::new(alloc),
-        Vec::new(alloc),
-    )?;
-    assert!(rt;
-        came(
-            &ending,
-            1,
-            "error routes $[0].from.steps[0].to NotRegistered lane:c\n"
-        )
-    );
+    let text = "error routes $[0].from.steps[0].to NotRegistered lane:c\n";
+    let told = is_refused(rt.alloc(), "r.json", OTHER_LANE, text)?;
+    assert!(rt; told);
     Ok(())
 }
 
 #[test]
 fn other_words_are_refused(rt: HostRuntime) -> Result<(), Fail> {
-    let alloc = rt.alloc();
-    let ending = drained(alloc, "r.json/", STEPS, Vec::new(alloc), Vec::new(alloc))?;
-    assert!(rt; came(&ending, 1, "error words\n"));
+    let told = is_refused(rt.alloc(), "r.json/", STEPS, "error words\n")?;
+    assert!(rt; told);
+    Ok(())
+}
+
+#[test]
+fn a_file_that_is_no_json_is_told(rt: HostRuntime) -> Result<(), Fail> {
+    let told = is_refused(rt.alloc(), "r.json", "[{", "error routes $ NotJson\n")?;
+    assert!(rt; told);
     Ok(())
 }
 
@@ -222,37 +282,32 @@ fn letter(kind: &Kind) -> u8 {
     }
 }
 
+/// The entries, by their letters, of a drain of two lines to a log whose sink fails at its first write; none where the
+/// status is another or something was written.
+fn letters_of_a_failing_sink(alloc: Global) -> Result<Vec<u8>, NoMemory> {
+    let words = words_of(alloc, "drain", "r.json")?;
+    let files = files_with(alloc, LOGGED)?;
+    let failing = vec![in alloc; 1]?;
+    let inlets = stream_of(alloc, two_lines(alloc)?)?;
+    let lanes = Vec::new(alloc);
+    let given = &mut Given {
+        files,
+        lanes,
+        inlets,
+    };
+    let mut out = MemorySink::new(alloc, failing);
+    let report = report(alloc, &words, given, &mut out);
+    if report.status != 2 || !out.bytes().is_empty() {
+        return Ok(Vec::new(alloc));
+    }
+    letters(alloc, report.journal.entries())
+}
+
 #[test]
 fn a_sink_that_fails_is_the_outcome_of_a_drained_run_and_leaves_its_journal(
     rt: HostRuntime,
 ) -> Result<(), Fail> {
-    let alloc = rt.alloc();
-    let words = drain_words(alloc, "r.json")?;
-    let mut files = files_with(alloc, LOGGED)?;
-    let mut lanes: Vec<Lane> = Vec::new(alloc);
-    let mut inlets: Vec<Inlet> = Vec::new(alloc);
-    let object = Box::new(
-        alloc,
-        MemorySource::new(alloc, two_lines(alloc)?, Vec::new(alloc)),
-    )?;
-    let name = Text::of_str(alloc, "stream")?;
-    inlets.push(Inlet { name, object })?;
-    let mut out = MemorySink::new(alloc, vec![in alloc; 1]?);
-    let registry = Registry::new();
-    let mut patterns = CratePatterns::new(Vec::new(alloc));
-    let report = run(
-        alloc,
-        &words,
-        &mut files,
-        &mut patterns,
-        &mut lanes,
-        &mut inlets,
-        &registry,
-        &mut out,
-    );
-    assert!(rt; report.status == 2);
-    assert!(rt; out.bytes().is_empty());
-    let letters = letters(alloc, report.journal.entries())?;
+    let letters = letters_of_a_failing_sink(rt.alloc())?;
     assert!(rt; letters.as_slice() == b"panfpanfpe".as_slice());
     Ok(())
 }
@@ -261,46 +316,20 @@ fn a_sink_that_fails_is_the_outcome_of_a_drained_run_and_leaves_its_journal(
 const SENT: &str =
     "[{\"from\":{\"uri\":\"stream:in\",\"steps\":[{\"to\":\"lane:x\"},{\"to\":\"log:o\"}]}}]";
 
-/// Drains the route file `r.json` of these files over this lane, called `x`, and this source.
+/// Drains `r.json` of these files over these lanes and inlets.
 fn drained_over(
     alloc: Global,
     files: MemoryFiles,
-    lane: MemoryLane,
-    source: MemorySource,
+    lanes: Vec<Lane>,
+    inlets: Vec<Inlet>,
 ) -> Result<(u8, MemorySink), NoMemory> {
-    let object = Box::new(alloc, lane)?;
-    let name = Text::of_str(alloc, "lane:x")?;
-    drained_to(alloc, files, Lane { name, object }, source)
-}
-
-/// Drains the route file `r.json` of these files over this lane and this source.
-fn drained_to(
-    alloc: Global,
-    mut files: MemoryFiles,
-    lane: Lane,
-    source: MemorySource,
-) -> Result<(u8, MemorySink), NoMemory> {
-    let words = drain_words(alloc, "r.json")?;
-    let mut lanes: Vec<Lane> = Vec::new(alloc);
-    lanes.push(lane)?;
-    let mut inlets: Vec<Inlet> = Vec::new(alloc);
-    let object = Box::new(alloc, source)?;
-    let name = Text::of_str(alloc, "stream")?;
-    inlets.push(Inlet { name, object })?;
-    let mut out = MemorySink::new(alloc, Vec::new(alloc));
-    let registry = Registry::new();
-    let mut patterns = CratePatterns::new(Vec::new(alloc));
-    let report = run(
-        alloc,
-        &words,
-        &mut files,
-        &mut patterns,
-        &mut lanes,
-        &mut inlets,
-        &registry,
-        &mut out,
-    );
-    Ok((report.status, out))
+    let given = &mut Given {
+        files,
+        lanes,
+        inlets,
+    };
+    let words = words_of(alloc, "drain", "r.json")?;
+    Ok(ending(alloc, &words, given))
 }
 
 /// A lane that a test shares with a run, so that its calls can be looked at behind the run. It tells none to the run.
@@ -347,21 +376,24 @@ fn are_done_and_failed(calls: &[Call]) -> bool {
     }
 }
 
-#[test]
-fn a_lane_that_fails_fails_its_exchange_alone(rt: HostRuntime) -> Result<(), Fail> {
-    let alloc = rt.alloc();
+/// Drains two lines through the lane `x`, which fails its second call, and then a log: how it ended, and whether the
+/// lane's calls came out as done and then as failed.
+fn sent_twice(alloc: Global) -> Result<((u8, MemorySink), bool), NoMemory> {
     let kept = MemoryLane::new(alloc, vec![in alloc; 2]?);
     let shared = Arc::new(alloc, Mutex::new(kept))?;
     let lane = shared.clone()?;
-    let object = Box::new(alloc, SharedLane { lane, faults: 0 })?;
-    let name = Text::of_str(alloc, "lane:x")?;
-    let source = MemorySource::new(alloc, two_lines(alloc)?, Vec::new(alloc));
-    let ending = drained_to(
-        alloc,
-        files_with(alloc, SENT)?,
-        Lane { name, object },
-        source,
-    )?;
+    let lanes = lane_x(alloc, Box::new(alloc, SharedLane { lane, faults: 0 })?)?;
+    let inlets = stream_of(alloc, two_lines(alloc)?)?;
+    let ending = drained_over(alloc, files_with(alloc, SENT)?, lanes, inlets)?;
+    let told = shared
+        .try_lock()
+        .is_some_and(|lane| are_done_and_failed(lane.calls()));
+    Ok((ending, told))
+}
+
+#[test]
+fn a_lane_that_fails_fails_its_exchange_alone(rt: HostRuntime) -> Result<(), Fail> {
+    let (ending, told) = sent_twice(rt.alloc())?;
     assert!(rt;
         came(
             &ending,
@@ -369,20 +401,28 @@ fn a_lane_that_fails_fails_its_exchange_alone(rt: HostRuntime) -> Result<(), Fai
             "log 1 o: a\nexchange 1 source route1 completed\nexchange 2 source route1 failed SendFailed \"lane:x\"\naccepted 2 refused 0\ntotal 2 completed 1 handled 0 failed 1 waiting 0\ndrained\n"
         )
     );
-    assert!(rt;
-        shared
-            .try_lock()
-            .is_some_and(|lane| are_done_and_failed(lane.calls()))
-    );
+    assert!(rt; told);
     Ok(())
+}
+
+/// Drains two lines of a source that fails at its second pull, through the lane `x` and then a log.
+fn pulled_twice(alloc: Global) -> Result<(u8, MemorySink), NoMemory> {
+    let lanes = lane_x(
+        alloc,
+        Box::new(alloc, MemoryLane::new(alloc, Vec::new(alloc)))?,
+    )?;
+    let source = MemorySource::new(alloc, two_lines(alloc)?, vec![in alloc; 2]?);
+    drained_over(
+        alloc,
+        files_with(alloc, SENT)?,
+        lanes,
+        stream(alloc, source)?,
+    )
 }
 
 #[test]
 fn a_source_that_fails_ends_the_run(rt: HostRuntime) -> Result<(), Fail> {
-    let alloc = rt.alloc();
-    let lane = MemoryLane::new(alloc, Vec::new(alloc));
-    let source = MemorySource::new(alloc, two_lines(alloc)?, vec![in alloc; 2]?);
-    let ending = drained_over(alloc, files_with(alloc, SENT)?, lane, source)?;
+    let ending = pulled_twice(rt.alloc())?;
     assert!(rt;
         came(
             &ending,
@@ -393,46 +433,28 @@ fn a_source_that_fails_ends_the_run(rt: HostRuntime) -> Result<(), Fail> {
     Ok(())
 }
 
-#[test]
-fn files_that_fail_end_the_command(rt: HostRuntime) -> Result<(), Fail> {
-    let alloc = rt.alloc();
-    let lane = MemoryLane::new(alloc, Vec::new(alloc));
-    let source = MemorySource::new(alloc, two_lines(alloc)?, Vec::new(alloc));
-    let files = MemoryFiles::new(alloc, Vec::new(alloc), vec![in alloc; 1]?);
-    let ending = drained_over(alloc, files, lane, source)?;
-    assert!(rt; came(&ending, 2, "error files\n"));
-    Ok(())
+/// Drains these files over a source of two lines.
+fn drained_files(alloc: Global, files: MemoryFiles) -> Result<(u8, MemorySink), NoMemory> {
+    let inlets = stream_of(alloc, two_lines(alloc)?)?;
+    drained_over(alloc, files, Vec::new(alloc), inlets)
 }
 
 #[test]
-fn a_file_that_is_no_json_is_told(rt: HostRuntime) -> Result<(), Fail> {
+fn files_that_fail_end_the_command(rt: HostRuntime) -> Result<(), Fail> {
     let alloc = rt.alloc();
-    let lane = MemoryLane::new(alloc, Vec::new(alloc));
-    let source = MemorySource::new(alloc, two_lines(alloc)?, Vec::new(alloc));
-    let ending = drained_over(alloc, files_with(alloc, "[{")?, lane, source)?;
-    assert!(rt; came(&ending, 1, "error routes $ NotJson\n"));
+    let files = MemoryFiles::new(alloc, Vec::new(alloc), vec![in alloc; 1]?);
+    let ending = drained_files(alloc, files)?;
+    assert!(rt; came(&ending, 2, "error files\n"));
     Ok(())
 }
 
 #[test]
 fn a_file_of_more_than_its_bytes_is_told(rt: HostRuntime) -> Result<(), Fail> {
     let alloc = rt.alloc();
-    let lane = MemoryLane::new(alloc, Vec::new(alloc));
-    let source = MemorySource::new(alloc, two_lines(alloc)?, Vec::new(alloc));
-    let files = long_file(alloc)?;
-    let ending = drained_over(alloc, files, lane, source)?;
+    let files = file_of(alloc, vec![in alloc; b' '; 1_048_577]?)?;
+    let ending = drained_files(alloc, files)?;
     assert!(rt; came(&ending, 1, "error routes $ TooLong\n"));
     Ok(())
-}
-
-/// The file `r.json` with 1,048,577 spaces.
-fn long_file(alloc: Global) -> Result<MemoryFiles, NoMemory> {
-    let bytes = vec![in alloc; b' '; 1_048_577]?;
-    let folder = Text::of_str(alloc, ".")?;
-    let name = Text::of_str(alloc, "r.json")?;
-    let mut content = Vec::new(alloc);
-    content.push((folder, name, Series::of(bytes)))?;
-    Ok(MemoryFiles::new(alloc, content, Vec::new(alloc)))
 }
 
 /// The line `1` with this body, which a source gives only where it has at most 65,536 bytes.
@@ -463,13 +485,21 @@ fn route_of(alloc: Global, steps: &str) -> Result<String, NoMemory> {
 /// Drains a line through these steps, and gives the status and the sink.
 fn stepped(alloc: Global, steps: &str, body: &str) -> Result<(u8, MemorySink), NoMemory> {
     let file = route_of(alloc, steps)?;
-    drained(
-        alloc,
-        "r.json",
-        file.as_str(),
-        one_line(alloc, body)?,
-        Vec::new(alloc),
-    )
+    drained(alloc, file.as_str(), one_line(alloc, body)?)
+}
+
+/// Whether a line comes through these steps to a drained run with this book, in two parts.
+fn is_stepped(
+    alloc: Global,
+    steps: &str,
+    body: &str,
+    front: &str,
+    totals: &str,
+) -> Result<bool, NoMemory> {
+    let mut text = String::from_str(alloc, front)?;
+    text.push_str(totals)?;
+    let ending = stepped(alloc, steps, body)?;
+    Ok(came(&ending, 0, text.as_str()))
 }
 
 /// What stands in the book of one exchange behind its line, by how many completed and failed.
@@ -539,12 +569,9 @@ const STEPPED: [(&str, &str, &str, &str); 9] = [
 
 #[test]
 fn simple_steps_do_what_they_mean(rt: HostRuntime) -> Result<(), Fail> {
-    let alloc = rt.alloc();
     for (steps, body, front, totals) in STEPPED {
-        let ending = stepped(alloc, steps, body)?;
-        let mut text = String::from_str(alloc, front)?;
-        text.push_str(totals)?;
-        assert!(rt; came(&ending, 0, text.as_str()));
+        let told = is_stepped(rt.alloc(), steps, body, front, totals)?;
+        assert!(rt; told, "of {steps}");
     }
     Ok(())
 }
@@ -558,26 +585,21 @@ fn repeated(alloc: Global, text: &str, times: usize) -> Result<String, NoMemory>
     Ok(out)
 }
 
+/// Whether a line of so many bytes, doubled by a step, comes to this book.
+fn is_doubled(alloc: Global, length: usize, front: &str, totals: &str) -> Result<bool, NoMemory> {
+    let body = repeated(alloc, "x", length)?;
+    let steps = "[{\"setBody\":{\"simple\":\"${body}${body}\"}}]";
+    is_stepped(alloc, steps, body.as_str(), front, totals)
+}
+
 #[test]
 fn a_body_of_more_than_its_bytes_fails(rt: HostRuntime) -> Result<(), Fail> {
-    let alloc = rt.alloc();
-    let steps = "[{\"setBody\":{\"simple\":\"${body}${body}\"}}]";
-    let longest = stepped(alloc, steps, repeated(alloc, "x", 32_768)?.as_str())?;
-    let longer = stepped(alloc, steps, repeated(alloc, "x", 32_769)?.as_str())?;
-    assert!(rt;
-        came(
-            &longest,
-            0,
-            "exchange 1 source route1 completed\naccepted 1 refused 0\ntotal 1 completed 1 handled 0 failed 0 waiting 0\ndrained\n"
-        )
-    );
-    assert!(rt;
-        came(
-            &longer,
-            0,
-            "exchange 1 source route1 failed TooLong \"\"\naccepted 1 refused 0\ntotal 1 completed 0 handled 0 failed 1 waiting 0\ndrained\n"
-        )
-    );
+    let line = "exchange 1 source route1 completed\n";
+    let longest = is_doubled(rt.alloc(), 32_768, line, COMPLETED)?;
+    assert!(rt; longest);
+    let line = "exchange 1 source route1 failed TooLong \"\"\n";
+    let longer = is_doubled(rt.alloc(), 32_769, line, FAILED)?;
+    assert!(rt; longer);
     Ok(())
 }
 
@@ -598,22 +620,14 @@ fn headers_to(alloc: Global, count: u64) -> Result<String, NoMemory> {
 #[test]
 fn the_sixty_fifth_header_fails(rt: HostRuntime) -> Result<(), Fail> {
     let alloc = rt.alloc();
-    let most = stepped(alloc, headers_to(alloc, 64)?.as_str(), "x")?;
-    let more = stepped(alloc, headers_to(alloc, 65)?.as_str(), "x")?;
-    assert!(rt;
-        came(
-            &most,
-            0,
-            "exchange 1 source route1 completed\naccepted 1 refused 0\ntotal 1 completed 1 handled 0 failed 0 waiting 0\ndrained\n"
-        )
-    );
-    assert!(rt;
-        came(
-            &more,
-            0,
-            "exchange 1 source route1 failed TooManyHeaders \"h65\"\naccepted 1 refused 0\ntotal 1 completed 0 handled 0 failed 1 waiting 0\ndrained\n"
-        )
-    );
+    let steps = headers_to(alloc, 64)?;
+    let line = "exchange 1 source route1 completed\n";
+    let most = is_stepped(alloc, steps.as_str(), "x", line, COMPLETED)?;
+    assert!(rt; most);
+    let steps = headers_to(alloc, 65)?;
+    let line = "exchange 1 source route1 failed TooManyHeaders \"h65\"\n";
+    let more = is_stepped(alloc, steps.as_str(), "x", line, FAILED)?;
+    assert!(rt; more);
     Ok(())
 }
 
@@ -631,41 +645,19 @@ const REFUSED: [(&str, &str); 2] = [
 
 #[test]
 fn routes_that_are_wrong_or_not_run_are_refused(rt: HostRuntime) -> Result<(), Fail> {
-    let alloc = rt.alloc();
     for (steps, text) in REFUSED {
-        let ending = stepped(alloc, steps, "x")?;
-        assert!(rt; came(&ending, 1, text));
+        let routes = route_of(rt.alloc(), steps)?;
+        let told = is_refused(rt.alloc(), "r.json", routes.as_str(), text)?;
+        assert!(rt; told, "of {steps}");
     }
     Ok(())
 }
 
-/// Checks this route file without lanes and with the inlet `stream`, and gives the status and the sink.
-fn checked(alloc: Global, routes: &str) -> Result<(u8, MemorySink), NoMemory> {
-    let mut words = Vec::new(alloc);
-    words.push(Text::of_str(alloc, "check")?)?;
-    words.push(Text::of_str(alloc, "r.json")?)?;
-    let mut files = files_with(alloc, routes)?;
-    let mut lanes: Vec<Lane> = Vec::new(alloc);
-    let mut inlets: Vec<Inlet> = Vec::new(alloc);
-    let object = Box::new(
-        alloc,
-        MemorySource::new(alloc, Vec::new(alloc), Vec::new(alloc)),
-    )?;
-    let name = Text::of_str(alloc, "stream")?;
-    inlets.push(Inlet { name, object })?;
-    let mut out = MemorySink::new(alloc, Vec::new(alloc));
-    let mut patterns = CratePatterns::new(Vec::new(alloc));
-    let report = run(
-        alloc,
-        &words,
-        &mut files,
-        &mut patterns,
-        &mut lanes,
-        &mut inlets,
-        &Registry::new(),
-        &mut out,
-    );
-    Ok((report.status, out))
+/// Whether a check of these routes comes to this status and text.
+fn is_checked(alloc: Global, routes: &str, status: u8, text: &str) -> Result<bool, NoMemory> {
+    let inlets = stream_of(alloc, Vec::new(alloc))?;
+    let ending = commanded(alloc, "check", "r.json", routes, inlets)?;
+    Ok(came(&ending, status, text))
 }
 
 /// Route files and what their check prints.
@@ -685,10 +677,9 @@ const CHECKED: [(&str, u8, &str); 3] = [
 
 #[test]
 fn a_check_prints_the_canonical_text_or_the_first_fault(rt: HostRuntime) -> Result<(), Fail> {
-    let alloc = rt.alloc();
     for (routes, status, text) in CHECKED {
-        let ending = checked(alloc, routes)?;
-        assert!(rt; came(&ending, status, text));
+        let told = is_checked(rt.alloc(), routes, status, text)?;
+        assert!(rt; told, "of {routes}");
     }
     Ok(())
 }
