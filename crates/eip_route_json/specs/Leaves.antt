@@ -1,9 +1,9 @@
 -- What the single values of a route file say: texts, truth values, numbers, and the policy of redelivery. Where a value is of a wrong kind, the file has a fault, and the value here is a default.
 use Rattle.std.specs.Prelude.{ℕ, ◌^◌, ℤ, pos, negsuc, Bool, nat_lt, List, [], ◌∷◌, Option, Some, None, option_map, if◌then◌else◌}
 use Rattle.eip_text.specs.Json.{Json, whole, word, list, object, Items, no_items, item, Members}
+use Rattle.eip_text.specs.Numbers.{whole_of}
 use Rattle.eip_exchange.specs.declared.setting.Policy.{Policy}
 use Rattle.eip_route_table.specs.Sites.{value_at, parameter_text, plainly}
-use Rattle.eip_route_table.specs.Values.{whole_of}
 use Rattle.eip_route_table.specs.declared.keys.Key.{Key}
 use Rattle.eip_route_table.specs.declared.keys.Key.TheVariants as key
 

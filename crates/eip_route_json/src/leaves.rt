@@ -2,8 +2,8 @@
 
 ghost use Rattle.std.specs.Prelude.{◌≡◌, ◌^◌, [], ◌∷◌, IfOk, Some, option_map};
 ghost use Rattle.eip_text.specs.Json.{json, items_json, members_json};
+ghost use Rattle.eip_text.specs.Numbers.{whole_of};
 ghost use Rattle.eip_route_table.specs.Sites as sites;
-ghost use Rattle.eip_route_table.specs.Values.{whole_of};
 ghost use Rattle.eip_route_json.specs.Leaves as spec;
 
 use eip_exchange::Policy;

@@ -1,9 +1,9 @@
 -- The rules for texts, numbers and truth values: what is wrong with one.
-use Rattle.std.specs.Prelude.{ℕ, ◌^◌, ℤ, pos, negsuc, Bool, false, not, ◌&&◌, ◌||◌, nat_le, nat_lt, List, [], ◌∷◌, ◌++◌, length, drop, bytes_eq, codes, Option, Some, None, is_some, unwrap_or, Result, Ok, Err, if◌then◌else◌}
-use Rattle.std.specs.List.{list_all, list_any}
-use Rattle.std.specs.Str.Parse.{starts_with_minus, signed_digits_value}
-use Rattle.eip_text.specs.Cuts.{behind, holds_byte, is_digit}
+use Rattle.std.specs.Prelude.{ℕ, ℤ, pos, negsuc, Bool, false, not, ◌&&◌, ◌||◌, nat_le, nat_lt, List, [], ◌∷◌, ◌++◌, length, bytes_eq, codes, Option, Some, None, is_some, unwrap_or, Result, Ok, Err, if◌then◌else◌}
+use Rattle.std.specs.List.{list_any}
+use Rattle.eip_text.specs.Cuts.{behind, holds_byte}
 use Rattle.eip_text.specs.Names.{is_name}
+use Rattle.eip_text.specs.Numbers.{whole_of}
 use Rattle.eip_exchange.specs.declared.setting.Strategy.{Strategy}
 use Rattle.eip_exchange.specs.declared.setting.Strategy.TheVariants as strategy
 use Rattle.eip_uri.specs.declared.uri.Uri.{Uri}
@@ -107,22 +107,6 @@ spelled_cause (Ok x) = None
 spelled_cause (Err e) = simple_cause e
 
 -- ---- numbers and truth values
-
--- one or more decimal digits
-abbrev pub is_numeral : List ℕ → Bool
-is_numeral ds = nat_lt 0 (length ds) && list_all is_digit ds
-
--- a number of 64 bits with a sign
-abbrev pub is_small : ℤ → Bool
-is_small (pos n) = nat_lt n (2 ^ 63)
-is_small (negsuc n) = nat_lt n (2 ^ 63)
-
-abbrev pub is_whole : List ℕ → Bool
-is_whole bs = is_numeral (if starts_with_minus bs then drop 1 bs else bs) && is_small (signed_digits_value 10 bs)
-
--- the number that an optional `-` and one or more digits spell, where it has 64 bits
-unfoldable pub whole_of : List ℕ → Option ℤ
-whole_of bs = if is_whole bs then Some (signed_digits_value 10 bs) else None
 
 abbrev pub is_within : ℕ → ℕ → ℤ → Bool
 is_within low high (pos n) = nat_le low n && nat_le n high

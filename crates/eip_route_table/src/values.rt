@@ -1,5 +1,6 @@
 ghost use Rattle.std.specs.Prelude.{◌≡◌, ℕ, IfOk, Some, option_map};
 ghost use Rattle.std.specs.List.{list_all};
+ghost use Rattle.eip_text.specs.Numbers.{whole_of};
 ghost use Rattle.eip_uri.specs.Options.{is_level};
 ghost use Rattle.eip_uri.specs.Reading.{read};
 ghost use Rattle.eip_simple_read.specs.Meaning.{template_of};
@@ -210,7 +211,7 @@ fn template_cause(alloc: Global, text: &Text) -> Result<Option<Cause>, NoMemory>
 
 /// The whole number of 64 bits that the text spells.
 pub fn whole(text: &str) -> Option<i64>
-    ensures { result ≡ spec.whole_of text.now }
+    ensures { result ≡ whole_of text.now }
 {
     read_i64(text.as_bytes())
 }

@@ -1,5 +1,4 @@
 pub mod Finding
-pub mod Numbers
 pub mod Patterns
 pub mod Among
 pub mod Bytes

@@ -6,8 +6,8 @@ use Rattle.std.specs.Str.Parse.{signed_digits_value}
 use Rattle.std.proofs.lemmas.Bool.Decides.{nat_tests}
 use Rattle.std.proofs.lemmas.Bool.{and_parts}
 use Rattle.eip_text.specs.Cuts.{behind, cut, holds_byte, is_digit}
+use Rattle.eip_text.specs.Numbers.{is_numeral, is_small, is_whole, whole_of}
 use Rattle.eip_text.proofs.Cutting.{cut_parts, cut_again, behind_parts}
-use Rattle.eip_simple.specs.Orders.{is_numeral, is_small, is_whole, number_of}
 use Rattle.eip_simple.specs.Operators.{bounds, is_between, is_between_texts, is_within, IsInRange}
 
 -- ---- a whole number has no dot
@@ -39,8 +39,8 @@ some_whole : (t : Bool) (z n : ℤ) → cond t (Some z) None ≡ Some n → t �
 some_whole true z n e = refl
 some_whole false z n e = absurd cc
 
-number_no_dot : (bs : List ℕ) (n : ℤ) → number_of bs ≡ Some n → holds_byte 46 bs ≡ false
-unfolding number_of
+number_no_dot : (bs : List ℕ) (n : ℤ) → whole_of bs ≡ Some n → holds_byte 46 bs ≡ false
+unfolding whole_of
 number_no_dot bs n e = whole_no_dot bs (some_whole (is_whole bs) (signed_digits_value 10 bs) n e)
 
 -- ---- the two bounds
@@ -78,7 +78,7 @@ within_law a b = (λ h. within_by a b (bounds b) refl h, λ r. back r)
   where
     back : IsInRange a b → is_between_texts a (bounds b) ≡ true
     back r =
-        let l = between_low (number_of a) (number_of r.0) (number_of r.1) r.3 in
+        let l = between_low (whole_of a) (whole_of r.0) (whole_of r.1) r.3 in
         ap (λ (bs : List ℕ). is_between_texts a (bounds bs)) r.2
         ∙ (ap (is_between_texts a) (bounds_again r.0 r.1 (number_no_dot r.0 l.0 l.1)) ∙ r.3)
 

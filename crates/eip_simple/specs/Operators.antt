@@ -5,9 +5,10 @@ use Rattle.std.specs.List.{list_any, starts_with, ends_with}
 use Rattle.memchr.specs.Find.{matches, first_of}
 use Rattle.eip_text.specs.Cuts.{behind, cut, pieces}
 use Rattle.eip_text.specs.Names.{folded}
+use Rattle.eip_text.specs.Numbers.{whole_of}
 use Rattle.eip_simple_read.specs.declared.tree.Op.{Op}
 use Rattle.eip_simple_read.specs.declared.tree.Op.TheVariants.{Equal, NotEqual, EqualFold, Less, AtMost, Greater, AtLeast, Contains, NotContains, ContainsFold, StartsWith, EndsWith, In, NotIn, Range, NotRange}
-use Rattle.eip_simple.specs.Orders.{number_of, order}
+use Rattle.eip_simple.specs.Orders.{order}
 
 -- ---- of two texts
 
@@ -36,7 +37,7 @@ is_between None low high = false
 
 abbrev pub is_between_texts : List ℕ → Option (List ℕ × List ℕ) → Bool
 is_between_texts a None = false
-is_between_texts a (Some p) = is_between (number_of a) (number_of p.0) (number_of p.1)
+is_between_texts a (Some p) = is_between (whole_of a) (whole_of p.0) (whole_of p.1)
 
 -- b is `LOW..HIGH`, and a lies between these whole numbers
 unfoldable pub is_within : List ℕ → List ℕ → Bool
@@ -44,7 +45,7 @@ is_within a b = is_between_texts a (bounds b)
 
 -- some LOW and HIGH are the range's bounds, and a lies between these whole numbers
 abbrev pub IsInRange : List ℕ → List ℕ → Type 0
-IsInRange a b = (low : List ℕ) × (high : List ℕ) × (b ≡ low ++ (46 ∷ 46 ∷ high)) × (is_between (number_of a) (number_of low) (number_of high) ≡ true)
+IsInRange a b = (low : List ℕ) × (high : List ℕ) × (b ≡ low ++ (46 ∷ 46 ∷ high)) × (is_between (whole_of a) (whole_of low) (whole_of high) ≡ true)
 
 -- ---- of two sides
 

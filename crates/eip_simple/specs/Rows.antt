@@ -1,6 +1,7 @@
 -- Worked rows of the table of operators, and of values.
 use Rattle.std.specs.Prelude.{◌≡◌, true, false, [], ◌∷◌, codes, Some, None, refl}
 use Rattle.memchr.specs.Find.{matches_from, first_of}
+use Rattle.eip_text.specs.Numbers.{whole_of}
 use Rattle.eip_simple_read.specs.declared.tree.Function.TheVariants.{Body, Header, Property, RouteId}
 use Rattle.eip_simple_read.specs.declared.tree.Part.TheVariants.{Plain, Call}
 use Rattle.eip_simple_read.specs.declared.tree.Op.TheVariants.{Equal, NotEqual, EqualFold, Less, AtMost, Contains, NotContains, ContainsFold, StartsWith, EndsWith, In, Range, NotRange}
@@ -8,30 +9,30 @@ use Rattle.eip_simple_read.specs.declared.tree.Side.TheVariants as side
 use Rattle.eip_simple_read.specs.declared.tree.Test.TheVariants.{Single, Compare}
 use Rattle.eip_simple.specs.Views.{Seen}
 use Rattle.eip_simple.specs.Values.{template_value}
-use Rattle.eip_simple.specs.Orders.{number_of, order}
+use Rattle.eip_simple.specs.Orders.{order}
 use Rattle.eip_simple.specs.Operators.{occurs, is_among, is_within, op_holds}
 use Rattle.eip_simple.specs.Holding.{predicate_holds}
 
 -- ---- numbers where both are, else bytes
 
 nine_below_ten : op_holds Less (Some (codes "9")) (Some (codes "10")) ≡ true
-unfolding number_of order
+unfolding whole_of order
 nine_below_ten = refl
 
 nine_a_not_below_ten : op_holds Less (Some (codes "9a")) (Some (codes "10")) ≡ false
-unfolding number_of order
+unfolding whole_of order
 nine_a_not_below_ten = refl
 
 a_number_in_two_spellings : op_holds Equal (Some (codes "-07")) (Some (codes "-7")) ≡ true
-unfolding number_of order
+unfolding whole_of order
 a_number_in_two_spellings = refl
 
 bytes_keep_their_case : op_holds Equal (Some (codes "a")) (Some (codes "A")) ≡ false
-unfolding number_of order
+unfolding whole_of order
 bytes_keep_their_case = refl
 
 beyond_64_bits_by_bytes : op_holds AtMost (Some (codes "9223372036854775808")) (Some (codes "93")) ≡ true
-unfolding number_of order
+unfolding whole_of order
 beyond_64_bits_by_bytes = refl
 
 -- ---- absent sides
@@ -72,21 +73,21 @@ longer_than_the_text : op_holds EndsWith (Some (codes "lo")) (Some (codes "hello
 longer_than_the_text = refl
 
 among_numbers : op_holds In (Some (codes "9")) (Some (codes "8,09")) ≡ true
-unfolding number_of order is_among
+unfolding whole_of order is_among
 among_numbers = refl
 
 among_pieces : op_holds In (Some (codes "a,b")) (Some (codes "a,b")) ≡ false
-unfolding number_of order is_among
+unfolding whole_of order is_among
 among_pieces = refl
 
 -- ---- ranges
 
 both_bounds_are_in : op_holds Range (Some (codes "9")) (Some (codes "5..9")) ≡ true
-unfolding number_of is_within
+unfolding whole_of is_within
 both_bounds_are_in = refl
 
 a_bad_bound : op_holds NotRange (Some (codes "5")) (Some (codes "1..x")) ≡ true
-unfolding number_of is_within
+unfolding whole_of is_within
 a_bad_bound = refl
 
 -- ---- values and predicates
@@ -99,5 +100,5 @@ unfolding sample template_value
 a_value = refl
 
 some_conjunction : predicate_holds (record { any = (Single side.Null ∷ []) ∷ (Single (side.Call Body) ∷ Compare (side.Call (Property (codes "p"))) Equal (side.Value (record { parts = Plain (codes "q") ∷ [] })) ∷ []) ∷ [] }) sample ≡ true
-unfolding sample predicate_holds template_value number_of order
+unfolding sample predicate_holds template_value whole_of order
 some_conjunction = refl

@@ -1,8 +1,8 @@
 ghost use Rattle.std.specs.Prelude.{◌≡◌, ◌↔◌, List, ℕ, IsTrue, Some, None, map, option_map, option_copied, IfOk, option_and_then};
 ghost use Rattle.memchr.specs.Find.{OccursAt};
 ghost use Rattle.eip_text.specs.Names.{folded};
+ghost use Rattle.eip_text.specs.Numbers.{whole_of};
 ghost use Rattle.eip_simple.specs.Operators as spec;
-ghost use Rattle.eip_simple.specs.Orders.{number_of};
 
 use crate::orders::{number, order};
 use eip_simple_read::Op;
@@ -129,7 +129,7 @@ fn is_within(text: &str, range: &str) -> bool
 
 /// Whether the first of three texts is a whole number from the second one up to the third, both included.
 fn is_between(text: &str, low: &str, high: &str) -> bool
-    ensures { result ≡ spec.is_between (number_of text.now) (number_of low.now) (number_of high.now) }
+    ensures { result ≡ spec.is_between (whole_of text.now) (whole_of low.now) (whole_of high.now) }
 {
     match (number(text), number(low), number(high)) {
         (Some(number), Some(low), Some(high)) => low <= number && number <= high,

@@ -1,12 +1,13 @@
 ghost use Rattle.std.specs.Prelude.{◌≡◌};
-ghost use Rattle.eip_simple.specs.Orders.{number_of, order};
+ghost use Rattle.eip_text.specs.Numbers.{whole_of};
+ghost use Rattle.eip_simple.specs.Orders.{order};
 
 use eip_text::read_i64;
 use std::cmp::Ordering;
 
 /// The whole number of 64 bits that a text spells.
 pub fn number(text: &str) -> Option<i64>
-    ensures { result ≡ number_of text.now }
+    ensures { result ≡ whole_of text.now }
 {
     read_i64(text.as_bytes())
 }

@@ -7,4 +7,5 @@ pub mod Levels
 pub mod Occurrences
 pub mod Printing
 pub mod Readings
+pub mod WholeNumbers
 pub mod Wholes

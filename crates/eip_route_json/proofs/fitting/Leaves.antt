@@ -3,6 +3,7 @@ use Rattle.std.proofs.Common.{ℕ, ℤ, pos, negsuc, ◌≡◌, ◌<◌, Bool, t
 use Rattle.std.proofs.lemmas.Bool.{and_parts, true≢false}
 use Rattle.eip_text.specs.Json.{Json, null, flag, whole, float, word, list, object}
 use Rattle.eip_text.specs.Names.{is_name}
+use Rattle.eip_text.specs.Numbers.{whole_of}
 use Rattle.eip_simple_read.specs.declared.fault.SimpleFault.{SimpleFault}
 use Rattle.eip_simple_read.specs.declared.fault.SimpleFault.TheVariants as fault
 use Rattle.eip_simple_read.specs.declared.tree.Predicate.{Predicate}
@@ -14,7 +15,7 @@ use Rattle.eip_uri.specs.Ranges.{is_between}
 use Rattle.eip_route.specs.declared.route.Names.{Names}
 use Rattle.eip_route.specs.Valid.{is_filled, is_kind, is_given_name, is_given_between}
 use Rattle.eip_route_table.specs.Table.{rule_of, list_of, shape_of}
-use Rattle.eip_route_table.specs.Values.{unhashed, is_among, name_cause, handed_in, registered, simple_cause, spelled_cause, whole_of, is_within, is_count, is_true, last_segment}
+use Rattle.eip_route_table.specs.Values.{unhashed, is_among, name_cause, handed_in, registered, simple_cause, spelled_cause, is_within, is_count, is_true, last_segment}
 use Rattle.eip_route_table.specs.declared.fault.Cause.TheVariants as cause
 use Rattle.eip_route_table.specs.declared.table.Kind.TheVariants as kind
 use Rattle.eip_route_table.specs.declared.table.Rule.TheVariants as rule

@@ -1,6 +1,6 @@
 use Rattle.std.proofs.Common.{ap, ◌∙◌}
-use Rattle.eip_route_table.specs.Values.{whole_of}
-use Rattle.eip_route_table.proofs.Numbers.{whole_is}
+use Rattle.eip_text.specs.Numbers.{whole_of}
+use Rattle.eip_text.proofs.WholeNumbers.{whole_is}
 use Rattle.eip_route_table.proofs.values.whole.Goals as goal
 
 pub returns : goal.returns

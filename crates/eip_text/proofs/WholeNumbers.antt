@@ -5,13 +5,12 @@ use Rattle.std.specs.Int.{w64}
 use Rattle.std.specs.List.{list_all}
 use Rattle.std.specs.Option.{SomeIff}
 use Rattle.std.specs.Char.{digit_value}
-use Rattle.std.specs.Str.Parse.{AllDigits, signed_digits_value, starts_with_minus}
+use Rattle.std.specs.Str.Parse.{AllDigits, IsNumeral, signed_digits_value, starts_with_minus}
 use Rattle.std.proofs.lemmas.Bool.Decides.{nat_tests}
 use Rattle.std.proofs.lemmas.Bool.{and_parts, lt-ltb, ltb-true}
 use Rattle.std.proofs.lemmas.Str.Parse.{digit_from_value}
 use Rattle.eip_text.specs.Cuts.{is_digit}
-use Rattle.eip_text.specs.Numbers.{IsWhole}
-use Rattle.eip_route_table.specs.Values.{is_numeral, is_small, is_whole, whole_of}
+use Rattle.eip_text.specs.Numbers.{IsWhole, is_numeral, is_small, is_whole, whole_of}
 
 digit_true : (c : ℕ) → digit_value c < 10 → is_digit c ≡ true
 digit_true c h = let range = digit_from_value c h in grind (arith, nat_tests, range)
@@ -35,20 +34,22 @@ small_fits : (z : ℤ) → is_small z ≡ true → FitsSigned w64 z
 small_fits (pos n) h = record { sfits = ltb-true n (2 ^ 63) h }
 small_fits (negsuc n) h = record { sfits = ltb-true n (2 ^ 63) h }
 
+numeral_true : (ds : List ℕ) → IsNumeral 10 ds → is_numeral ds ≡ true
+numeral_true ds h = ap (λ (b : Bool). b && list_all is_digit ds) (lt-ltb 0 (length ds) h.0) ∙ digits_true ds h.1
+
+numeral_so : (ds : List ℕ) → is_numeral ds ≡ true → IsNumeral 10 ds
+numeral_so ds h = let p = and_parts (nat_lt 0 (length ds)) (list_all is_digit ds) h in (ltb-true 0 (length ds) p.0, digits_small ds p.1)
+
 abbrev unsigned : List ℕ → List ℕ
 unsigned bs = cond (starts_with_minus bs) (drop 1 bs) bs
 
 whole_true : (bs : List ℕ) → IsWhole bs → is_whole bs ≡ true
-whole_true bs h =
-    ap (λ (b : Bool). (b && list_all is_digit (unsigned bs)) && is_small (signed_digits_value 10 bs)) (lt-ltb 0 (length (unsigned bs)) h.0.0)
-    ∙ ap (λ (b : Bool). b && is_small (signed_digits_value 10 bs)) (digits_true (unsigned bs) h.0.1)
-    ∙ small_true (signed_digits_value 10 bs) h.1
+whole_true bs h = ap (λ (b : Bool). b && is_small (signed_digits_value 10 bs)) (numeral_true (unsigned bs) h.0) ∙ small_true (signed_digits_value 10 bs) h.1
 
 whole_so : (bs : List ℕ) → is_whole bs ≡ true → IsWhole bs
 whole_so bs h =
     let p = and_parts (is_numeral (unsigned bs)) (is_small (signed_digits_value 10 bs)) h in
-    let q = and_parts (nat_lt 0 (length (unsigned bs))) (list_all is_digit (unsigned bs)) p.0 in
-    ((ltb-true 0 (length (unsigned bs)) q.0, digits_small (unsigned bs) q.1), small_fits (signed_digits_value 10 bs) p.1)
+    (numeral_so (unsigned bs) p.0, small_fits (signed_digits_value 10 bs) p.1)
 
 not_whole : (t : Bool) (bs : List ℕ) → is_whole bs ≡ t → (IsWhole bs → ⊥) → None ≡ cond t (Some (signed_digits_value 10 bs)) None
 not_whole true bs e h = absurd (h (whole_so bs e))
