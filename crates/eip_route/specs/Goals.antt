@@ -1,5 +1,6 @@
 -- Where the messages of a URI go.
-use Rattle.std.specs.Prelude.{ℕ, Bool, false, ◌||◌, cond, List, [], ◌∷◌, ◌++◌, Option, Some, None, codes, bytes_eq}
+use Rattle.std.specs.Prelude.{ℕ, Bool, cond, List, [], ◌∷◌, ◌++◌, Option, Some, None, codes, bytes_eq}
+use Rattle.std.specs.List.{list_any}
 use Rattle.eip_uri.specs.declared.uri.Uri.{Uri}
 use Rattle.eip_uri.specs.declared.uri.Uri.TheVariants as uri
 use Rattle.eip_route.specs.Faults.{same_consumer, next_number}
@@ -13,10 +14,9 @@ abbrev pub consumer : Uri → ℕ → List Route → Option ℕ
 consumer u k [] = None
 consumer u k (r ∷ rs) = cond (same_consumer r.from u) (Some k) (consumer u (next_number k) rs)
 
--- whether a text stands among others
+-- a text stands among others
 abbrev pub is_among : List ℕ → List (List ℕ) → Bool
-is_among t [] = false
-is_among t (x ∷ xs) = bytes_eq x t || is_among t xs
+is_among name names = list_any (λ n. bytes_eq n name) names
 
 abbrev pub direct : Option ℕ → Goal
 direct None = goal.NoConsumer

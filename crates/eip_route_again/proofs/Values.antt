@@ -15,11 +15,12 @@ use Rattle.eip_uri.specs.Printed.{printed}
 use Rattle.eip_uri.specs.declared.fault.UriFault.{UriFault}
 use Rattle.eip_uri.specs.declared.uri.Uri.{Uri}
 use Rattle.eip_uri.proofs.AgainForms.{uri_again}
+use Rattle.eip_route.specs.Goals.{is_among}
 use Rattle.eip_route.specs.Valid.{is_filled, is_kind, is_given_between, is_given_name, is_group_strategy}
 use Rattle.eip_route.specs.declared.route.Names.{Names}
 use Rattle.eip_route_table.specs.Sites.{found, word_sites, sites_at, or_later, first_fault}
 use Rattle.eip_route_table.specs.Table.{rule_of}
-use Rattle.eip_route_table.specs.Values.{unless, or_else, unhashed, strategy_of, is_among, handed_in, name_cause, registered, served, lane_of, consumer_cause, producer_cause, read_cause, spelled_cause, whole_cause, flag_cause, word_cause}
+use Rattle.eip_route_table.specs.Values.{unless, or_else, unhashed, strategy_of, handed_in, name_cause, registered, served, lane_of, consumer_cause, producer_cause, read_cause, spelled_cause, whole_cause, flag_cause, word_cause}
 use Rattle.eip_route_table.specs.declared.fault.Cause.{Cause}
 use Rattle.eip_route_table.specs.declared.fault.Cause.TheVariants as cause
 use Rattle.eip_route_table.specs.declared.table.Kind.{Kind}

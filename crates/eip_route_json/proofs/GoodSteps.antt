@@ -9,7 +9,7 @@ use Rattle.eip_route.specs.Valid.{is_filled, is_aggregate, is_given_name, is_rep
 use Rattle.eip_route.specs.declared.route.Block.{Block}
 use Rattle.eip_route.specs.declared.route.Names.{Names}
 use Rattle.eip_route.specs.declared.route.Route.{Route}
-use Rattle.eip_route_json.proofs.ServedAlike.{same_among, good_target, good_source, good_expr, good_check}
+use Rattle.eip_route_json.proofs.ServedAlike.{good_target, good_source, good_expr, good_check}
 use Rattle.eip_route_json.specs.Fit.{HasSteps, HasCases, GatheringFits, StepsFit, StepFits, CasesFit, LastFits, ClauseFits, RouteFits}
 
 abbrev Good : Names → Block → Type 0
@@ -72,7 +72,7 @@ mutual
   good_step n d k (goes_to u) h = (good_target n u h, no_blocks n)
   good_step n d k (logs name message) h = (h.0, no_blocks n)
   good_step n d k (throws kind message) h = (h.0, no_blocks n)
-  good_step n d k (processes name) h = (same_among name n.processors ∙ h.1, no_blocks n)
+  good_step n d k (processes name) h = (h.1, no_blocks n)
   good_step n d k (chooses cs l) h =
       let cases = good_cases n d k cs h.1.0 in
       (and_from _ _ (filled_cases k cs h.0) cases.0, both_blocks n (flat_cases k cs).blocks (flat_last (k + length (flat_cases k cs).blocks) l) cases.1 (good_last n d (k + length (flat_cases k cs).blocks) l h.1.1))

@@ -1,10 +1,9 @@
 -- What is handed in is found alike where a file is judged and where a set is: sources, targets and checks that fit are good.
-use Rattle.std.proofs.Common.{ℕ, true, ◌||◌, List, [], ◌∷◌, Option, Some, None, ◌≡◌, refl, ap, ◌∙◌, codes, bytes_eq}
+use Rattle.std.proofs.Common.{ℕ, true, List, Option, Some, None, ◌≡◌, refl}
 use Rattle.std.proofs.lemmas.Bool.{and_from}
 use Rattle.eip_uri.specs.Inlets.{inlet_of}
 use Rattle.eip_uri.specs.declared.uri.Uri.{Uri}
 use Rattle.eip_uri.specs.declared.uri.Uri.TheVariants as uri
-use Rattle.eip_route.specs.Goals.{is_among}
 use Rattle.eip_route.specs.Valid.{has_lane, is_given_among, is_source, is_target, is_dead, is_check, is_expr, is_handler}
 use Rattle.eip_route.specs.declared.route.Handler.{Handler}
 use Rattle.eip_route.specs.declared.route.Names.{Names}
@@ -15,23 +14,16 @@ use Rattle.eip_route.specs.declared.step.Expr.TheVariants as expr
 use Rattle.eip_route_table.specs.Values as values
 use Rattle.eip_route_json.specs.Fit.{ExprFits, CheckFits, Served, TargetFits, SourceFits, DeadFits, HandlerFits}
 
-pub same_among : (name : List ℕ) (names : List (List ℕ)) → is_among name names ≡ values.is_among name names
-same_among name [] = refl
-same_among name (n ∷ ns) = ap (λ b. bytes_eq n name || b) (same_among name ns)
-
-among : (name : List ℕ) (names : List (List ℕ)) → values.is_among name names ≡ true → is_among name names ≡ true
-among name names h = same_among name names ∙ h
-
 -- the lane of a target is named alike
 lane_handed : (n : Names) (u : Uri) → Served (values.lane_of u) n.lanes → has_lane n u ≡ true
-lane_handed n (uri.File folder after failed exist) h = among (codes "file") n.lanes h
-lane_handed n (uri.Line host port) h = among (codes "line") n.lanes h
-lane_handed n (uri.Lane name) h = among _ n.lanes h
+lane_handed n (uri.File folder after failed exist) h = h
+lane_handed n (uri.Line host port) h = h
+lane_handed n (uri.Lane name) h = h
 lane_handed n _ h = refl
 
 given_handed : (o : Option (List ℕ)) (names : List (List ℕ)) → Served o names → is_given_among o names ≡ true
 given_handed None names h = refl
-given_handed (Some name) names h = among name names h
+given_handed (Some name) names h = h
 
 pub good_target : (n : Names) (u : Uri) → TargetFits n u → is_target n u ≡ true
 good_target n u h = and_from _ _ (and_from _ _ h.0 h.1.0) (lane_handed n u h.1.1)
@@ -55,4 +47,4 @@ good_expr (expr.Property name) h = h
 pub good_check : (n : Names) (c : Check) → CheckFits n c → is_check n c ≡ true
 good_check n (check.Simple predicate) h = refl
 good_check n (check.Fixed flag) h = refl
-good_check n (check.Stored name) h = among name n.predicates h.1
+good_check n (check.Stored name) h = h.1

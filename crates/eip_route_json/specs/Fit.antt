@@ -12,6 +12,7 @@ use Rattle.eip_uri.specs.Ranges.{is_uri, is_between}
 use Rattle.eip_uri.specs.Sides.{is_consumer, is_producer}
 use Rattle.eip_uri.specs.declared.uri.Uri.{Uri}
 use Rattle.eip_route.specs.Faults.{same_consumer}
+use Rattle.eip_route.specs.Goals.{is_among}
 use Rattle.eip_route.specs.Nest.{Gathering, NestedStep, NestedSteps, NestedCases, NestedLast, NestedClause, NestedRoute, NestedSet, sets_body, sets_header, sets_property, removes_header, goes_to, logs, throws, processes, chooses, filters, splits, multicasts, sends_to_list, aggregates, runs_once, none, more, no_case, more_case, no_last, last}
 use Rattle.eip_route.specs.Valid.{is_filled, is_fan, is_kind, is_given_name, is_given_between, is_group_strategy, is_policy, is_token}
 use Rattle.eip_route.specs.declared.route.Handler.{Handler}
@@ -21,7 +22,7 @@ use Rattle.eip_route.specs.declared.step.Check.TheVariants as check
 use Rattle.eip_route.specs.declared.step.Expr.{Expr}
 use Rattle.eip_route.specs.declared.step.Expr.TheVariants as expr
 use Rattle.eip_route.specs.declared.step.Fan.{Fan}
-use Rattle.eip_route_table.specs.Values.{is_among, lane_of}
+use Rattle.eip_route_table.specs.Values.{lane_of}
 
 -- ---- what steps are made of
 

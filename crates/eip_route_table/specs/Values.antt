@@ -1,6 +1,5 @@
 -- The rules for texts, numbers and truth values: what is wrong with one.
 use Rattle.std.specs.Prelude.{ℕ, ℤ, pos, negsuc, Bool, false, not, ◌&&◌, ◌||◌, nat_le, nat_lt, List, [], ◌∷◌, ◌++◌, length, bytes_eq, codes, Option, Some, None, is_some, unwrap_or, Result, Ok, Err, if◌then◌else◌}
-use Rattle.std.specs.List.{list_any}
 use Rattle.eip_text.specs.Cuts.{behind, holds_byte}
 use Rattle.eip_text.specs.Names.{is_name}
 use Rattle.eip_text.specs.Numbers.{whole_of}
@@ -17,6 +16,7 @@ use Rattle.eip_uri.specs.Sides.{is_consumer, is_producer}
 use Rattle.eip_simple_read.specs.declared.fault.SimpleFault.{SimpleFault}
 use Rattle.eip_simple_read.specs.declared.fault.SimpleFault.TheVariants as simple_fault
 use Rattle.eip_simple_read.specs.Meaning.{template_of}
+use Rattle.eip_route.specs.Goals.{is_among}
 use Rattle.eip_route.specs.Valid.{is_kind}
 use Rattle.eip_route.specs.declared.route.Names.{Names}
 use Rattle.eip_route_table.specs.declared.fault.Cause.{Cause}
@@ -40,9 +40,6 @@ unhashed w = unwrap_or (behind (codes "#") w) w
 
 abbrev pub name_cause : List ℕ → Option Cause
 name_cause w = unless (is_name w) cause.BadName
-
-abbrev pub is_among : List ℕ → List (List ℕ) → Bool
-is_among name names = list_any (λ n. bytes_eq n name) names
 
 -- what is handed in under this name
 abbrev pub handed_in : List ℕ → List (List ℕ) → Option Cause

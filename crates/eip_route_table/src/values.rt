@@ -4,6 +4,7 @@ ghost use Rattle.eip_text.specs.Numbers.{whole_of};
 ghost use Rattle.eip_uri.specs.Options.{is_level};
 ghost use Rattle.eip_uri.specs.Reading.{read};
 ghost use Rattle.eip_simple_read.specs.Meaning.{template_of};
+ghost use Rattle.eip_route.specs.Goals as goals;
 ghost use Rattle.eip_route.specs.Valid as valid;
 ghost use Rattle.eip_route_table.specs.Values as spec;
 
@@ -39,7 +40,7 @@ fn name_cause(text: &str) -> Option<Cause>
 }
 
 fn is_among(name: &str, names: &[Text]) -> bool
-    ensures { result ≡ spec.is_among name.now names.now }
+    ensures { result ≡ goals.is_among name.now names.now }
 {
     names.iter().any(|other| other.as_str() == name)
 }

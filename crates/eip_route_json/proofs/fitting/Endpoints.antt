@@ -14,8 +14,9 @@ use Rattle.eip_uri.specs.Options.{Entry, has, values_of, judged, entry_fault, fi
 use Rattle.eip_uri.specs.Reading.{after_given, file_given, with_options, settled, placed, plain, in_scheme, at_colon, scheme_of, split_query, unslashed, read}
 use Rattle.eip_uri.specs.Sides.{is_consumer, is_producer}
 use Rattle.eip_uri.proofs.Ranged.{read_ranged}
+use Rattle.eip_route.specs.Goals.{is_among}
 use Rattle.eip_route.specs.declared.route.Names.{Names}
-use Rattle.eip_route_table.specs.Values.{is_among, served, lane_of, uri_cause, consumer_cause, producer_cause, read_cause}
+use Rattle.eip_route_table.specs.Values.{served, lane_of, uri_cause, consumer_cause, producer_cause, read_cause}
 use Rattle.eip_route_table.specs.declared.fault.Cause.{Cause}
 use Rattle.eip_route_table.specs.declared.fault.Cause.TheVariants as cause
 use Rattle.eip_route_json.specs.Fit.{Served, TargetFits, SourceFits}

@@ -12,10 +12,11 @@ use Rattle.eip_simple_read.specs.Meaning.{answer, template_of, predicate_of}
 use Rattle.eip_simple_read.specs.Reading.{Fault, Bad, Unknown, Refused, template, all_tests}
 use Rattle.eip_simple_read.proofs.Laws.{template_stays, predicate_stays}
 use Rattle.eip_uri.specs.Ranges.{is_between}
+use Rattle.eip_route.specs.Goals.{is_among}
 use Rattle.eip_route.specs.declared.route.Names.{Names}
 use Rattle.eip_route.specs.Valid.{is_filled, is_kind, is_given_name, is_given_between}
 use Rattle.eip_route_table.specs.Table.{rule_of, list_of, shape_of}
-use Rattle.eip_route_table.specs.Values.{unhashed, is_among, name_cause, handed_in, registered, simple_cause, spelled_cause, is_within, is_count, is_true, last_segment}
+use Rattle.eip_route_table.specs.Values.{unhashed, name_cause, handed_in, registered, simple_cause, spelled_cause, is_within, is_count, is_true, last_segment}
 use Rattle.eip_route_table.specs.declared.fault.Cause.TheVariants as cause
 use Rattle.eip_route_table.specs.declared.table.Kind.TheVariants as kind
 use Rattle.eip_route_table.specs.declared.table.Rule.TheVariants as rule
