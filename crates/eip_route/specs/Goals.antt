@@ -29,16 +29,24 @@ queue (Some route) = goal.Queue route
 abbrev pub lane : Bool → Goal
 lane handed_in = cond handed_in goal.Lane goal.NoConsumer
 
-abbrev pub lane_of : List ℕ → List ℕ
-lane_of name = codes "lane:" ++ name
+-- the name of the lane for the targets `lane:NAME`
+abbrev pub lane_name : List ℕ → List ℕ
+lane_name name = codes "lane:" ++ name
+
+-- the lane that messages take to an endpoint, or none where they need none
+abbrev pub lane_of : Uri → Option (List ℕ)
+lane_of (uri.File folder after failed exist) = Some (codes "file")
+lane_of (uri.Line host port) = Some (codes "line")
+lane_of (uri.Lane name) = Some (lane_name name)
+lane_of _ = None
+
+-- out by a lane
+abbrev pub out : Option (List ℕ) → List (List ℕ) → Goal
+out None lanes = goal.NoConsumer
+out (Some name) lanes = lane (is_among name lanes)
 
 unfoldable pub goal_of : RouteSet → Uri → Goal
 goal_of s (uri.Direct name) = direct (consumer (uri.Direct name) 0 s.routes)
 goal_of s (uri.Seda name size consumers discard) = queue (consumer (uri.Seda name size consumers discard) 0 s.routes)
-goal_of s (uri.File folder after failed exist) = lane (is_among (codes "file") s.names.lanes)
-goal_of s (uri.Line host port) = lane (is_among (codes "line") s.names.lanes)
-goal_of s (uri.Lane name) = lane (is_among (lane_of name) s.names.lanes)
 goal_of s (uri.Log name) = goal.Log
-goal_of s uri.StreamIn = goal.NoConsumer
-goal_of s (uri.Listen port) = goal.NoConsumer
-goal_of s (uri.Load n) = goal.NoConsumer
+goal_of s u = out (lane_of u) s.names.lanes

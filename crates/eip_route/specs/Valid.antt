@@ -1,5 +1,5 @@
 -- The sets that can be run: what a route file gives.
-use Rattle.std.specs.Prelude.{◌≡◌, ◌<◌, ℕ, Bool, true, false, not, ◌||◌, ◌&&◌, ◌==◌, nat_le, nat_eq, length, List, [], ◌∷◌, ◌++◌, Option, Some, None, is_some, codes, bytes_eq, All, count_by}
+use Rattle.std.specs.Prelude.{◌≡◌, ◌<◌, ℕ, Bool, true, false, not, ◌||◌, ◌&&◌, ◌==◌, nat_le, nat_eq, length, List, [], ◌∷◌, ◌++◌, Option, Some, None, is_some, bytes_eq, All, count_by}
 use Rattle.std.specs.List.{list_all}
 use Rattle.eip_exchange.specs.declared.setting.Clause.{Clause}
 use Rattle.eip_exchange.specs.declared.setting.How.{How}
@@ -12,7 +12,6 @@ use Rattle.eip_uri.specs.Inlets.{inlet_of}
 use Rattle.eip_uri.specs.Ranges.{is_uri, is_between}
 use Rattle.eip_uri.specs.Sides.{is_consumer, is_producer}
 use Rattle.eip_uri.specs.declared.uri.Uri.{Uri}
-use Rattle.eip_uri.specs.declared.uri.Uri.TheVariants as uri
 use Rattle.eip_route.specs.Faults.{set_fault, outer_numbers, steps_numbers}
 use Rattle.eip_route.specs.Goals.{is_among, lane_of}
 use Rattle.eip_route.specs.Nest.{own_repository}
@@ -90,16 +89,13 @@ is_repository b repository = is_name repository || bytes_eq repository (own_repo
 
 -- ---- what is handed in
 
--- the lane of a target
-abbrev pub has_lane : Names → Uri → Bool
-has_lane names (uri.File folder after failed exist) = is_among (codes "file") names.lanes
-has_lane names (uri.Line host port) = is_among (codes "line") names.lanes
-has_lane names (uri.Lane name) = is_among (lane_of name) names.lanes
-has_lane names _ = true
-
 abbrev pub is_given_among : Option (List ℕ) → List (List ℕ) → Bool
 is_given_among None names = true
 is_given_among (Some name) names = is_among name names
+
+-- the lane of a target
+abbrev pub has_lane : Names → Uri → Bool
+has_lane names u = is_given_among (lane_of u) names.lanes
 
 -- an endpoint at `from`, with its inlet
 abbrev pub is_source : Names → Uri → Bool

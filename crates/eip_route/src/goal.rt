@@ -86,7 +86,7 @@ fn has_lane(lanes: &[Text], wanted: &str) -> bool
 
 /// Whether the lane `lane:NAME` is there.
 fn has_lane_named(lanes: &[Text], name: &Text) -> bool
-    ensures { result ≡ spec.is_among (spec.lane_of name.now) lanes.now }
+    ensures { result ≡ spec.is_among (spec.lane_name name.now) lanes.now }
 {
     for lane in lanes {
         if is_lane_of(lane.as_str(), name.as_str()) {
@@ -98,7 +98,7 @@ fn has_lane_named(lanes: &[Text], name: &Text) -> bool
 
 #[tactic(auto, using(crate::proofs::Lanes::behind_same, crate::proofs::Lanes::behind_none))]
 fn is_lane_of(lane: &str, name: &str) -> bool
-    ensures { result ≡ bytes_eq lane.now (spec.lane_of name.now) }
+    ensures { result ≡ bytes_eq lane.now (spec.lane_name name.now) }
 {
     match behind(lane, "lane:") {
         Some(rest) => rest == name,

@@ -15,18 +15,18 @@ use Rattle.eip_uri.specs.Printed.{printed}
 use Rattle.eip_uri.specs.declared.fault.UriFault.{UriFault}
 use Rattle.eip_uri.specs.declared.uri.Uri.{Uri}
 use Rattle.eip_uri.proofs.AgainForms.{uri_again}
-use Rattle.eip_route.specs.Goals.{is_among}
-use Rattle.eip_route.specs.Valid.{is_filled, is_kind, is_given_between, is_given_name, is_group_strategy}
+use Rattle.eip_route.specs.Goals.{is_among, lane_of}
+use Rattle.eip_route.specs.Valid.{is_filled, is_kind, is_given_among, is_given_between, is_given_name, is_group_strategy}
 use Rattle.eip_route.specs.declared.route.Names.{Names}
 use Rattle.eip_route_table.specs.Sites.{found, word_sites, sites_at, or_later, first_fault}
 use Rattle.eip_route_table.specs.Table.{rule_of}
-use Rattle.eip_route_table.specs.Values.{unless, or_else, unhashed, strategy_of, handed_in, name_cause, registered, served, lane_of, consumer_cause, producer_cause, read_cause, spelled_cause, whole_cause, flag_cause, word_cause}
+use Rattle.eip_route_table.specs.Values.{unless, or_else, unhashed, strategy_of, handed_in, name_cause, registered, served, consumer_cause, producer_cause, read_cause, spelled_cause, whole_cause, flag_cause, word_cause}
 use Rattle.eip_route_table.specs.declared.fault.Cause.{Cause}
 use Rattle.eip_route_table.specs.declared.fault.Cause.TheVariants as cause
 use Rattle.eip_route_table.specs.declared.table.Kind.{Kind}
 use Rattle.eip_route_table.specs.declared.table.Rule.{Rule}
 use Rattle.eip_route_table.specs.declared.table.Rule.TheVariants as rule
-use Rattle.eip_route_json.specs.Fit.{TemplateFits, PredicateFits, Registered, Served, TargetFits, SourceFits}
+use Rattle.eip_route_json.specs.Fit.{TemplateFits, PredicateFits, Registered, TargetFits, SourceFits}
 use Rattle.eip_route_print.specs.Canonical.{is_comma, strategy_text}
 use Rattle.eip_route_again.proofs.Fine.{Fine, MayBeFine, none_at_all, none_found, word_fine}
 use Rattle.eip_route_again.proofs.Objects.{set_value, unset_value, word_value, number_value, strategy_value, group_value, delimiter_value, backing_value}
@@ -82,7 +82,7 @@ module _ (n : Names) (d : ℕ) (ps : List (List ℕ × List ℕ)) (v : Kind) whe
   pub stored_fine : (w : List ℕ) → rule_of v ≡ Some rule.StoredPredicate → Registered w n.predicates → Fine n d ps v (word w)
   stored_fine w e h = word_fine n d ps v rule.StoredPredicate w e refl (registered_none w n.predicates h)
 
-  served_none : (o : Option (List ℕ)) (names : List (List ℕ)) → Served o names → served o names ≡ None
+  served_none : (o : Option (List ℕ)) (names : List (List ℕ)) → is_given_among o names ≡ true → served o names ≡ None
   served_none None names h = refl
   served_none (Some w) names h = unless_true (is_among w names) (cause.NotRegistered w) h
 

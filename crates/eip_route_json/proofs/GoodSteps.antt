@@ -9,7 +9,7 @@ use Rattle.eip_route.specs.Valid.{is_filled, is_aggregate, is_given_name, is_rep
 use Rattle.eip_route.specs.declared.route.Block.{Block}
 use Rattle.eip_route.specs.declared.route.Names.{Names}
 use Rattle.eip_route.specs.declared.route.Route.{Route}
-use Rattle.eip_route_json.proofs.ServedAlike.{good_target, good_source, good_expr, good_check}
+use Rattle.eip_route_json.proofs.GoodParts.{good_target, good_source, good_expr, good_check}
 use Rattle.eip_route_json.specs.Fit.{HasSteps, HasCases, GatheringFits, StepsFit, StepFits, CasesFit, LastFits, ClauseFits, RouteFits}
 
 abbrev Good : Names → Block → Type 0

@@ -3,7 +3,7 @@ pub mod Filled
 pub mod filed
 pub mod Walked
 pub mod fitting
-pub mod ServedAlike
+pub mod GoodParts
 pub mod GoodSteps
 pub mod NumbersInOrder
 pub mod NothingFound

@@ -12,7 +12,7 @@ use Rattle.eip_route_json.proofs.NotTooDeep.{none_too_deep}
 use Rattle.eip_route_json.proofs.NothingFound.{none_from}
 use Rattle.eip_route_json.proofs.NumbersInRange.{no_bad_block}
 use Rattle.eip_route_json.proofs.PlacedOnce.{placed_once}
-use Rattle.eip_route_json.proofs.ServedAlike.{good_handler}
+use Rattle.eip_route_json.proofs.GoodParts.{good_handler}
 use Rattle.eip_route_json.specs.Fit.{SetFits}
 
 nothing_mapped : (f : ℕ → SetFault) (o : Option ℕ) → o ≡ None → option_map f o ≡ None

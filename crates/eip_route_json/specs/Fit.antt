@@ -12,9 +12,9 @@ use Rattle.eip_uri.specs.Ranges.{is_uri, is_between}
 use Rattle.eip_uri.specs.Sides.{is_consumer, is_producer}
 use Rattle.eip_uri.specs.declared.uri.Uri.{Uri}
 use Rattle.eip_route.specs.Faults.{same_consumer}
-use Rattle.eip_route.specs.Goals.{is_among}
+use Rattle.eip_route.specs.Goals.{is_among, lane_of}
 use Rattle.eip_route.specs.Nest.{Gathering, NestedStep, NestedSteps, NestedCases, NestedLast, NestedClause, NestedRoute, NestedSet, sets_body, sets_header, sets_property, removes_header, goes_to, logs, throws, processes, chooses, filters, splits, multicasts, sends_to_list, aggregates, runs_once, none, more, no_case, more_case, no_last, last}
-use Rattle.eip_route.specs.Valid.{is_filled, is_fan, is_kind, is_given_name, is_given_between, is_group_strategy, is_policy, is_token}
+use Rattle.eip_route.specs.Valid.{is_filled, is_fan, is_kind, is_given_name, is_given_between, is_given_among, is_group_strategy, is_policy, is_token}
 use Rattle.eip_route.specs.declared.route.Handler.{Handler}
 use Rattle.eip_route.specs.declared.route.Names.{Names}
 use Rattle.eip_route.specs.declared.step.Check.{Check}
@@ -22,7 +22,6 @@ use Rattle.eip_route.specs.declared.step.Check.TheVariants as check
 use Rattle.eip_route.specs.declared.step.Expr.{Expr}
 use Rattle.eip_route.specs.declared.step.Expr.TheVariants as expr
 use Rattle.eip_route.specs.declared.step.Fan.{Fan}
-use Rattle.eip_route_table.specs.Values.{lane_of}
 
 -- ---- what steps are made of
 
@@ -52,17 +51,12 @@ CheckFits n (check.Simple predicate) = PredicateFits predicate
 CheckFits n (check.Fixed flag) = Unit {0}
 CheckFits n (check.Stored name) = Registered name n.predicates
 
--- a lane or an inlet that is needed is handed in
-abbrev pub Served : Option (List ℕ) → List (List ℕ) → Type 0
-Served None names = Unit {0}
-Served (Some name) names = is_among name names ≡ true
-
--- an endpoint to which messages may go, and one at which a route may begin
+-- an endpoint to which messages may go, and one at which a route may begin: the lane or inlet that it needs is handed in
 abbrev pub TargetFits : Names → Uri → Type 0
-TargetFits n u = (is_uri u ≡ true) × ((is_producer u ≡ true) × Served (lane_of u) n.lanes)
+TargetFits n u = (is_uri u ≡ true) × ((is_producer u ≡ true) × (is_given_among (lane_of u) n.lanes ≡ true))
 
 abbrev pub SourceFits : Names → Uri → Type 0
-SourceFits n u = (is_uri u ≡ true) × ((is_consumer u ≡ true) × Served (inlet_of u) n.inlets)
+SourceFits n u = (is_uri u ≡ true) × ((is_consumer u ≡ true) × (is_given_among (inlet_of u) n.inlets ≡ true))
 
 abbrev pub completes : Gathering → Bool
 completes g = (is_some g.size || is_some g.timeout) || (is_some g.predicate || g.force)

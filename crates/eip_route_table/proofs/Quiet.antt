@@ -10,10 +10,10 @@ use Rattle.eip_uri.specs.Reading.{read}
 use Rattle.eip_uri.specs.Sides.{is_consumer, is_producer}
 use Rattle.eip_simple_read.specs.Meaning.{answer, template_of, predicate_of}
 use Rattle.eip_simple_read.specs.Reading.{Fault, Bad, Unknown, Refused, template, all_tests}
-use Rattle.eip_route.specs.Goals.{is_among}
+use Rattle.eip_route.specs.Goals.{is_among, lane_of}
 use Rattle.eip_route.specs.declared.route.Names.{Names}
 use Rattle.eip_route_table.specs.Table.{rows, row_for, rule_of, list_of, shape_of}
-use Rattle.eip_route_table.specs.Values.{or_else, unless, name_cause, unhashed, handed_in, registered, served, lane_of, consumer_cause, producer_cause, read_cause, spelled_cause, word_cause, whole_cause, flag_cause}
+use Rattle.eip_route_table.specs.Values.{or_else, unless, name_cause, unhashed, handed_in, registered, served, consumer_cause, producer_cause, read_cause, spelled_cause, word_cause, whole_cause, flag_cause}
 use Rattle.eip_route_table.specs.Sites.{predicate, Site, found, under, key_step, index_step, clashes, missed, missing, known, keyed, known_one, one_key, is_note, one_aside, own_keys, keys_of, has_none, own_list, item_kind, deeper, value_kind, parameters_of, whole_object, when, completes, is_predicate, word_sites, sites_at, items_sites, members_sites, cause_at, or_later, first_fault, cause_failures, found_failures, Walks}
 use Rattle.eip_route_table.specs.declared.fault.Cause.{Cause}
 use Rattle.eip_route_table.specs.declared.fault.Cause.TheVariants as cause

@@ -1,12 +1,11 @@
 -- The rules for texts, numbers and truth values: what is wrong with one.
-use Rattle.std.specs.Prelude.{ℕ, ℤ, pos, negsuc, Bool, false, not, ◌&&◌, ◌||◌, nat_le, nat_lt, List, [], ◌∷◌, ◌++◌, length, bytes_eq, codes, Option, Some, None, is_some, unwrap_or, Result, Ok, Err, if◌then◌else◌}
+use Rattle.std.specs.Prelude.{ℕ, ℤ, pos, negsuc, Bool, false, not, ◌&&◌, ◌||◌, nat_le, nat_lt, List, [], ◌∷◌, length, bytes_eq, codes, Option, Some, None, is_some, unwrap_or, Result, Ok, Err, if◌then◌else◌}
 use Rattle.eip_text.specs.Cuts.{behind, holds_byte}
 use Rattle.eip_text.specs.Names.{is_name}
 use Rattle.eip_text.specs.Numbers.{whole_of}
 use Rattle.eip_exchange.specs.declared.setting.Strategy.{Strategy}
 use Rattle.eip_exchange.specs.declared.setting.Strategy.TheVariants as strategy
 use Rattle.eip_uri.specs.declared.uri.Uri.{Uri}
-use Rattle.eip_uri.specs.declared.uri.Uri.TheVariants as uri
 use Rattle.eip_uri.specs.declared.fault.UriFault.{UriFault}
 use Rattle.eip_uri.specs.declared.fault.UriFault.TheVariants as uri_fault
 use Rattle.eip_uri.specs.Inlets.{inlet_of}
@@ -16,7 +15,7 @@ use Rattle.eip_uri.specs.Sides.{is_consumer, is_producer}
 use Rattle.eip_simple_read.specs.declared.fault.SimpleFault.{SimpleFault}
 use Rattle.eip_simple_read.specs.declared.fault.SimpleFault.TheVariants as simple_fault
 use Rattle.eip_simple_read.specs.Meaning.{template_of}
-use Rattle.eip_route.specs.Goals.{is_among}
+use Rattle.eip_route.specs.Goals.{is_among, lane_of}
 use Rattle.eip_route.specs.Valid.{is_kind}
 use Rattle.eip_route.specs.declared.route.Names.{Names}
 use Rattle.eip_route_table.specs.declared.fault.Cause.{Cause}
@@ -64,13 +63,6 @@ uri_cause (uri_fault.UnknownOption name) = Some (cause.UnknownOption name)
 uri_cause (uri_fault.BadOption name) = Some (cause.BadOption name)
 uri_cause (uri_fault.DoubleOption name) = Some (cause.DoubleOption name)
 uri_cause uri_fault.NoMemory = None
-
--- the lane that messages take to an endpoint, or none where they need none
-abbrev pub lane_of : Uri → Option (List ℕ)
-lane_of (uri.File folder after failed exist) = Some (codes "file")
-lane_of (uri.Line host port) = Some (codes "line")
-lane_of (uri.Lane name) = Some (codes "lane:" ++ name)
-lane_of _ = None
 
 -- a lane or inlet that is needed is handed in
 abbrev pub served : Option (List ℕ) → List (List ℕ) → Option Cause

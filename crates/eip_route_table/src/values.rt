@@ -112,7 +112,7 @@ pub fn uri_cause(fault: UriFault) -> Result<Cause, NoMemory>
 
 /// The lane that messages take to an endpoint.
 fn lane(alloc: Global, uri: &Uri) -> Result<Option<Text>, NoMemory>
-    ensures { IfOk result (λ l. l ≡ spec.lane_of uri.now) }
+    ensures { IfOk result (λ l. l ≡ goals.lane_of uri.now) }
 {
     match uri {
         Uri::File { .. } => Ok(Some(Text::of_str(alloc, "file")?)),
@@ -123,7 +123,7 @@ fn lane(alloc: Global, uri: &Uri) -> Result<Option<Text>, NoMemory>
 }
 
 fn lane_text(alloc: Global, name: &Text) -> Result<Text, NoMemory>
-    ensures { IfOk result (λ t. Some t ≡ spec.lane_of (Uri.Lane name.now)) }
+    ensures { IfOk result (λ t. Some t ≡ goals.lane_of (Uri.Lane name.now)) }
 {
     let mut text = String::from_str(alloc, "lane:")?;
     text.push_str(name.as_str())?;

@@ -14,12 +14,13 @@ use Rattle.eip_uri.specs.Options.{Entry, has, values_of, judged, entry_fault, fi
 use Rattle.eip_uri.specs.Reading.{after_given, file_given, with_options, settled, placed, plain, in_scheme, at_colon, scheme_of, split_query, unslashed, read}
 use Rattle.eip_uri.specs.Sides.{is_consumer, is_producer}
 use Rattle.eip_uri.proofs.Ranged.{read_ranged}
-use Rattle.eip_route.specs.Goals.{is_among}
+use Rattle.eip_route.specs.Goals.{is_among, lane_of}
+use Rattle.eip_route.specs.Valid.{is_given_among}
 use Rattle.eip_route.specs.declared.route.Names.{Names}
-use Rattle.eip_route_table.specs.Values.{served, lane_of, uri_cause, consumer_cause, producer_cause, read_cause}
+use Rattle.eip_route_table.specs.Values.{served, uri_cause, consumer_cause, producer_cause, read_cause}
 use Rattle.eip_route_table.specs.declared.fault.Cause.{Cause}
 use Rattle.eip_route_table.specs.declared.fault.Cause.TheVariants as cause
-use Rattle.eip_route_json.specs.Fit.{Served, TargetFits, SourceFits}
+use Rattle.eip_route_json.specs.Fit.{TargetFits, SourceFits}
 use Rattle.eip_route_json.specs.Parts.{endpoint, uri_or_input}
 use Rattle.eip_route_json.proofs.fitting.Keyed.{not_missed}
 
@@ -109,8 +110,8 @@ pub read_by : (P : Uri → Type 0) (judge : Uri → Option Cause) (r : Result Ur
 read_by P judge (Ok u) q f e = f u refl e
 read_by P judge (Err x) q f e = absurd (told_cause x q e)
 
-served_by : (o : Option (List ℕ)) (names : List (List ℕ)) → served o names ≡ None → Served o names
-served_by None names e = tt
+served_by : (o : Option (List ℕ)) (names : List (List ℕ)) → served o names ≡ None → is_given_among o names ≡ true
+served_by None names e = refl
 served_by (Some name) names e = not_missed (is_among name names) (cause.NotRegistered name) e
 
 side_by : (b : Bool) (o : Option Cause) (c : Cause) → cond b o (Some c) ≡ None → (b ≡ true) × (o ≡ None)

@@ -1,35 +1,21 @@
--- What is handed in is found alike where a file is judged and where a set is: sources, targets and checks that fit are good.
-use Rattle.std.proofs.Common.{ℕ, true, List, Option, Some, None, ◌≡◌, refl}
+-- Sources, targets, values and checks that fit are good.
+use Rattle.std.proofs.Common.{true, Option, Some, None, ◌≡◌, refl}
 use Rattle.std.proofs.lemmas.Bool.{and_from}
-use Rattle.eip_uri.specs.Inlets.{inlet_of}
 use Rattle.eip_uri.specs.declared.uri.Uri.{Uri}
-use Rattle.eip_uri.specs.declared.uri.Uri.TheVariants as uri
-use Rattle.eip_route.specs.Valid.{has_lane, is_given_among, is_source, is_target, is_dead, is_check, is_expr, is_handler}
+use Rattle.eip_route.specs.Valid.{is_source, is_target, is_dead, is_check, is_expr, is_handler}
 use Rattle.eip_route.specs.declared.route.Handler.{Handler}
 use Rattle.eip_route.specs.declared.route.Names.{Names}
 use Rattle.eip_route.specs.declared.step.Check.{Check}
 use Rattle.eip_route.specs.declared.step.Check.TheVariants as check
 use Rattle.eip_route.specs.declared.step.Expr.{Expr}
 use Rattle.eip_route.specs.declared.step.Expr.TheVariants as expr
-use Rattle.eip_route_table.specs.Values as values
-use Rattle.eip_route_json.specs.Fit.{ExprFits, CheckFits, Served, TargetFits, SourceFits, DeadFits, HandlerFits}
-
--- the lane of a target is named alike
-lane_handed : (n : Names) (u : Uri) → Served (values.lane_of u) n.lanes → has_lane n u ≡ true
-lane_handed n (uri.File folder after failed exist) h = h
-lane_handed n (uri.Line host port) h = h
-lane_handed n (uri.Lane name) h = h
-lane_handed n _ h = refl
-
-given_handed : (o : Option (List ℕ)) (names : List (List ℕ)) → Served o names → is_given_among o names ≡ true
-given_handed None names h = refl
-given_handed (Some name) names h = h
+use Rattle.eip_route_json.specs.Fit.{ExprFits, CheckFits, TargetFits, SourceFits, DeadFits, HandlerFits}
 
 pub good_target : (n : Names) (u : Uri) → TargetFits n u → is_target n u ≡ true
-good_target n u h = and_from _ _ (and_from _ _ h.0 h.1.0) (lane_handed n u h.1.1)
+good_target n u h = and_from _ _ (and_from _ _ h.0 h.1.0) h.1.1
 
 pub good_source : (n : Names) (u : Uri) → SourceFits n u → is_source n u ≡ true
-good_source n u h = and_from _ _ (and_from _ _ h.0 h.1.0) (given_handed (inlet_of u) n.inlets h.1.1)
+good_source n u h = and_from _ _ (and_from _ _ h.0 h.1.0) h.1.1
 
 good_dead : (n : Names) (o : Option Uri) → DeadFits n o → is_dead n o ≡ true
 good_dead n None h = refl
