@@ -8,6 +8,7 @@ use Rattle.eip_exchange.specs.declared.setting.Policy.{Policy}
 use Rattle.eip_exchange.specs.declared.setting.Strategy.{Strategy}
 use Rattle.eip_exchange.specs.declared.setting.Strategy.TheVariants as strategy
 use Rattle.eip_text.specs.Names.{is_name, is_alphanumeric}
+use Rattle.eip_simple_read.specs.declared.tree.Predicate.{Predicate}
 use Rattle.eip_uri.specs.Inlets.{inlet_of}
 use Rattle.eip_uri.specs.Ranges.{is_uri, is_between}
 use Rattle.eip_uri.specs.Sides.{is_consumer, is_producer}
@@ -77,11 +78,11 @@ is_group_strategy strategy.Grouped = true
 is_group_strategy strategy.Sum = true
 
 -- a group is closed by something
-abbrev pub is_completed : Aggregate → Bool
-is_completed a = (is_some a.size || is_some a.timeout) || (is_some a.predicate || a.force)
+abbrev pub is_completed : Option ℕ → Option ℕ → Option Predicate → Bool → Bool
+is_completed size timeout predicate force = (is_some size || is_some timeout) || (is_some predicate || force)
 
 abbrev pub is_aggregate : Aggregate → Bool
-is_aggregate a = ((is_expr a.key && is_group_strategy a.strategy) && (is_given_between 1 1000000 a.size && is_given_between 1 1000000000 a.timeout)) && is_completed a
+is_aggregate a = ((is_expr a.key && is_group_strategy a.strategy) && (is_given_between 1 1000000 a.size && is_given_between 1 1000000000 a.timeout)) && is_completed a.size a.timeout a.predicate a.force
 
 -- a repository that is named, or the own one of the block
 abbrev pub is_repository : ℕ → List ℕ → Bool

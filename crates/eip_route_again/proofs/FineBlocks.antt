@@ -8,7 +8,7 @@ use Rattle.eip_exchange.specs.declared.setting.How.TheVariants as how
 use Rattle.eip_simple_read.specs.Spelling.{predicate_text}
 use Rattle.eip_simple_read.specs.declared.tree.Predicate.{Predicate}
 use Rattle.eip_route.specs.Nest.{Gathering}
-use Rattle.eip_route.specs.Valid.{is_token, is_given_name}
+use Rattle.eip_route.specs.Valid.{is_completed, is_token, is_given_name}
 use Rattle.eip_route.specs.declared.route.Names.{Names}
 use Rattle.eip_route.specs.declared.step.Check.{Check}
 use Rattle.eip_route.specs.declared.step.Check.TheVariants as check
@@ -27,7 +27,6 @@ use Rattle.eip_route_table.specs.declared.table.Kind.{Kind}
 use Rattle.eip_route_table.specs.declared.table.Kind.TheVariants as kind
 use Rattle.eip_route_table.specs.declared.table.Rule.TheVariants as rule
 use Rattle.eip_route_json.specs.Fit.{ExprFits, CheckFits, GatheringFits, MayPredicateFit}
-use Rattle.eip_route_json.specs.Fit.{completes as is_completed}
 use Rattle.eip_route_print.specs.Canonical.{alone, guarded_json, choice_json, otherwise_pairs, split_json, multicast_json, aggregate_json, idempotent_json}
 use Rattle.eip_route_again.proofs.Fine.{Fine, MayBeFine, ItemsFine, SlotsFine, HasKeys, none_found, none_both, word_fine, object_fine, alone_fine}
 use Rattle.eip_route_again.proofs.FineSteps.{simple_fine, constant_fine, named_fine, value_fine}
@@ -154,7 +153,7 @@ completed_by : (ms : Members) (a b c e : Bool) → has_key key.CompletionSize ms
     → completes ms ≡ ((a || b) || (c || e))
 completed_by ms a b c e p q r s = λ i. (p i || q i) || (r i || s i)
 
-completes_again : (g : Gathering) (steps : Json) → completes (members_of (filled (aggregate_slots g steps))) ≡ is_completed g
+completes_again : (g : Gathering) (steps : Json) → completes (members_of (filled (aggregate_slots g steps))) ≡ is_completed g.size g.timeout g.predicate g.force
 unfolding is_spelled spelled dashed
 completes_again g steps =
     let ss : List Slot = aggregate_slots g steps in

@@ -1,5 +1,5 @@
 -- What holds of the steps that a route file without a fault says, where these names are handed in and so many blocks stand around them.
-use Rattle.std.specs.Prelude.{◌≡◌, ℕ, ◌+◌, ◌<◌, ◌≤◌, Bool, true, false, ◌&&◌, ◌||◌, length, List, [], ◌∷◌, Option, Some, None, is_some, Ok, bytes_eq, All}
+use Rattle.std.specs.Prelude.{◌≡◌, ℕ, ◌+◌, ◌<◌, ◌≤◌, Bool, true, false, ◌&&◌, length, List, [], ◌∷◌, Option, Some, None, Ok, bytes_eq, All}
 use Rattle.eip_text.specs.Names.{is_name}
 use Rattle.eip_exchange.specs.declared.setting.How.{How}
 use Rattle.eip_exchange.specs.declared.setting.How.TheVariants as how
@@ -14,7 +14,7 @@ use Rattle.eip_uri.specs.declared.uri.Uri.{Uri}
 use Rattle.eip_route.specs.Faults.{same_consumer}
 use Rattle.eip_route.specs.Goals.{is_among, lane_of}
 use Rattle.eip_route.specs.Nest.{Gathering, NestedStep, NestedSteps, NestedCases, NestedLast, NestedClause, NestedRoute, NestedSet, sets_body, sets_header, sets_property, removes_header, goes_to, logs, throws, processes, chooses, filters, splits, multicasts, sends_to_list, aggregates, runs_once, none, more, no_case, more_case, no_last, last}
-use Rattle.eip_route.specs.Valid.{is_filled, is_fan, is_kind, is_given_name, is_given_between, is_given_among, is_group_strategy, is_policy, is_token}
+use Rattle.eip_route.specs.Valid.{is_filled, is_fan, is_kind, is_completed, is_given_name, is_given_between, is_given_among, is_group_strategy, is_policy, is_token}
 use Rattle.eip_route.specs.declared.route.Handler.{Handler}
 use Rattle.eip_route.specs.declared.route.Names.{Names}
 use Rattle.eip_route.specs.declared.step.Check.{Check}
@@ -58,16 +58,13 @@ TargetFits n u = (is_uri u ≡ true) × ((is_producer u ≡ true) × (is_given_a
 abbrev pub SourceFits : Names → Uri → Type 0
 SourceFits n u = (is_uri u ≡ true) × ((is_consumer u ≡ true) × (is_given_among (inlet_of u) n.inlets ≡ true))
 
-abbrev pub completes : Gathering → Bool
-completes g = (is_some g.size || is_some g.timeout) || (is_some g.predicate || g.force)
-
 pub record GatheringFits (g : Gathering) : Type 0 where
   pub key : ExprFits g.key
   pub strategy : is_group_strategy g.strategy ≡ true
   pub predicate : MayPredicateFit g.predicate
   pub size : is_given_between 1 1000000 g.size ≡ true
   pub timeout : is_given_between 1 1000000000 g.timeout ≡ true
-  pub completed : completes g ≡ true
+  pub completed : is_completed g.size g.timeout g.predicate g.force ≡ true
 
 abbrev pub HasSteps : NestedSteps → Type 0
 HasSteps none = ⊥

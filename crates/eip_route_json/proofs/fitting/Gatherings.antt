@@ -7,7 +7,7 @@ use Rattle.eip_text.specs.Cuts.{behind}
 use Rattle.eip_exchange.specs.declared.setting.Strategy.{Strategy}
 use Rattle.eip_exchange.specs.declared.setting.Strategy.TheVariants as strategy
 use Rattle.eip_route.specs.declared.route.Names.{Names}
-use Rattle.eip_route.specs.Valid.{is_group_strategy}
+use Rattle.eip_route.specs.Valid.{is_completed, is_group_strategy}
 use Rattle.eip_route_table.specs.Sites as sites
 use Rattle.eip_route_table.specs.Sites.{value_at, has_key, plainly, parameters_of, whole_object}
 use Rattle.eip_route_table.specs.Values as values
@@ -17,7 +17,7 @@ use Rattle.eip_route_table.specs.declared.keys.Key.TheVariants as key
 use Rattle.eip_route_table.specs.declared.table.Kind.TheVariants as kind
 use Rattle.eip_route_table.specs.declared.table.Row.TheVariants as row
 use Rattle.eip_route_table.specs.declared.table.Rule.TheVariants as rule
-use Rattle.eip_route_json.specs.Fit.{MayPredicateFit, ExprFits, GatheringFits, completes}
+use Rattle.eip_route_json.specs.Fit.{MayPredicateFit, ExprFits, GatheringFits}
 use Rattle.eip_route_json.specs.Leaves.{members_given, count_of, flag_given}
 use Rattle.eip_route_json.specs.Parts.{expr_of, strategy_given, completion_given, completion_of, gathering_in}
 use Rattle.eip_route_json.proofs.fitting.Faultless.{ObjectFits}
@@ -92,7 +92,8 @@ all_four : {a b c e p q r s : Bool} → p ≡ a → q ≡ b → r ≡ c → s �
 all_four {a} {b} {c} {e} {p} {q} {r} {s} f g h k all =
     ap (λ (x : Bool). (x || q) || (r || s)) f ∙ ap (λ (x : Bool). (a || x) || (r || s)) g ∙ ap (λ (x : Bool). (a || b) || (x || s)) h ∙ ap (λ (x : Bool). (a || b) || (c || x)) k ∙ all
 
-completed : (ms : Members) → HasPredicate (value_at key.CompletionPredicate ms) → whole_object kind.Aggregate ms ≡ None → completes (gathering_in ms) ≡ true
+completed : (ms : Members) → HasPredicate (value_at key.CompletionPredicate ms) → whole_object kind.Aggregate ms ≡ None
+    → is_completed (gathering_in ms).size (gathering_in ms).timeout (gathering_in ms).predicate (gathering_in ms).force ≡ true
 completed ms h e =
     all_four
     (mapped_there (2 ^ 32) (value_at key.CompletionSize ms) ∙ sym (key_there key.CompletionSize ms))
