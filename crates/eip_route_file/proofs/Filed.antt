@@ -6,14 +6,15 @@ use Rattle.eip_text.specs.declared.tree.Tree.{Tree}
 use Rattle.eip_route_table.specs.declared.known.Entry.{Entry}
 use Rattle.eip_route.specs.declared.route.Names.{Names}
 use Rattle.eip_route_table.specs.Values.{or_else}
-use Rattle.eip_route_table.specs.Sites.{found, under, when, items_sites, at_once, placed, first_fault, cause_failures, found_failures, Walks}
+use Rattle.eip_route_table.specs.Sites.{found, under, when, items_sites, at_once, placed, first_fault, cause_failures, found_failures, Walks, Starves}
 use Rattle.eip_route_table.specs.declared.fault.Cause.{Cause}
 use Rattle.eip_route_table.specs.declared.fault.Cause.TheVariants as cause
 use Rattle.eip_route_table.specs.declared.fault.RouteFault.{RouteFault}
 use Rattle.eip_route_table.specs.declared.table.Kind.TheVariants as kind
 use Rattle.eip_route_table.proofs.Quiet.{Quiet, AreQuiet, quiet_found, quiet_append, quiet_under, quiet_items, walk_rises}
 use Rattle.eip_route_table.proofs.Sited.{at_c, found_at, answered}
-use Rattle.eip_route_table.proofs.Walking.{walk_nothing, walk_found, walk_own, walk_behind, walk_before, walk_under}
+use Rattle.eip_route_table.proofs.Walking.{walk_nothing, walk_found, walk_own, walk_behind, walk_before, walk_under, starves_before, starves_under}
+use Rattle.eip_route_table.proofs.Starved.{starves_at}
 use Rattle.eip_route_file.specs.Later.{sole_key, is_handler, too_many, second_handler, heads, head_at, head_fault, is_id_taken, is_from_taken, second_route, later_fault, as_sites, items_in, list_file, items_file, whole_file, whole_sites, file_sites}
 use Rattle.eip_route_file.specs.declared.head.Head.{Head}
 
@@ -67,6 +68,21 @@ pub file_wrong : (n : Names) (t : Json) (x : Option RouteFault) (f g : RouteFaul
 unfolding file_sites
 file_wrong n t x f g b m k l h e q =
     at_c (under (codes "$") (whole_sites n t)) (placed (codes "$") f) g b m k l q (walk_under (codes "$") (whole_sites n t) (Some f) b m k l (answered (whole_sites n t) x (Some f) b m k l (sym e) h))
+
+-- ---- where memory is wanting
+
+pub list_starves : (n : Names) (ts : Items) (b m : ℕ) → Starves (items_sites n 0 kind.Item 0 ts) b m → Starves (list_file n ts) b m
+list_starves n ts b m h = starves_before (items_sites n 0 kind.Item 0 ts) (as_sites (later_fault ts)) b m h
+
+pub items_starve : (n : Names) (ts : Items) (own : Option Cause) (b m : ℕ) → own ≡ when (too_many 256 ts) cause.TooManyRoutes → own ≡ None → Starves (list_file n ts) b m → Starves (items_file n ts) b m
+items_starve n ts own b m p q h = starves_at (list_file n ts) (items_file n ts) b m (ap (λ (x : Option Cause). found x ++ list_file n ts) (sym p ∙ q)) h
+
+pub whole_starves : (n : Names) (t : Json) (o : Option Items) (ts : Items) (b m : ℕ) → o ≡ items_in t → o ≡ Some ts → Starves (items_file n ts) b m → Starves (whole_sites n t) b m
+whole_starves n t o ts b m p q h = starves_at (items_file n ts) (whole_sites n t) b m (ap (whole_file n) (sym p ∙ q)) h
+
+pub file_starves : (n : Names) (t : Json) (b m : ℕ) → Starves (whole_sites n t) b m → Starves (file_sites n t) b m
+unfolding file_sites
+file_starves n t b m h = starves_under (codes "$") (whole_sites n t) b m h
 
 -- ---- the count of patterns' faults
 

@@ -3,7 +3,7 @@
 ghost use Rattle.std.specs.Prelude.{◌≡◌, IfOk, option_map};
 ghost use Rattle.eip_text.specs.Causes.{Rises};
 ghost use Rattle.eip_text.specs.Json.{json, items_json};
-ghost use Rattle.eip_route_table.specs.Sites.{Walks, found_failures, when};
+ghost use Rattle.eip_route_table.specs.Sites.{Walked, found_failures, when};
 ghost use Rattle.eip_route_file.specs.Later as spec;
 
 use crate::later::{has_more_routes, later_fault};
@@ -46,9 +46,9 @@ fn find_in_list<P: Patterns>(
     known: &mut Known,
     items: &[Tree],
 ) -> Result<Option<RouteFault>, NoMemory>
-    ensures { IfOk result (λ a. Walks (spec.list_file names.now (items_json items.now)) a
+    ensures { Walked (spec.list_file names.now (items_json items.now)) result
         (P.pattern_faults patterns.old) known.old
-        (P.pattern_faults patterns.new) known.new) }
+        (P.pattern_faults patterns.new) known.new }
 {
     let found = find_in_items(alloc, names, patterns, known, 0, Kind::Item, items)?;
     match found {
@@ -67,9 +67,9 @@ fn find_in_file<P: Patterns>(
     known: &mut Known,
     items: &[Tree],
 ) -> Result<Option<RouteFault>, NoMemory>
-    ensures { IfOk result (λ a. Walks (spec.items_file names.now (items_json items.now)) a
+    ensures { Walked (spec.items_file names.now (items_json items.now)) result
         (P.pattern_faults patterns.old) known.old
-        (P.pattern_faults patterns.new) known.new) }
+        (P.pattern_faults patterns.new) known.new }
 {
     let many = many_routes(items);
     match many {
@@ -91,9 +91,9 @@ fn find_whole<P: Patterns>(
     known: &mut Known,
     tree: &Tree,
 ) -> Result<Option<RouteFault>, NoMemory>
-    ensures { IfOk result (λ a. Walks (spec.whole_sites names.now (json tree.now)) a
+    ensures { Walked (spec.whole_sites names.now (json tree.now)) result
         (P.pattern_faults patterns.old) known.old
-        (P.pattern_faults patterns.new) known.new) }
+        (P.pattern_faults patterns.new) known.new }
 {
     let list = items_in(tree);
     match list {
@@ -122,9 +122,9 @@ pub fn find_fault<P: Patterns>(
     known: &mut Known,
     tree: &Tree,
 ) -> Result<Option<RouteFault>, NoMemory>
-    ensures finds { IfOk result (λ a. Walks (spec.file_sites names.now (json tree.now)) a
+    ensures finds { Walked (spec.file_sites names.now (json tree.now)) result
         (P.pattern_faults patterns.old) known.old
-        (P.pattern_faults patterns.new) known.new) }
+        (P.pattern_faults patterns.new) known.new }
     ensures cause { IfOk result (λ a. Rises (found_failures a)
         (P.pattern_faults patterns.old) (P.pattern_faults patterns.new)) }
 {

@@ -191,7 +191,7 @@ no_member_walks n d ps v b k = walk_nothing b k
 
 -- ---- in a loop
 
-at_item : {A : Type 0} (xs : List A) (i : ℕ) (x : A) → i < length xs → x ≡ get_or xs i x → drop i xs ≡ x ∷ drop (i + 1) xs
+pub at_item : {A : Type 0} (xs : List A) (i : ℕ) (x : A) → i < length xs → x ≡ get_or xs i x → drop i xs ≡ x ∷ drop (i + 1) xs
 at_item xs i x h e = rw add-one (drop-cons xs i x h ∙ ap (λ y. y ∷ drop (suc i) xs) (sym e))
 
 pub items_walk : (n : Names) (d : ℕ) (ps : List (List ℕ × List ℕ)) (v : Kind) (i : ℕ) (t : Tree) (ts : List Tree) (x a : Option RouteFault) (b m o : ℕ) (k j l : List Entry) → ps ≡ [] → i < length ts → t ≡ get_or ts i t

@@ -1,5 +1,6 @@
 -- What a walk over places answers, place by place.
 use Rattle.std.proofs.Common.{ℕ, ◌≡◌, inl, inr, List, [], ◌∷◌, ◌++◌, Option, Some, None, option_map, Result, Ok, Err, refl, sym, ap, ◌∙◌, subst, append_assoc}
+use Rattle.std.specs.Result.{IsErr}
 use Rattle.std.proofs.lemmas.List.{append-nil}
 use Rattle.eip_text.specs.Causes.{Rises}
 use Rattle.eip_simple_read.specs.declared.tree.Predicate.{Predicate}
@@ -7,7 +8,7 @@ use Rattle.eip_simple_read.specs.declared.fault.SimpleFault.{SimpleFault}
 use Rattle.eip_simple_read.specs.declared.fault.SimpleFault.TheVariants as simple_fault
 use Rattle.eip_simple_read.specs.Meaning.{predicate_of, IsReading, fault_failures}
 use Rattle.eip_route_table.specs.Values.{or_else, simple_cause, spelled_cause}
-use Rattle.eip_route_table.specs.Sites.{Mark, wrong, predicate, Site, found, under, cause_at, or_later, first_fault, at_once, placed, IsRefusedAt, Stops, read_one, read_at, entries_at, Walks}
+use Rattle.eip_route_table.specs.Sites.{Mark, wrong, predicate, Site, found, under, cause_at, or_later, first_fault, at_once, placed, IsRefusedAt, Stops, read_one, read_at, entries_at, Walks, Starves, Walked}
 use Rattle.eip_route_table.specs.declared.fault.Cause.{Cause}
 use Rattle.eip_route_table.specs.declared.fault.Cause.TheVariants as cause
 use Rattle.eip_route_table.specs.declared.fault.RouteFault.{RouteFault}
@@ -180,3 +181,40 @@ walk_refused w e c f b n k l h g r q =
 pub walk_none : (xs : List Site) (b n : ℕ) (k l : List Entry) → Walks xs None b k n l → (first_fault xs ≡ None) × (l ≡ k ++ entries_at xs)
 unfolding Walks
 walk_none xs b n k l h = (h.0, h.2)
+
+-- ---- where memory ends a walk
+
+-- where a walk answered
+pub starves_walked : (xs : List Site) (a : Option RouteFault) (b n : ℕ) (k l : List Entry) → Walks xs a b k n l → Starves xs b n
+unfolding Walks
+starves_walked xs None b n k l h = inl h.1
+starves_walked xs (Some f) b n k l (inl h) = inl h.1
+starves_walked xs (Some f) b n k l (inr h) = inr (f, h.0, h.1)
+
+-- nothing, and then no memory
+pub starves_behind : (xs ys : List Site) (b m n : ℕ) (k j : List Entry) → Walks xs None b k m j → Starves ys m n → Starves (xs ++ ys) b n
+unfolding Walks
+starves_behind xs ys b m n k j h (inl g) = inl (g ∙ h.1)
+starves_behind xs ys b m n k j h (inr (f, g, r)) = inr (f, stops_behind xs ys f h.0 g, rises_from h.1 r)
+
+-- no memory, whatever follows
+pub starves_before : (xs ys : List Site) (b n : ℕ) → Starves xs b n → Starves (xs ++ ys) b n
+starves_before xs ys b n (inl g) = inl g
+starves_before xs ys b n (inr (f, g, r)) = inr (f, stops_before xs ys f g, r)
+
+pub starves_under : (step : List ℕ) (xs : List Site) (b n : ℕ) → Starves xs b n → Starves (under step xs) b n
+starves_under step xs b n (inl g) = inl g
+starves_under step xs b n (inr (f, g, r)) = inr (placed step f, stops_under step xs f g, r)
+
+-- a predicate that wasn't read
+pub starves_refused : (w : List ℕ) (e : SimpleFault) (b n : ℕ) → IsReading w (Err e) → Rises (fault_failures {X = Predicate} (Err e)) b n → Starves (([], predicate w) ∷ []) b n
+unfolding Stops
+starves_refused w (simple_fault.BadSimple at) b n h r = inl (r.none refl)
+starves_refused w (simple_fault.UnknownFunction at) b n h r = inl (r.none refl)
+starves_refused w (simple_fault.BadPattern at) b n h r = inl (r.none refl)
+starves_refused w (simple_fault.PatternTooLarge at) b n h r = inr (at_once (cause.PatternTooLarge at), inl (refl, h), r)
+starves_refused w simple_fault.NoMemory b n h r = inl (r.none refl)
+
+pub walk_ended : {E : Type 0} (xs : List Site) (r : Result (Option RouteFault) E) (b n : ℕ) (k l : List Entry) → IsErr r → Starves xs b n → Walked xs r b k n l
+walk_ended xs (Ok a) b n k l is h = absurd (cc is)
+walk_ended xs (Err e) b n k l is h = h

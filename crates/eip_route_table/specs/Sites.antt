@@ -323,3 +323,13 @@ found_failures (Some f) = cause_failures f.cause
 unfoldable pub Walks : List Site → Option RouteFault → ℕ → List Entry → ℕ → List Entry → Type 0
 Walks ss None b k n l = (first_fault ss ≡ None) × (n ≡ b) × (l ≡ k ++ entries_at ss)
 Walks ss (Some f) b k n l = ((first_fault ss ≡ Some f) × (n ≡ b)) ⊎ (Stops ss f × Rises (cause_failures f.cause) b n)
+
+-- What want of memory leaves of the count of patterns' faults: it is as before, unless memory was wanting to tell the fault of a refused pattern,
+-- before which nothing is wrong.
+abbrev pub Starves : List Site → ℕ → ℕ → Type 0
+Starves ss b n = (n ≡ b) ⊎ ((f : RouteFault) × Stops ss f × Rises (cause_failures f.cause) b n)
+
+-- a walk that answered, or that want of memory ended
+abbrev pub Walked : {E : Type 0} → List Site → Result (Option RouteFault) E → ℕ → List Entry → ℕ → List Entry → Type 0
+Walked ss (Ok a) b k n l = Walks ss a b k n l
+Walked ss (Err e) b k n l = Starves ss b n

@@ -3,7 +3,7 @@
 ghost use Rattle.std.specs.Prelude.{◌≡◌, ◌≤◌, ◌∷◌, [], IfOk, IfErr, Some, option_map};
 ghost use Rattle.eip_text.specs.Json.{json, word, list, object, items_json, members_json};
 ghost use Rattle.eip_route_table.specs.Sites as spec;
-ghost use Rattle.eip_route_table.specs.Sites.{Walks};
+ghost use Rattle.eip_route_table.specs.Sites.{Walked};
 
 use crate::fault::{Cause, RouteFault};
 use crate::keyed::own_keys;
@@ -91,9 +91,9 @@ fn find_in_predicate<P: Patterns>(
     known: &mut Known,
     text: &Text,
 ) -> Result<Option<RouteFault>, NoMemory>
-    ensures { IfOk result (λ a. Walks (([], spec.predicate text.now) ∷ []) a
+    ensures { Walked (([], spec.predicate text.now) ∷ []) result
         (P.pattern_faults patterns.old) known.old
-        (P.pattern_faults patterns.new) known.new) }
+        (P.pattern_faults patterns.new) known.new }
 {
     match read_predicate(alloc, text, patterns) {
         Ok(predicate) => {
@@ -116,9 +116,9 @@ fn find_by_rule<P: Patterns>(
     rule: Rule,
     text: &Text,
 ) -> Result<Option<RouteFault>, NoMemory>
-    ensures { IfOk result (λ a. Walks (spec.word_sites names.now parameters.now (Some rule) text.now) a
+    ensures { Walked (spec.word_sites names.now parameters.now (Some rule) text.now) result
         (P.pattern_faults patterns.old) known.old
-        (P.pattern_faults patterns.new) known.new) }
+        (P.pattern_faults patterns.new) known.new }
 {
     if is_predicate(rule) {
         let found = find_in_predicate(alloc, patterns, known, text)?;
@@ -138,9 +138,9 @@ fn find_in_word<P: Patterns>(
     rule: Option<Rule>,
     text: &Text,
 ) -> Result<Option<RouteFault>, NoMemory>
-    ensures { IfOk result (λ a. Walks (spec.word_sites names.now parameters.now rule text.now) a
+    ensures { Walked (spec.word_sites names.now parameters.now rule text.now) result
         (P.pattern_faults patterns.old) known.old
-        (P.pattern_faults patterns.new) known.new) }
+        (P.pattern_faults patterns.new) known.new }
 {
     match rule {
         None => {
@@ -169,9 +169,9 @@ pub fn find_fault<P: Patterns>(
     tree: &Tree,
 ) -> Result<Option<RouteFault>, NoMemory>
     requires { depth ≤ 16 }
-    ensures { IfOk result (λ a. Walks (spec.sites_at names.now depth parameters.now kind (json tree.now)) a
+    ensures { Walked (spec.sites_at names.now depth parameters.now kind (json tree.now)) result
         (P.pattern_faults patterns.old) known.old
-        (P.pattern_faults patterns.new) known.new) }
+        (P.pattern_faults patterns.new) known.new }
 {
     match tree {
         Tree::Null => {
@@ -219,9 +219,9 @@ fn find_in_list<P: Patterns>(
     items: &[Tree],
 ) -> Result<Option<RouteFault>, NoMemory>
     requires { depth ≤ 16 }
-    ensures { IfOk result (λ a. Walks (spec.list_sites names.now depth kind (items_json items.now)) a
+    ensures { Walked (spec.list_sites names.now depth kind (items_json items.now)) result
         (P.pattern_faults patterns.old) known.old
-        (P.pattern_faults patterns.new) known.new) }
+        (P.pattern_faults patterns.new) known.new }
 {
     let list = kind.list();
     match enter(depth, list, has_none(items)) {
@@ -248,9 +248,9 @@ fn find_in_object<P: Patterns>(
     members: &[(Text, Tree)],
 ) -> Result<Option<RouteFault>, NoMemory>
     requires { depth ≤ 16 }
-    ensures { IfOk result (λ a. Walks (spec.object_sites names.now depth kind (members_json members.now)) a
+    ensures { Walked (spec.object_sites names.now depth kind (members_json members.now)) result
         (P.pattern_faults patterns.old) known.old
-        (P.pattern_faults patterns.new) known.new) }
+        (P.pattern_faults patterns.new) known.new }
 {
     let own = own_keys(alloc, kind, members)?;
     match own {
@@ -277,9 +277,9 @@ fn find_inside<P: Patterns>(
     members: &[(Text, Tree)],
 ) -> Result<Option<RouteFault>, NoMemory>
     requires { depth ≤ 16 }
-    ensures { IfOk result (λ a. Walks (spec.inner_sites names.now depth kind (members_json members.now)) a
+    ensures { Walked (spec.inner_sites names.now depth kind (members_json members.now)) result
         (P.pattern_faults patterns.old) known.old
-        (P.pattern_faults patterns.new) known.new) }
+        (P.pattern_faults patterns.new) known.new }
 {
     let parameters = parameters_of(alloc, members)?;
     let beside = parameters.as_slice();
@@ -305,9 +305,9 @@ pub fn find_in_items<P: Patterns>(
     items: &[Tree],
 ) -> Result<Option<RouteFault>, NoMemory>
     requires { depth ≤ 16 }
-    ensures { IfOk result (λ a. Walks (spec.items_sites names.now depth kind 0 (items_json items.now)) a
+    ensures { Walked (spec.items_sites names.now depth kind 0 (items_json items.now)) result
         (P.pattern_faults patterns.old) known.old
-        (P.pattern_faults patterns.new) known.new) }
+        (P.pattern_faults patterns.new) known.new }
 {
     for (k, item) in items.iter().enumerate() {
         let found = find_fault(alloc, names, patterns, known, depth, &[], kind, item)?;
@@ -331,10 +331,10 @@ fn find_in_members<P: Patterns>(
     members: &[(Text, Tree)],
 ) -> Result<Option<RouteFault>, NoMemory>
     requires { depth ≤ 16 }
-    ensures { IfOk result (λ a. Walks
-        (spec.members_sites names.now depth parameters.now kind (members_json members.now)) a
+    ensures { Walked
+        (spec.members_sites names.now depth parameters.now kind (members_json members.now)) result
         (P.pattern_faults patterns.old) known.old
-        (P.pattern_faults patterns.new) known.new) }
+        (P.pattern_faults patterns.new) known.new }
 {
     for member in members {
         let inner = value_kind(kind, member.0.as_str());

@@ -1,5 +1,6 @@
 use Rattle.eip_text.specs.Json.{items_json}
-use Rattle.eip_route_file.proofs.Filed.{file_many, file_list}
+use Rattle.eip_route_file.proofs.Filed.{file_many, file_list, items_starve}
+use Rattle.eip_route_table.proofs.Walking.{walk_ended}
 use Rattle.eip_route_file.proofs.file.find_in_file.Goals as goal
 
 pub returns-in_ok-fault-in-Some : goal.returns-in_ok-fault-in-Some
@@ -10,3 +11,8 @@ returns-in_ok-fault-in-Some g c =
 pub returns-in_ok-found-in-None : goal.returns-in_ok-found-in-None
 returns-in_ok-found-in-None g c =
     file_list c.args.names.now (items_json c.args.items.now) c.many_routes-many.result _ _ _ _ _ c.many_routes-many.ensures c.in-None.is c.in_ok-found-in-None.ensures
+
+pub returns-in_err-found-in-None : goal.returns-in_err-found-in-None
+returns-in_err-found-in-None g c =
+    walk_ended _ _ _ _ _ _ c.from_residual-in_err-found-in-None.ensures.0
+    (items_starve c.args.names.now (items_json c.args.items.now) c.many_routes-many.result _ _ c.many_routes-many.ensures c.in-None.is c.in_err-found-in-None.ensures)

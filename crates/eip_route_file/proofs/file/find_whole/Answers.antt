@@ -1,6 +1,7 @@
 use Rattle.std.proofs.Common.{None, Some, refl}
 use Rattle.eip_text.specs.Json.{json, items_json}
-use Rattle.eip_route_file.proofs.Filed.{whole_wrong, whole_walks}
+use Rattle.eip_route_file.proofs.Filed.{whole_wrong, whole_walks, whole_starves}
+use Rattle.eip_route_table.proofs.Walking.{walk_ended}
 use Rattle.eip_route_file.proofs.file.find_whole.Goals as goal
 
 pub returns-in_ok-fault-in-None : goal.returns-in_ok-fault-in-None
@@ -10,3 +11,8 @@ returns-in_ok-fault-in-None g c =
 pub returns-in_ok-found-in-Some : goal.returns-in_ok-found-in-Some
 returns-in_ok-found-in-Some g c =
     whole_walks c.args.names.now (json c.args.tree.now) (Some (items_json c.in-Some.items.now)) (items_json c.in-Some.items.now) _ _ _ _ _ c.in-Some.ensures refl c.in_ok-found-in-Some.ensures
+
+pub returns-in_err-found-in-Some : goal.returns-in_err-found-in-Some
+returns-in_err-found-in-Some g c =
+    walk_ended _ _ _ _ _ _ c.from_residual-in_err-found-in-Some.ensures.0
+    (whole_starves c.args.names.now (json c.args.tree.now) (Some (items_json c.in-Some.items.now)) (items_json c.in-Some.items.now) _ _ c.in-Some.ensures refl c.in_err-found-in-Some.ensures)

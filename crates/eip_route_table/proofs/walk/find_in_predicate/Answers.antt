@@ -1,6 +1,6 @@
 use Rattle.std.proofs.Common.{List, ℕ, [], ◌∷◌, ◌++◌, ap, ◌∙◌}
 use Rattle.eip_route_table.specs.declared.known.Entry.{Entry}
-use Rattle.eip_route_table.proofs.Walking.{walk_read, walk_refused}
+use Rattle.eip_route_table.proofs.Walking.{walk_read, walk_refused, starves_refused, walk_ended}
 use Rattle.eip_route_table.proofs.walk.find_in_predicate.Goals as goal
 
 pub returns-in_ok-add-in-Ok : goal.returns-in_ok-add-in-Ok
@@ -12,3 +12,11 @@ returns-in_ok-add-in-Ok g c =
 pub returns-in_ok-here-in-Err : goal.returns-in_ok-here-in-Err
 returns-in_ok-here-in-Err g c =
     walk_refused c.args.text.now c.in-Err.fault c.in_ok-cause-in-Err.cause c.in_ok-here-in-Err.field-0 _ _ _ _ c.in-Err.ensures.exact c.in_ok-cause-in-Err.ensures c.in-Err.ensures.cause c.in_ok-here-in-Err.ensures
+
+pub returns-in_err-cause-in-Err : goal.returns-in_err-cause-in-Err
+returns-in_err-cause-in-Err g c =
+    walk_ended _ _ _ _ _ _ c.from_residual-in_err-cause-in-Err.ensures.0 (starves_refused c.args.text.now c.in-Err.fault _ _ c.in-Err.ensures.exact c.in-Err.ensures.cause)
+
+pub returns-in_err-here-in-Err : goal.returns-in_err-here-in-Err
+returns-in_err-here-in-Err g c =
+    walk_ended _ _ _ _ _ _ c.from_residual-in_err-here-in-Err.ensures.0 (starves_refused c.args.text.now c.in-Err.fault _ _ c.in-Err.ensures.exact c.in-Err.ensures.cause)
