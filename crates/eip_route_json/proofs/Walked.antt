@@ -1,10 +1,10 @@
 -- What a walk over a file's places says of the routes that are read.
-use Rattle.std.proofs.Common.{◌≡◌, ◌⊎◌, ℕ, Bool, true, false, cond, List, Option, Some, None, Result, Ok, Err, refl, sym, ap, subst, ◌∙◌, inl, inr, codes}
+use Rattle.std.proofs.Common.{◌≡◌, ℕ, Bool, true, false, cond, List, Option, Some, None, Result, Ok, Err, refl, sym, ap, subst, ◌∙◌, inl, codes}
 use Rattle.eip_text.specs.Json.{json_read}
 use Rattle.eip_route.specs.Valid.{IsValid}
 use Rattle.eip_route.specs.declared.route.Names.{Names}
 use Rattle.eip_route.specs.declared.route.RouteSet.{RouteSet}
-use Rattle.eip_route_table.specs.Sites.{Site, first_fault, Walks}
+use Rattle.eip_route_table.specs.Sites.{Site, first_fault, Walks, Starves}
 use Rattle.eip_route_table.specs.declared.fault.Cause.{Cause}
 use Rattle.eip_route_table.specs.declared.fault.Cause.TheVariants as cause
 use Rattle.eip_route_table.specs.declared.fault.RouteFault.{RouteFault}
@@ -27,6 +27,10 @@ pub walk_reads : (at : List Site) (set s : RouteSet) (a : Option RouteFault) (be
 walk_reads at set s a before after k l h none e valid =
     let w = walk_passes at before after k l (subst (λ (x : Option RouteFault). Walks at x before k after l) none h) in (w.0, e, w.1, subst IsValid (sym e) (valid w.0))
 
+-- a reading that memory ended
+pub reading_ended : (at : List Site) (set : RouteSet) (before after : ℕ) (r : Result RouteSet RouteRefusal) → r ≡ Err refusal.NoMemory → Starves at before after → ReadsAt at set before after r
+reading_ended at set before after r is h = subst (ReadsAt at set before after) (sym is) h
+
 whole_first : (c : Cause) → first_fault (whole_file c) ≡ Some (record { path = codes "$"; cause = c })
 unfolding first_fault
 whole_first c = refl
@@ -34,7 +38,7 @@ whole_first c = refl
 -- the whole file is refused
 pub refuses_whole : (c : Cause) (r : RouteRefusal) (set : RouteSet) (n : ℕ) → Refuses c r → ReadsAt (whole_file c) set n n (Err r)
 refuses_whole c (refusal.Refused f) set n h = inl (whole_first c ∙ ap Some (sym h), refl)
-refuses_whole c refusal.NoMemory set n h = tt
+refuses_whole c refusal.NoMemory set n h = inl refl
 
 -- ---- bytes that are no tree
 

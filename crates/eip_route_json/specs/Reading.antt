@@ -6,7 +6,7 @@ use Rattle.eip_route.specs.Nest.{flat_set}
 use Rattle.eip_route.specs.Valid.{IsValid}
 use Rattle.eip_route.specs.declared.route.Names.{Names}
 use Rattle.eip_route.specs.declared.route.RouteSet.{RouteSet}
-use Rattle.eip_route_table.specs.Sites.{Site, wrong, first_fault, Stops, cause_failures}
+use Rattle.eip_route_table.specs.Sites.{Site, wrong, first_fault, Stops, cause_failures, Starves}
 use Rattle.eip_route_table.specs.declared.fault.Cause.{Cause}
 use Rattle.eip_route_table.specs.declared.fault.Cause.TheVariants as cause
 use Rattle.eip_route_table.specs.declared.fault.RouteFault.{RouteFault}
@@ -45,11 +45,11 @@ abbrev pub Finds : List Site → ℕ → ℕ → RouteFault → Type 0
 Finds at before after f = ((first_fault at ≡ Some f) × (after ≡ before)) ⊎ (Stops at f × Rises (cause_failures f.cause) before after)
 
 -- an answer to what is judged at these places and gives this set: the set where nothing is wrong, which is valid; else a fault that is found; or
--- want of memory
+-- want of memory, with the count as before, unless memory was wanting to tell the fault of a refused pattern
 abbrev pub ReadsAt : List Site → RouteSet → ℕ → ℕ → Result RouteSet RouteRefusal → Type 0
 ReadsAt at set before after (Ok s) = (first_fault at ≡ None) × (s ≡ set) × (after ≡ before) × IsValid s
 ReadsAt at set before after (Err (refusal.Refused f)) = Finds at before after f
-ReadsAt at set before after (Err refusal.NoMemory) = Unit {0}
+ReadsAt at set before after (Err refusal.NoMemory) = Starves at before after
 
 -- a refusal of the whole file for a cause, or want of memory
 abbrev pub Refuses : Cause → RouteRefusal → Type 0
