@@ -50,8 +50,8 @@ use Rattle.eip_run.specs.declared.report.Outcome.{Outcome}
 use Rattle.eip_run.specs.declared.report.Outcome.TheVariants as outcome
 use Rattle.eip_run.specs.Outcomes.{behind}
 use Rattle.eip_run.specs.Routes.{file_limit}
-use Rattle.eip_run.specs.Reports.{turn_limit, Setting, WasRead, sites, HasRoutes, IsRun, Comes, NoCommand, NotRead, NoRoutes, WasChecked, Stopped, Starved, LacksMemory, LacksText, Reports}
-use Rattle.eip_run.specs.Caused.{InletRose, SourceFailed, CauseOfStop, CauseOf, IsUnharmed, Completes, Prints, IsFaultless, IsRefusedFor, InFile, IsOfSize, IsRight, Causes}
+use Rattle.eip_run.specs.Reports.{turn_limit, Setting, WasRead, sites, HasRoutes, IsRun, IsSpared, Comes, NoCommand, NotRead, NoRoutes, WasChecked, Stopped, Starved, LacksMemory, LacksText, Reports}
+use Rattle.eip_run.specs.Caused.{InletRose, SourceFailed, CauseOfStop, CauseOf, PatternsOf, IsUnharmed, Completes, Prints, IsFaultless, IsRefusedFor, InFile, IsOfSize, IsRight, Causes}
 use Rattle.eip_run.proofs.Runnable.{Runs}
 use Rattle.eip_run.proofs.Ending.{routes-run}
 
@@ -196,7 +196,7 @@ told-caused x before after told text (Stopped p set s has ran ne) = ((p, has.com
     by_stop (inl e) = absurd (ne e)
     by_stop (inr h) = stop-caused x p set s s has ran (stop-says (plan_of set) (plan-simple set) 0 turn_limit x.journal.past ran.legal s h)
 told-caused x before after told text (Starved p set has ran) = ((p, has.command), tt)
-told-caused x before after told text (LacksMemory still count) = tt
+told-caused x before after told text (LacksMemory still count spared) = tt
 told-caused x before after told text (LacksText p set s has ran) = tt
 
 -- the sink's fault is the cause where there was none before it
@@ -238,8 +238,50 @@ refused-behind x told text w none (NoRoutes k read f command still was h) = absu
 refused-behind x told text w none (WasChecked p set has still) = absurd (cc (none, has.command))
 refused-behind x told text w none (Stopped p set s has ran ne) = absurd (cc (none, has.command))
 refused-behind x told text w none (Starved p set has ran) = absurd (cc (none, has.command))
-refused-behind x told text w none (LacksMemory still count) = starved-behind w
+refused-behind x told text w none (LacksMemory still count spared) = starved-behind w
 refused-behind x told text w none (LacksText p set s has ran) = absurd (cc (none, has.command))
+
+-- ---- the patterns' count
+
+found-patterns : (x : Setting) (k : Command) (read : FileRead) (f : RouteFault) → command_of x.words ≡ Some k → WasRead x (path_in k) read
+    → Finds (sites x k read) x.patterns_before x.patterns_after f → PatternsOf x (outcome.Routes f)
+found-patterns x k read f command was (inl h) = inl h.1
+found-patterns x k read f command was (inr h) = inr (record { command = k; read = read; asked = command; answer = was; stops = h.0; count = h.1 })
+
+told-patterns : (x : Setting) (told : Outcome) (text : List ℕ) → Comes x told text → PatternsOf x told
+told-patterns x told text (NoCommand none still calm) = calm.patterns
+told-patterns x told text (NotRead k command still rises calm) = calm
+told-patterns x told text (NoRoutes k read f command still was h) = found-patterns x k read f command was h
+told-patterns x told text (WasChecked p set has still) = has.patterns
+told-patterns x told text (Stopped p set s has ran ne) = has.patterns
+told-patterns x told text (Starved p set has ran) = has.patterns
+told-patterns x told text (LacksMemory still count spared) = spared
+told-patterns x told text (LacksText p set s has ran) = inl has.patterns
+
+starved-patterns : (x : Setting) (told : Outcome) → PatternsOf x told → IsSpared x
+starved-patterns x outcome.Words h = inl h
+starved-patterns x (outcome.Routes f) (inl h) = inl h
+starved-patterns x (outcome.Routes f) (inr h) = inr (f, h)
+starved-patterns x outcome.FilesFault h = inl h
+starved-patterns x outcome.Checked h = inl h
+starved-patterns x (outcome.Ran s) h = inl h
+starved-patterns x outcome.SinkFault h = inl h
+starved-patterns x outcome.NoMemory h = h
+
+behind-patterns : (x : Setting) (told : Outcome) (w : Result Unit SinkFault) → PatternsOf x told → PatternsOf x (behind told w)
+behind-patterns x told (Ok u) h = h
+behind-patterns x told (Err fault.NoMemory) h = starved-patterns x told h
+behind-patterns x outcome.Words (Err fault.Failed) h = h
+behind-patterns x (outcome.Routes f) (Err fault.Failed) h = h
+behind-patterns x outcome.FilesFault (Err fault.Failed) h = h
+behind-patterns x outcome.Checked (Err fault.Failed) h = h
+behind-patterns x (outcome.Ran stop.Drained) (Err fault.Failed) h = h
+behind-patterns x (outcome.Ran (stop.SourceFault t)) (Err fault.Failed) h = h
+behind-patterns x (outcome.Ran (stop.Held groups)) (Err fault.Failed) h = h
+behind-patterns x (outcome.Ran stop.Spent) (Err fault.Failed) h = h
+behind-patterns x (outcome.Ran stop.NoMemory) (Err fault.Failed) h = h
+behind-patterns x outcome.SinkFault (Err fault.Failed) h = h
+behind-patterns x outcome.NoMemory (Err fault.Failed) h = h
 
 -- ---- where nothing failed
 
@@ -299,7 +341,7 @@ told-refused x k held f told text file wrong (NoRoutes l read g command still wa
 told-refused x k held f told text file wrong (WasChecked p set has still) = none-taken x k (Check p) held set f file wrong has
 told-refused x k held f told text file wrong (Stopped p set s has ran ne) = none-taken x k (Drain p) held set f file wrong has
 told-refused x k held f told text file wrong (Starved p set has ran) = none-taken x k (Drain p) held set f file wrong has
-told-refused x k held f told text file wrong (LacksMemory still count) = tt
+told-refused x k held f told text file wrong (LacksMemory still count spared) = tt
 told-refused x k held f told text file wrong (LacksText p set s has ran) = tt
 
 behind-refused : (at : List Site) (f : RouteFault) (told : Outcome) (w : Result Unit SinkFault) → IsRefusedFor at f told → IsRefusedFor at f (behind told w)
@@ -360,6 +402,7 @@ causes x before after faults_before faults_after o r =
     (behind-caused x faults_before faults_after r.told r.tells.write r.tells.faults (told-caused x faults_before faults_after r.told r.text r.comes)) in
     record {
       cause = cause;
+      patterns = subst (PatternsOf x) is (behind-patterns x r.told r.tells.write (told-patterns x r.told r.text r.comes));
       no_command = λ none. subst IsRefused is (refused-behind x r.told r.text r.tells.write none r.comes);
       faultless = without-faults x faults_before faults_after o cause;
       no_routes = λ k read f file wrong.

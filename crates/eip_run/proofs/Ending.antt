@@ -1,15 +1,15 @@
 -- What a command comes to, by what was prepared and told.
-use Rattle.std.proofs.Common.{◌≡◌, ℕ, true, ◌++◌, List, [], Option, Some, None, Result, Ok, Err, codes, refl, sym, ap, subst, ◌∙◌}
+use Rattle.std.proofs.Common.{◌≡◌, ℕ, true, ◌++◌, List, [], Option, Some, None, Result, Ok, Err, codes, refl, sym, ap, subst, ◌∙◌, inl, inr}
 use Rattle.std.proofs.lemmas.List.{append-nil}
 use Rattle.eip_text.specs.Json.{Json, json_read}
 use Rattle.eip_route.specs.Built.{is_built}
 use Rattle.eip_route.specs.Valid.{IsValid}
 use Rattle.eip_route.specs.declared.route.Names.{Names}
 use Rattle.eip_route.specs.declared.route.RouteSet.{RouteSet}
-use Rattle.eip_route_table.specs.Sites.{first_fault}
+use Rattle.eip_route_table.specs.Sites.{first_fault, Starves}
 use Rattle.eip_route_table.specs.declared.fault.Cause.TheVariants as cause
 use Rattle.eip_route_table.specs.declared.fault.RouteFault.{RouteFault}
-use Rattle.eip_route_json.specs.Reading.{set_of, tree_set}
+use Rattle.eip_route_json.specs.Reading.{set_of, tree_set, Finds}
 use Rattle.eip_route_json.proofs.Validity.{read_valid}
 use Rattle.eip_endpoint.specs.declared.files.FileRead.{FileRead}
 use Rattle.eip_endpoint.specs.declared.files.FileRead.TheVariants.{Bytes, Missing, TooLong}
@@ -37,10 +37,10 @@ use Rattle.eip_run.specs.declared.prepare.Refusal.TheVariants as refusal
 use Rattle.eip_endpoint.specs.Content.{IfTold}
 use Rattle.eip_endpoint.specs.Files.{bytes_at, read_of}
 use Rattle.eip_run.specs.Routes.{file_limit, unless_built, bytes_in, sites_in, set_in, sites_for, set_for}
-use Rattle.eip_run.specs.Prepared.{job_of, Given, Read, Answers, Prepares, NoCommand, NotRead, NoRoutes, Found, LacksMemory}
+use Rattle.eip_run.specs.Prepared.{job_of, Given, Read, Answers, IsRefused, IsSpared, Prepares, NoCommand, NotRead, NoRoutes, Found, LacksMemory}
 use Rattle.eip_run.specs.Printed.{OfRefusal, OfWords, OfFiles, OfRoutes, OfNoLine, OfMemory, OfCheck, OfText, OfNone, OfRun, OfStop, OfStarved, OfNoText, TellsRefusal, TellsCheck, TellsRun}
 use Rattle.eip_run.specs.Drained.{Drained, RanTo, NotBegun}
-use Rattle.eip_run.specs.Reports.{turn_limit, Setting, IsStill, WasRead, Ran, IsRun, HasRoutes, Comes, Reports, NoCommand as Refused, NotRead as Failed, NoRoutes as Faulty, WasChecked, Stopped, Starved, LacksMemory as Poor, LacksText}
+use Rattle.eip_run.specs.Reports.{turn_limit, Setting, IsStill, WasRead, Ran, IsRun, HasRoutes, PatternRefused, IsSpared as Spared, Comes, Reports, NoCommand as Refused, NotRead as Failed, NoRoutes as Faulty, WasChecked, Stopped, Starved, LacksMemory as Poor, LacksText}
 use Rattle.eip_core.specs.Served.{names_of}
 use Rattle.eip_run.proofs.Runnable.{Runs, valid-runs}
 use Rattle.eip_run.proofs.Sites.{none-front, none-behind, built-where}
@@ -88,11 +88,17 @@ pub read-at : (x : Given) (p q : Path) (read : FileRead) → q ≡ p → IfTold 
 read-at x p q read same told count =
     record { answer = subst (λ (r : Path). IfTold x.files (λ all. read ≡ read_of file_limit (bytes_at r.folder r.name all))) same told; count = count }
 
+-- no memory for the reading of its routes
+spared : (x : Given) (k : Command) (read : FileRead) → command_of x.words ≡ Some k → Read x (path_in k) read
+    → Starves (sites_for k x.lanes x.inlets read) x.patterns_before x.patterns_behind → IsSpared x
+spared x k read command was (inl h) = inl h
+spared x k read command was (inr (f, stops, count)) = inr (f, record { command = k; read = read; asked = command; answer = was; stops = stops; count = count })
+
 -- nothing to do
 pub prepared-none : (x : Given) (k : Command) (read : FileRead) (r : Refusal) → command_of x.words ≡ Some k → Read x (path_in k) read
     → Answers (sites_for k x.lanes x.inlets read) (set_for x.lanes x.inlets read) x.patterns_before x.patterns_behind (Err r) → Prepares x (Err r)
 prepared-none x k read (refusal.Routes f) command was h = NoRoutes k read f command was h
-prepared-none x k read refusal.NoMemory command was h = LacksMemory was.count
+prepared-none x k read refusal.NoMemory command was h = LacksMemory was.count (spared x k read command was h)
 prepared-none x k read refusal.Words command was h = absurd h
 prepared-none x k read refusal.FilesFault command was h = absurd h
 
@@ -126,7 +132,7 @@ has-drain x ls is r set el ei (Found (Drain p) read s command was faultless rout
     let same : s ≡ set = cc e in
     (p, subst (HasRoutes x (Drain p)) same (routes-in x ls is (Drain p) read s el ei command was faultless routes patterns))
 has-drain x ls is r set el ei (Found (Check p) read s command was faultless routes patterns) e = absurd (cc e)
-has-drain x ls is r set el ei (LacksMemory count) e = absurd (cc e)
+has-drain x ls is r set el ei (LacksMemory count calm) e = absurd (cc e)
 
 -- a check of these routes
 has-check : (x : Setting) (ls is : List (List ℕ)) (r : Result Job Refusal) (set : RouteSet) → lane_names x.lanes_before ≡ ls → inlet_names x.inlets_before ≡ is
@@ -138,7 +144,7 @@ has-check x ls is r set el ei (Found (Check p) read s command was faultless rout
     let same : s ≡ set = cc e in
     (p, subst (HasRoutes x (Check p)) same (routes-in x ls is (Check p) read s el ei command was faultless routes patterns))
 has-check x ls is r set el ei (Found (Drain p) read s command was faultless routes patterns) e = absurd (cc e)
-has-check x ls is r set el ei (LacksMemory count) e = absurd (cc e)
+has-check x ls is r set el ei (LacksMemory count calm) e = absurd (cc e)
 
 -- a file in which nothing is wrong gives a valid set, with the names that were handed in
 file-valid : (n : Names) (read : FileRead) → first_fault (sites_in n read) ≡ None → IsValid (set_in n read)
@@ -175,7 +181,7 @@ prepared-runs x r set (Found (Drain p) read s command was faultless routes patte
     let same : s ≡ set = cc e in
     subst (λ (y : RouteSet). Runs y x.lanes x.inlets) (sym routes ∙ same) (drain-runs x.lanes x.inlets p read faultless)
 prepared-runs x r set (Found (Check p) read s command was faultless routes patterns) e = absurd (cc e)
-prepared-runs x r set (LacksMemory count) e = absurd (cc e)
+prepared-runs x r set (LacksMemory count calm) e = absurd (cc e)
 
 comes-ran : (x : Setting) (p : Path) (set : RouteSet) (s : Stop) (told : Outcome) (text : List ℕ) → HasRoutes x (Drain p) set → IsRun x set s → OfRun set x.journal.past s told text → Comes x told text
 comes-ran x p set s told text has ran (OfStop _ ne) = Stopped p set s has ran ne
@@ -190,11 +196,11 @@ reports-drained x ls is r set prep e el ei (RanTo s o ran tells) =
     record { told = tells.told; text = tells.text; comes = comes-ran x has.0 set s tells.told tells.text has.1 ran tells.of; tells = tells.tells }
 reports-drained x ls is r set prep e el ei (NotBegun o new lanes inlets told) =
     let has = has-drain x ls is r set el ei prep e in
-    record { told = outcome.NoMemory; text = codes "error memory\n"; comes = Poor (record { lanes = lanes; inlets = inlets; journal = new }) has.1.answer.count; tells = told }
+    record { told = outcome.NoMemory; text = codes "error memory\n"; comes = Poor (record { lanes = lanes; inlets = inlets; journal = new }) has.1.answer.count (inl has.1.patterns); tells = told }
 
 comes-checked : (x : Setting) (p : Path) (set : RouteSet) (told : Outcome) (text : List ℕ) → HasRoutes x (Check p) set → IsStill x → OfCheck set told text → Comes x told text
 comes-checked x p set told text has still OfText = WasChecked p set has still
-comes-checked x p set told text has still OfNone = Poor still has.answer.count
+comes-checked x p set told text has still OfNone = Poor still has.answer.count (inl has.patterns)
 
 pub reports-checked : (x : Setting) (ls is : List (List ℕ)) (r : Result Job Refusal) (set : RouteSet) {before after : Option (List ℕ)} {faults_before faults_after : ℕ} {o : Outcome} → Prepares (given_of x ls is) r
     → r ≡ Ok (job.Check set) → lane_names x.lanes_before ≡ ls → inlet_names x.inlets_before ≡ is → IsStill x
@@ -203,13 +209,29 @@ reports-checked x ls is r set prep e el ei still tells =
     let has = has-check x ls is r set el ei prep e in
     record { told = tells.told; text = tells.text; comes = comes-checked x has.0 set tells.told tells.text has.1 still tells.of; tells = tells.tells }
 
+-- a pattern was refused, of the file that the words name
+pattern-refused : (x : Setting) (ls is : List (List ℕ)) (f : RouteFault) → lane_names x.lanes_before ≡ ls → inlet_names x.inlets_before ≡ is → IsRefused (given_of x ls is) f → PatternRefused x f
+pattern-refused x ls is f el ei r =
+    record { command = r.command; read = r.read; asked = r.asked; answer = was-read x ls is (path_in r.command) r.read r.answer; stops = rw (el, ei) r.stops; count = r.count }
+
+was-spared : (x : Setting) (ls is : List (List ℕ)) → lane_names x.lanes_before ≡ ls → inlet_names x.inlets_before ≡ is → IsSpared (given_of x ls is) → Spared x
+was-spared x ls is el ei (inl h) = inl h
+was-spared x ls is el ei (inr (f, r)) = inr (f, pattern-refused x ls is f el ei r)
+
+-- no memory for the line of a fault
+untold-spared : (x : Given) (k : Command) (read : FileRead) (f : RouteFault) → command_of x.words ≡ Some k → Read x (path_in k) read
+    → Finds (sites_for k x.lanes x.inlets read) x.patterns_before x.patterns_behind f → IsSpared x
+untold-spared x k read f command was (inl h) = inl h.1
+untold-spared x k read f command was (inr h) = inr (f, record { command = k; read = read; asked = command; answer = was; stops = h.0; count = h.1 })
+
 comes-refused : (x : Setting) (ls is : List (List ℕ)) (r : Refusal) (told : Outcome) (text : List ℕ) → lane_names x.lanes_before ≡ ls → inlet_names x.inlets_before ≡ is → IsStill x
     → Prepares (given_of x ls is) (Err r) → OfRefusal r told text → Comes x told text
 comes-refused x ls is r told text el ei still (NoCommand none calm) OfWords = Refused none still (record { files = calm.files; patterns = calm.patterns })
 comes-refused x ls is r told text el ei still (NotRead k command rises calm) OfFiles = Failed k command still rises calm
 comes-refused x ls is r told text el ei still (NoRoutes k read f command was h) (OfRoutes _) = Faulty k read f command still (was-read x ls is (path_in k) read was) (rw (el, ei) h)
-comes-refused x ls is r told text el ei still (NoRoutes k read f command was h) (OfNoLine _) = Poor still was.count
-comes-refused x ls is r told text el ei still (LacksMemory count) OfMemory = Poor still count
+comes-refused x ls is r told text el ei still (NoRoutes k read f command was h) (OfNoLine _) =
+    Poor still was.count (was-spared x ls is el ei (untold-spared (given_of x ls is) k read f command was h))
+comes-refused x ls is r told text el ei still (LacksMemory count calm) OfMemory = Poor still count (was-spared x ls is el ei calm)
 
 pub reports-refused : (x : Setting) (ls is : List (List ℕ)) (r : Refusal) {before after : Option (List ℕ)} {faults_before faults_after : ℕ} {o : Outcome} → Prepares (given_of x ls is) (Err r)
     → lane_names x.lanes_before ≡ ls → inlet_names x.inlets_before ≡ is → IsStill x → TellsRefusal r before after faults_before faults_after o → Reports x before after faults_before faults_after o

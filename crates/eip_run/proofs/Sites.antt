@@ -2,6 +2,7 @@
 use Rattle.std.proofs.Common.{◌≡◌, ◌⊎◌, ℕ, Bool, true, false, List, [], ◌∷◌, ◌++◌, Option, Some, None, Result, Ok, Err, refl, sym, ap, subst, ◌∙◌, inl, inr, codes}
 use Rattle.eip_route.specs.declared.route.RouteSet.{RouteSet}
 use Rattle.eip_route_table.specs.Sites.{Site, cause_at, or_later, first_fault, Stops}
+use Rattle.eip_route_table.proofs.Walking.{starves_before}
 use Rattle.eip_route_json.specs.Reading.{Finds}
 use Rattle.eip_route_table.specs.declared.fault.Cause.{Cause}
 use Rattle.eip_route_table.specs.declared.fault.Cause.TheVariants as cause
@@ -70,7 +71,7 @@ whole-first c = refl
 
 pub refuses-answers : (c : Cause) (r : Refusal) (set : RouteSet) (n : ℕ) → Refuses c r → Answers (whole_file c) set n n (Err r)
 refuses-answers c (refusal.Routes f) set n h = inl (whole-first c ∙ ap Some (sym h), refl)
-refuses-answers c refusal.NoMemory set n h = tt
+refuses-answers c refusal.NoMemory set n h = inl refl
 refuses-answers c refusal.Words set n h = absurd h
 refuses-answers c refusal.FilesFault set n h = absurd h
 
@@ -78,7 +79,7 @@ refuses-answers c refusal.FilesFault set n h = absurd h
 
 pub answers-front : (a b : List Site) (set : RouteSet) (before after : ℕ) (r : Refusal) → Answers a set before after (Err r) → Answers (a ++ b) set before after (Err r)
 answers-front a b set before after (refusal.Routes f) h = finds-front a b before after f h
-answers-front a b set before after refusal.NoMemory h = tt
+answers-front a b set before after refusal.NoMemory h = starves_before a b before after h
 answers-front a b set before after refusal.Words h = absurd h
 answers-front a b set before after refusal.FilesFault h = absurd h
 
@@ -91,7 +92,7 @@ pub answers-behind : (a b : List Site) (set : RouteSet) (before after : ℕ) (r 
     → ((n : ℕ) → Answers b set n n r) → Answers (a ++ b) set before after r
 answers-behind a b set before after (Ok s) none front still h = let here = h 0 in (first-behind a b front ∙ here.0, here.1, still)
 answers-behind a b set before after (Err (refusal.Routes f)) none front still h = finds-behind a b 0 before after f (none f) front still (h 0)
-answers-behind a b set before after (Err refusal.NoMemory) none front still h = tt
+answers-behind a b set before after (Err refusal.NoMemory) none front still h = inl still
 answers-behind a b set before after (Err refusal.Words) none front still h = absurd (h 0)
 answers-behind a b set before after (Err refusal.FilesFault) none front still h = absurd (h 0)
 

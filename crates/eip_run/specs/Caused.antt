@@ -21,7 +21,7 @@ use Rattle.eip_core.specs.Doors.{inlet_at, inlet_names}
 use Rattle.eip_run.specs.declared.report.Outcome.{Outcome}
 use Rattle.eip_run.specs.declared.report.Outcome.TheVariants as outcome
 use Rattle.eip_run.specs.Routes.{file_limit}
-use Rattle.eip_run.specs.Reports.{turn_limit, Setting, WasRead, sites, HasRoutes}
+use Rattle.eip_run.specs.Reports.{turn_limit, Setting, WasRead, sites, HasRoutes, PatternRefused, IsSpared}
 
 -- the count of faults of the inlet with this index rose
 pub record InletRose (before after : List InletView) (inlet : ℕ) : Type 0 where
@@ -73,6 +73,13 @@ CauseOf x faults_before faults_after outcome.Checked = IsCheck x
 CauseOf x faults_before faults_after (outcome.Ran s) = IsDrain x × CauseOfStop x s
 CauseOf x faults_before faults_after outcome.SinkFault = Rose faults_before faults_after
 CauseOf x faults_before faults_after outcome.NoMemory = Unit {0}
+
+-- what an outcome says of the patterns' count of faults: it is as before, unless the outcome is the fault of a refused pattern, or memory was wanting
+-- and a pattern was refused
+abbrev pub PatternsOf : Setting → Outcome → Type 0
+PatternsOf x (outcome.Routes f) = (x.patterns_after ≡ x.patterns_before) ⊎ PatternRefused x f
+PatternsOf x outcome.NoMemory = IsSpared x
+PatternsOf x _ = x.patterns_after ≡ x.patterns_before
 
 -- no count of faults rose, of the files, of the patterns, of an inlet or of the sink
 pub record IsUnharmed (x : Setting) (faults_before faults_after : ℕ) : Type 0 where
@@ -126,11 +133,12 @@ pub record IsRight (at : List Site) : Type 0 where
   pub faultless : first_fault at ≡ None
   pub patterns : (f : RouteFault) → Stops at f → IsOfSize f.cause
 
--- an outcome has its cause. Words that are no command are refused, unless memory is wanting, and routes with a fault are refused, unless memory is
+-- an outcome has its cause, and the patterns' count rose only where a pattern of the file was refused. Words that are no command are refused, unless memory is wanting, and routes with a fault are refused, unless memory is
 -- wanting or the files fail. Where no count of faults rose, the outcome is no fault of the files, a source or the sink; a drain whose file is right
 -- runs its routes until they are drained, or turns or memory are too few; and a check whose file is right prints them, or memory is wanting
 pub record Causes (x : Setting) (faults_before faults_after : ℕ) (o : Outcome) : Type 0 where
   pub cause : CauseOf x faults_before faults_after o
+  pub patterns : PatternsOf x o
   pub no_command : command_of x.words ≡ None → (o ≡ outcome.Words) ⊎ (o ≡ outcome.NoMemory)
   pub no_routes : (k : Command) (read : FileRead) (f : RouteFault) → InFile x k read → first_fault (sites x k read) ≡ Some f → IsRefusedFor (sites x k read) f o
   pub faultless : IsUnharmed x faults_before faults_after → IsFaultless o

@@ -1,8 +1,8 @@
 -- What is found out of a command before anything runs.
-use Rattle.std.specs.Prelude.{ℕ, ◌≡◌, List, Option, Some, None, Result, Ok, Err, codes}
+use Rattle.std.specs.Prelude.{ℕ, ◌≡◌, ◌⊎◌, List, Option, Some, None, Result, Ok, Err, codes}
 use Rattle.eip_text.specs.Causes.{Rises}
 use Rattle.eip_route.specs.declared.route.RouteSet.{RouteSet}
-use Rattle.eip_route_table.specs.Sites.{Site, first_fault}
+use Rattle.eip_route_table.specs.Sites.{Site, first_fault, Stops, Starves, cause_failures}
 use Rattle.eip_route_table.specs.declared.fault.Cause.{Cause}
 use Rattle.eip_route_table.specs.declared.fault.RouteFault.{RouteFault}
 use Rattle.eip_route_json.specs.Reading.{Finds}
@@ -46,11 +46,11 @@ pub record Read (x : Given) (p : Path) (read : FileRead) : Type 0 where
   pub count : x.files_behind ≡ x.files_before
 
 -- an answer to a file that was read, with the count of patterns' faults before and after: the routes where nothing is wrong, or a fault that is
--- found, or want of memory
+-- found, or want of memory, with the count as before, unless memory was wanting to tell the fault of a refused pattern
 abbrev pub Answers : List Site → RouteSet → ℕ → ℕ → Result RouteSet Refusal → Type 0
 Answers at set before after (Ok s) = (first_fault at ≡ None) × (s ≡ set) × (after ≡ before)
 Answers at set before after (Err (refusal.Routes f)) = Finds at before after f
-Answers at set before after (Err refusal.NoMemory) = Unit {0}
+Answers at set before after (Err refusal.NoMemory) = Starves at before after
 Answers at set before after (Err refusal.Words) = ⊥
 Answers at set before after (Err refusal.FilesFault) = ⊥
 
@@ -61,6 +61,19 @@ Refuses c refusal.NoMemory = Unit {0}
 Refuses c refusal.Words = ⊥
 Refuses c refusal.FilesFault = ⊥
 
+-- the file that the words name was read, and this is the fault of a pattern of it that was refused, before which nothing is wrong
+pub record IsRefused (x : Given) (f : RouteFault) : Type 0 where
+  pub command : Command
+  pub read : FileRead
+  pub asked : command_of x.words ≡ Some command
+  pub answer : Read x (path_in command) read
+  pub stops : Stops (sites_for command x.lanes x.inlets read) f
+  pub count : Rises (cause_failures f.cause) x.patterns_before x.patterns_behind
+
+-- the patterns' count is as before, or a pattern was refused
+abbrev pub IsSpared : Given → Type 0
+IsSpared x = (x.patterns_behind ≡ x.patterns_before) ⊎ ((f : RouteFault) × IsRefused x f)
+
 -- what the words ask to do with the routes of their file, or the first cause why there is nothing to do
 pub data Prepares (x : Given) : Result Job Refusal → Type 0 where
   NoCommand : command_of x.words ≡ None → IsCalm x → Prepares x (Err refusal.Words)
@@ -69,4 +82,4 @@ pub data Prepares (x : Given) : Result Job Refusal → Type 0 where
       → Prepares x (Err (refusal.Routes f))
   Found : (k : Command) (read : FileRead) (set : RouteSet) → command_of x.words ≡ Some k → Read x (path_in k) read → first_fault (sites_for k x.lanes x.inlets read) ≡ None
       → set ≡ set_for x.lanes x.inlets read → x.patterns_behind ≡ x.patterns_before → Prepares x (Ok (job_of k set))
-  LacksMemory : x.files_behind ≡ x.files_before → Prepares x (Err refusal.NoMemory)
+  LacksMemory : x.files_behind ≡ x.files_before → IsSpared x → Prepares x (Err refusal.NoMemory)

@@ -2,7 +2,7 @@
 use Rattle.std.specs.Prelude.{ℕ, ◌≡◌, ◌≢◌, ◌++◌, ◌⊎◌, List, [], codes, Option, Some, None, Result, IsErrOf}
 use Rattle.eip_text.specs.Causes.{Rises}
 use Rattle.eip_route.specs.declared.route.RouteSet.{RouteSet}
-use Rattle.eip_route_table.specs.Sites.{Site, first_fault}
+use Rattle.eip_route_table.specs.Sites.{Site, first_fault, Stops, cause_failures}
 use Rattle.eip_route_json.specs.Reading.{Finds}
 use Rattle.eip_route_table.specs.declared.fault.RouteFault.{RouteFault}
 use Rattle.eip_route_print.specs.Canonical.{canonical_text}
@@ -108,6 +108,20 @@ pub record IsCalm (x : Setting) : Type 0 where
   pub files : x.files_after ≡ x.files_before
   pub patterns : x.patterns_after ≡ x.patterns_before
 
+-- the file that the words name was read, and this is the fault of a pattern of it that was refused, before which nothing is wrong; the patterns' count
+-- is what that fault tells
+pub record PatternRefused (x : Setting) (f : RouteFault) : Type 0 where
+  pub command : Command
+  pub read : FileRead
+  pub asked : command_of x.words ≡ Some command
+  pub answer : WasRead x (path_in command) read
+  pub stops : Stops (sites x command read) f
+  pub count : Rises (cause_failures f.cause) x.patterns_before x.patterns_after
+
+-- the patterns' count is as before, unless a pattern was refused
+abbrev pub IsSpared : Setting → Type 0
+IsSpared x = (x.patterns_after ≡ x.patterns_before) ⊎ ((f : RouteFault) × PatternRefused x f)
+
 -- which outcome a command comes to, with the text that it is to write
 pub data Comes (x : Setting) : Outcome → List ℕ → Type 0 where
   -- the words are no command
@@ -124,8 +138,8 @@ pub data Comes (x : Setting) : Outcome → List ℕ → Type 0 where
   Stopped : (p : Path) (set : RouteSet) (s : Stop) → HasRoutes x (Drain p) set → IsRun x set s → s ≢ stop.NoMemory → Comes x (outcome.Ran s) (run_text set x.journal.past s)
   -- the routes ran until no memory was left
   Starved : (p : Path) (set : RouteSet) → HasRoutes x (Drain p) set → IsRun x set stop.NoMemory → Comes x (outcome.Ran stop.NoMemory) (codes "error memory\n")
-  -- no memory was left before the routes ran, or for the text of a check
-  LacksMemory : IsStill x → x.files_after ≡ x.files_before → Comes x outcome.NoMemory (codes "error memory\n")
+  -- no memory was left before the routes ran, or for the text of a check, or to tell a fault of the file
+  LacksMemory : IsStill x → x.files_after ≡ x.files_before → IsSpared x → Comes x outcome.NoMemory (codes "error memory\n")
   -- no memory was left for the text of a run
   LacksText : (p : Path) (set : RouteSet) (s : Stop) → HasRoutes x (Drain p) set → IsRun x set s → Comes x outcome.NoMemory (codes "error memory\n")
 

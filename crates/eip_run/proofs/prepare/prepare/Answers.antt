@@ -1,4 +1,4 @@
-use Rattle.std.proofs.Common.{refl}
+use Rattle.std.proofs.Common.{refl, inl}
 use Rattle.eip_run.specs.Prepared.{NoCommand, NotRead, LacksMemory}
 use Rattle.eip_run.proofs.Ending.{read-at, prepared-none, prepared-job}
 use Rattle.eip_run.proofs.prepare.prepare.Goals as goal
@@ -8,13 +8,13 @@ returns-in-Err-Refused-clause-answer g c =
     NoCommand (let r = rw c.in-Err-Refused.field-0-is at c.in-Err-Refused.ensures.refused in r.0 refl) (record { files = refl; patterns = refl })
 
 pub returns-in-Err-NoMemory-clause-answer : goal.returns-in-Err-NoMemory-clause-answer
-returns-in-Err-NoMemory-clause-answer g c = LacksMemory refl
+returns-in-Err-NoMemory-clause-answer g c = LacksMemory refl (inl refl)
 
 pub returns-in-Err-Failed-clause-answer : goal.returns-in-Err-Failed-clause-answer
 returns-in-Err-Failed-clause-answer g c = NotRead c.in-Ok.command c.in-Ok.ensures.command (rw c.in-Err-Failed.field-0-is at c.in-Err-Failed.ensures.faults) refl
 
 pub returns-in-Err-NoMemory-read-clause-answer : goal.returns-in-Err-NoMemory-read-clause-answer
-returns-in-Err-NoMemory-read-clause-answer g c = LacksMemory ((rw c.in-Err-NoMemory-read.field-0-is at c.in-Err-NoMemory-read.ensures.faults).none refl)
+returns-in-Err-NoMemory-read-clause-answer g c = LacksMemory ((rw c.in-Err-NoMemory-read.field-0-is at c.in-Err-NoMemory-read.ensures.faults).none refl) (inl refl)
 
 pub returns-in-Ok-routes_for-clause-answer : goal.returns-in-Ok-routes_for-clause-answer
 returns-in-Ok-routes_for-clause-answer g c =
