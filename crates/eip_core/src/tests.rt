@@ -18,56 +18,49 @@ use std::test::*;
 fn logging(alloc: Global) -> Result<RouteSet, NoMemory>
     ensures { IfOk result (λ s. s ≡ logging) }
 {
-    let mut steps = Vec::new(alloc);
-    steps.push(Step::To(Uri::Log(Text::of_str(alloc, "out")?)))?;
-    let mut blocks = Vec::new(alloc);
-    blocks.push(Block {
-        steps: Series::of(steps),
-    })?;
-    let mut routes = Vec::new(alloc);
-    routes.push(Route {
+    let log = Step::To(Uri::Log(Text::of_str(alloc, "out")?));
+    let steps = Series::of(vec![in alloc; log]?);
+    let blocks = Series::of(vec![in alloc; Block { steps }]?);
+    let route = Route {
         id: Text::of_str(alloc, "route1")?,
         from: Uri::StreamIn,
         block: 0,
-    })?;
+    };
+    let routes = Series::of(vec![in alloc; route]?);
     Ok(RouteSet {
         names: Names::none(alloc),
-        routes: Series::of(routes),
-        blocks: Series::of(blocks),
+        routes,
+        blocks,
         handler: Handler::plain(),
         clauses: Series::of(Vec::new(alloc)),
     })
 }
 
+/// The lines `a` and `b`.
 fn two_lines(alloc: Global) -> Result<Vec<(Text, Series<Pulled>)>, NoMemory>
     ensures { IfOk result (λ v. AreNew v.items) }
 {
-    let mut items = Vec::new(alloc);
-    items.push(Pulled::Item {
+    let first = Pulled::Item {
         item: Text::of_str(alloc, "1")?,
         message: Message::of_body(alloc, Text::of_str(alloc, "a")?),
-    })?;
-    items.push(Pulled::Item {
+    };
+    let second = Pulled::Item {
         item: Text::of_str(alloc, "2")?,
         message: Message::of_body(alloc, Text::of_str(alloc, "b")?),
-    })?;
-    let mut pairs = Vec::new(alloc);
-    pairs.push((Text::of_str(alloc, "stream:in")?, Series::of(items)))?;
-    Ok(pairs)
+    };
+    let items = Series::of(vec![in alloc; first, second]?);
+    let uri = Text::of_str(alloc, "stream:in")?;
+    Ok(vec![in alloc; (uri, items)]?)
 }
 
+/// A source of the two lines, as the inlet of standard input.
 fn one_inlet(alloc: Global) -> Result<Vec<Inlet>, NoMemory>
     ensures { IfOk result (λ v. map (λ i. i.name) v.items ≡ codes "stream" ∷ []) }
 {
-    let mut inlets = Vec::new(alloc);
-    inlets.push(Inlet {
-        name: Text::of_str(alloc, "stream")?,
-        object: Box::new(
-            alloc,
-            MemorySource::new(alloc, two_lines(alloc)?, Vec::new(alloc)),
-        )?,
-    })?;
-    Ok(inlets)
+    let source = MemorySource::new(alloc, two_lines(alloc)?, Vec::new(alloc));
+    let object = Box::new(alloc, source)?;
+    let name = Text::of_str(alloc, "stream")?;
+    Ok(vec![in alloc; Inlet { name, object }]?)
 }
 
 fn is_completed(place: Option<Place>) -> bool {
@@ -84,15 +77,37 @@ fn is_ready(place: Option<Place>) -> bool {
     }
 }
 
-#[test]
-fn a_drain_that_spends_its_turns_leaves_who_is_ready(rt: HostRuntime) -> Result<(), Fail> {
-    let alloc = rt.alloc();
+/// The stop of a drain of the two lines through the one route.
+fn drained(alloc: Global, hub: &mut Hub) -> Result<Stop, NoMemory>
+    requires set { hub.old.set ≡ logging }
+    requires past { hub.old.journal.past ≡ [] }
+{
     let mut inlets = one_inlet(alloc)?;
     let mut lanes: Vec<Lane> = Vec::new(alloc);
+    let stop = drain_alone(hub, &mut lanes, &mut inlets, &Registry::new());
+    Ok(stop)
+}
+
+/// The stop of the drain, and whether exchange 1 is completed then and exchange 2 is ready.
+fn left(alloc: Global, hub: &mut Hub) -> Result<(Stop, bool, bool), NoMemory>
+    requires set { hub.old.set ≡ logging }
+    requires past { hub.old.journal.past ≡ [] }
+{
+    let stop = drained(alloc, hub)?;
+    let first = is_completed(hub.place(alloc, 1)?);
+    let second = is_ready(hub.place(alloc, 2)?);
+    Ok((stop, first, second))
+}
+
+/// What a drain of at most four turns leaves.
+fn left_in_four_turns(alloc: Global) -> Result<(Stop, bool, bool), NoMemory> {
     let mut hub = Hub::new(alloc, logging(alloc)?, 0, 4)?;
-    let stop = drain_alone(&mut hub, &mut lanes, &mut inlets, &Registry::new());
-    assert!(rt; stop == Stop::Spent);
-    assert!(rt; is_completed(hub.place(alloc, 1)?));
-    assert!(rt; is_ready(hub.place(alloc, 2)?));
+    left(alloc, &mut hub)
+}
+
+#[test]
+fn a_drain_that_spends_its_turns_leaves_who_is_ready(rt: HostRuntime) -> Result<(), Fail> {
+    let left = left_in_four_turns(rt.alloc())?;
+    assert!(rt; left == (Stop::Spent, true, true));
     Ok(())
 }
