@@ -133,9 +133,10 @@ pub record IsRight (at : List Site) : Type 0 where
   pub faultless : first_fault at ≡ None
   pub patterns : (f : RouteFault) → Stops at f → IsOfSize f.cause
 
--- an outcome has its cause, and the patterns' count rose only where a pattern of the file was refused. Words that are no command are refused, unless memory is wanting, and routes with a fault are refused, unless memory is
--- wanting or the files fail. Where no count of faults rose, the outcome is no fault of the files, a source or the sink; a drain whose file is right
--- runs its routes until they are drained, or turns or memory are too few; and a check whose file is right prints them, or memory is wanting
+-- an outcome has its cause, and the patterns' count rose only where a pattern of the file was refused. Words that are no command are refused, unless
+-- memory is wanting, and routes with a fault are refused, unless memory is wanting or the files fail. Where no count of faults rose, the outcome is no
+-- fault of the files, a source or the sink; a drain whose file is right runs its routes until they are drained, or turns or memory are too few; and a
+-- check whose file is right prints them, or memory is wanting
 pub record Causes (x : Setting) (faults_before faults_after : ℕ) (o : Outcome) : Type 0 where
   pub cause : CauseOf x faults_before faults_after o
   pub patterns : PatternsOf x o
