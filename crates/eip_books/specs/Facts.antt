@@ -1,7 +1,7 @@
 -- What is true of the fields of the books: the tables stand for the history, and there is the room that was promised.
 use Rattle.std.specs.Prelude.{◌+◌, ◌*◌, ◌≤◌, length}
 use Rattle.eip_books.specs.declared.books.Books.TheInside.{Inside}
-use Rattle.eip_books.specs.Stands.{Tables, Stands}
+use Rattle.eip_tables.specs.Stands.{Tables, Stands}
 
 abbrev pub tables_of : Inside → Tables
 tables_of a = record { rows = a.rows.items; ready = a.ready.numbers; sources = a.sources; turns = a.turns; fault = a.fault; notes = a.notes.items; taken = a.taken; pulled = a.pulled; live = a.live }

@@ -1,13 +1,2 @@
-pub mod Numbers
-pub mod Moves
-pub mod Closing
-pub mod State
-pub mod Look
-pub mod Rows
-pub mod Stands
-pub mod Asking
-pub mod Outside
 pub mod View
 pub mod Facts
-pub mod Places
-pub mod Origin

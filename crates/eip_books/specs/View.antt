@@ -7,8 +7,7 @@ use Rattle.eip_ledger.specs.declared.entry.Kind.{Kind}
 use Rattle.eip_ledger.specs.declared.entry.Kind.TheVariants.{Answer}
 use Rattle.eip_ledger.specs.View.{JournalView}
 use Rattle.eip_history.specs.Plan.{Plan}
-use Rattle.eip_history.specs.Own.{Past, source_state, Idle}
-use Rattle.eip_history.specs.Rules.{IsLegal, IsSource}
+use Rattle.eip_history.specs.Rules.{IsLegal}
 use Rattle.eip_plan.specs.Plan.{plan_of}
 
 -- the set, the journal, how many hands need no memory, what each exchange is known to ask, by number,
@@ -58,7 +57,3 @@ pub record IsSame (old new : BooksView) : Type 0 where
   pub room : new.room ≡ old.room
   pub known : new.known ≡ old.known
   pub outside : new.outside ≡ old.outside
-
--- the route has a source, which may be pulled but for the limit
-abbrev pub IsIdleSource : Plan → Past → ℕ → Type 0
-IsIdleSource s past t = IsSource s t × (source_state t past ≡ Idle)

@@ -1,54 +1,47 @@
-ghost use Rattle.std.specs.Prelude.{◌≡◌, ◌+◌, ◌-◌, ◌<◌, ◌≤◌, ◌∷◌, ◌++◌, [], List, ℕ, length, IfOk, OnOk, OnErr, Some, slice_get, IfSome, IfNone, IsTrue, ◌↔◌, ◌≢◌, ◌==◌, ◌&&◌, cond, None, true, false};
+ghost use Rattle.std.specs.Prelude.{◌≡◌, ◌+◌, ◌-◌, ◌<◌, ◌≤◌, [], ℕ, length, IfOk, OnOk, OnErr, Some, slice_get, IfSome, IfNone, IsTrue, ◌↔◌, ◌≢◌, ◌==◌, None, true, false};
 ghost use Rattle.eip_ledger.specs.declared.entry.Kind.TheVariants.{Pull, Accept, Refuse, SourceEnd, SourceFault, Take, Starve, Answer as Answered};
 ghost use Rattle.eip_history.specs.Births.{births, asked};
 ghost use Rattle.eip_history.specs.Own.{turns};
 ghost use Rattle.eip_ledger.specs.declared.place.Place.TheVariants.{Ready, InHand};
 ghost use Rattle.eip_history.specs.Place.{ready_numbers, place};
 ghost use Rattle.eip_history.specs.Rules.{May, first, IsBelow, outside_asked};
-ghost use Rattle.eip_history.specs.Stop.{or_else, with_fault, stop_of, is_over};
-ghost use Rattle.eip_ledger.specs.declared.place.Stop.TheVariants.{Drained, Spent};
-ghost use Rattle.eip_books.specs.declared.asking.Asked.TheVariants.{Unknown};
+ghost use Rattle.eip_history.specs.Stop.{stop_of, is_over};
+ghost use Rattle.eip_tables.specs.declared.asking.Asked.TheVariants.{Unknown};
 ghost use Rattle.eip_history.specs.Texts.{notes};
 ghost use Rattle.eip_history.specs.Tables.{without};
-ghost use Rattle.eip_plan.specs.Plan.{plan_of};
 ghost use Rattle.eip_frames.specs.declared.answer.Answer.TheVariants.{Noted, Finished};
 ghost use Rattle.eip_frames.specs.declared.request.Request.{Request as ARequest};
-ghost use Rattle.eip_frames.specs.declared.request.Request.TheVariants.{Log};
 ghost use Rattle.eip_frames.specs.Fits.{fits, is_outside};
-ghost use Rattle.eip_books.specs.Moves.{end_asked};
-ghost use Rattle.eip_books.specs.Outside.{is_among, outside_after, outside_looked, unlooked_numbers, IsAsked};
-ghost use Rattle.eip_books.specs.Asking.{asked_kind, is_outside_kind, AsksLine, AsksEnd};
-ghost use Rattle.eip_books.specs.View.{plan, IsLegalRun, Adds, AddsNone, AddsAnswer, IsSame, IsKnown, IsIdleSource};
-ghost use Rattle.eip_books.specs.declared.books.Inner.TheVariants.{Did, Outside};
-ghost use Rattle.eip_books.specs.Places.{inner_of};
+ghost use Rattle.eip_tables.specs.Moves.{end_asked};
+ghost use Rattle.eip_tables.specs.Outside.{is_among, outside_after, outside_looked, unlooked_numbers, IsAsked};
+ghost use Rattle.eip_tables.specs.Asking.{asked_kind, is_outside_kind, AsksLine, AsksEnd};
+ghost use Rattle.eip_tables.specs.Rows.{IsIdleSource};
+ghost use Rattle.eip_books.specs.View.{plan, IsLegalRun, Adds, AddsNone, AddsAnswer, IsSame, IsKnown};
+ghost use Rattle.eip_tables.specs.declared.asking.Inner.TheVariants.{Did, Outside};
+ghost use Rattle.eip_tables.specs.Places.{inner_of};
 ghost use Rattle.std.specs.Prelude.{option_map};
 ghost use Rattle.eip_history.specs.BookText.{origin_at};
-ghost use Rattle.eip_books.specs.Origin.{origin_seen, ending_at};
+ghost use Rattle.eip_tables.specs.Origin.{origin_seen, ending_at};
 
-use crate::asking::{Asked, asked_of};
-use crate::look::first_look;
-use crate::origin::{OriginView, ending_of, origin_in};
-use crate::places::place_of;
-use crate::rising::RisingNumbers;
-use crate::row::{Row, SourceState, Stage, end_asked, line_asked};
-use crate::rows::Rows;
-use crate::sources::Sources;
-use crate::table::Table;
 use crate::ticket::Ticket;
 use eip_exchange::{End, Ending, Message};
-use eip_frames::{Answer, Request};
+use eip_frames::Answer;
 use eip_ledger::{Entry, Journal, Kind, Note, Place, Refused, Stop};
 use eip_route::RouteSet;
+use eip_rows::look::first_look;
+use eip_rows::rows::Rows;
+use eip_tables::asking::{Asked, Inner, asked_of};
+use eip_tables::notes::{keep_line, make_room};
+use eip_tables::origin::{OriginView, ending_of, origin_in};
+use eip_tables::places::place_of;
+use eip_tables::rising::RisingNumbers;
+use eip_tables::row::{Row, SourceState, Stage, end_asked};
+use eip_tables::sources::Sources;
+use eip_tables::stop::{first_fault, stop_by};
+use eip_tables::table::Table;
 use eip_text::{NoMemory, Text};
 use std::alloc::Global;
 use std::marker::Model;
-
-/// What came of a look at an exchange: its answer was made, or it waits for somebody outside.
-#[derive(Clone, Copy, Debug, PartialEq, Eq)]
-pub enum Inner {
-    Did,
-    Outside,
-}
 
 /// The journal of a run with the tables that stand for it.
 #[derive(Drop)]
@@ -73,77 +66,19 @@ impl Model for Books {
     ghost use Rattle.eip_frames.specs.declared.answer.Answer.TheVariants.{Noted, Finished};
     ghost use Rattle.eip_frames.specs.declared.request.Request.{Request as ARequest};
     ghost use Rattle.eip_frames.specs.declared.request.Request.TheVariants.{Log};
-    ghost use Rattle.eip_books.specs.Asking.{asked_kind, AsksLine, AsksEnd};
+    ghost use Rattle.eip_tables.specs.Asking.{asked_kind, AsksLine, AsksEnd};
     ghost use Rattle.eip_books.specs.View.{BooksView};
 
     ghost Value = { BooksView };
 
-    ghost use Rattle.eip_books.specs.Numbers.{row_numbers};
-    ghost use Rattle.eip_books.specs.State.{known_of, row_outside};
+    ghost use Rattle.eip_tables.specs.Numbers.{row_numbers};
+    ghost use Rattle.eip_tables.specs.State.{known_of, row_outside};
 
     ghost view = { λ b. record { set = b.set; journal = b.journal; room = b.room; known = map known_of b.rows.items; outside = row_numbers row_outside 1 b.rows.items } };
 
     ghost use Rattle.eip_books.specs.Facts.{BooksFacts};
 
     ghost invariant = { BooksFacts };
-}
-
-/// The first of two faults, of which the second is there.
-fn first_fault(fault: Option<u32>, source: u32) -> Option<u32>
-    ensures { result ≡ or_else fault (Some source) }
-{
-    match fault {
-        Some(first) => Some(first),
-        None => Some(source),
-    }
-}
-
-/// The stop, or in its place the first source that failed.
-fn reported(fault: Option<u32>, stop: Stop) -> Stop
-    ensures { result ≡ with_fault fault stop }
-{
-    match fault {
-        Some(source) => Stop::SourceFault(source),
-        None => stop,
-    }
-}
-
-/// The stop of a run, if it is over or its turns are spent with no hand out.
-fn stop_by(over: bool, turns: u64, limit: u64, hands: u64, fault: Option<u32>) -> Option<Stop>
-    ensures { result ≡ cond over (Some (with_fault fault Drained)) (cond ((turns == limit) && (hands == 0)) (Some (with_fault fault Spent)) None) }
-{
-    if over {
-        return Some(reported(fault, Stop::Drained));
-    }
-    if turns == limit && hands == 0 {
-        return Some(reported(fault, Stop::Spent));
-    }
-    None
-}
-
-/// Room for one answer beside what is promised.
-fn make_room(journal: &mut Journal, notes: &mut Table<Note>, needed: u64) -> Result<(), NoMemory>
-    ensures journal { OnOk result (needed ≤ journal.new.spare) }
-    ensures notes { OnOk result (1 ≤ notes.new.spare) }
-    ensures less { journal.old.spare ≤ journal.new.spare }
-    ensures past { journal.new.past ≡ journal.old.past }
-    ensures workers { journal.new.workers ≡ journal.old.workers }
-    ensures turns { journal.new.turns ≡ journal.old.turns }
-    ensures items { notes.new.items ≡ notes.old.items }
-{
-    notes.reserve(1)?;
-    journal.reserve(needed as usize)?;
-    Ok(())
-}
-
-/// Keeps the line of the log that the exchange asked for, in room that was reserved.
-fn keep_line(notes: &mut Table<Note>, number: u64, request: Option<Request>)
-    requires { 1 ≤ notes.old.spare }
-    ensures { (name text : List ℕ) → request ≡ Some (Log name text) → notes.new.items ≡ notes.old.items ++ (record { number = number; name = name; text = text }) ∷ [] }
-{
-    if let Some((name, text)) = line_asked(request) {
-        notes.put_last(Note { number, name, text });
-    }
 }
 
 impl Books {
@@ -537,7 +472,7 @@ impl Books {
         ensures outside { self.new.outside ≡ self.old.outside }
     {
         let entry = self.journal.entries().len();
-        let _ = self.rows.answer(number, entry);
+        drop(self.rows.answer(number, entry));
         self.ready.put_in(number);
         self.journal.append_reserved(Entry {
             worker,
@@ -598,7 +533,12 @@ impl Books {
         ensures room { self.new.room ≡ self.old.room }
         ensures outside { self.new.outside ≡ self.old.outside }
     {
-        let Ticket { worker, number, .. } = ticket;
+        let Ticket {
+            worker,
+            number,
+            request,
+        } = ticket;
+        drop(request);
         self.rows.close(number, Stage::Starved);
         self.journal.append_reserved(Entry {
             worker,

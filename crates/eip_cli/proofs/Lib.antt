@@ -1,3 +1,1 @@
-pub mod KnownLaws
-pub mod LineLaws
-pub mod SourceLaws
+pub mod Running

@@ -1,7 +1,7 @@
 -- The folder and the name of the file that a path names.
-use Rattle.std.proofs.Common.{◌≡◌, ℕ, ◌<◌, Bool, true, false, ◌&&◌, cond, eqb, List, [], ◌∷◌, ◌++◌, length, get_or, inl, inr, Option, Some, None, MatchOption, refl, sym, ap, ◌∙◌, arith, codes, suc, take, drop, ◌+◌, ◌≤◌, subst, take-append-drop}
+use Rattle.std.proofs.Common.{◌≡◌, ℕ, ◌<◌, Bool, true, false, cond, eqb, List, [], ◌∷◌, ◌++◌, length, get_or, inl, inr, Option, Some, None, MatchOption, refl, sym, ap, ◌∙◌, arith, codes, suc, take, drop, ◌+◌, ◌≤◌, subst, take-append-drop}
 use denote.Ref.{Bor}
-use Rattle.std.proofs.lemmas.Bool.{and_parts, ne_eqb, eqb-true, cond-true, cond-false}
+use Rattle.std.proofs.lemmas.Bool.{ne_eqb, eqb-true, cond-true, cond-false}
 use Rattle.std.specs.Str.Pattern.{RFindsChar}
 use Rattle.std.proofs.lemmas.List.{drop_more}
 use Rattle.std.proofs.lemmas.Option.{same_Some}

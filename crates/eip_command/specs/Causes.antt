@@ -1,8 +1,8 @@
 -- How a fault of a route file is told.
 use Rattle.std.specs.Prelude.{◌≡◌, ℕ, List, [], ◌∷◌, ◌++◌, codes, refl}
-use Rattle.eip_route_table.specs.Causes.{cause_text}
-use Rattle.eip_route_table.specs.declared.fault.Cause.TheVariants as cause
-use Rattle.eip_route_table.specs.declared.fault.RouteFault.{RouteFault}
+use Rattle.eip_route_grammar.specs.Causes.{cause_text}
+use Rattle.eip_route_grammar.specs.declared.fault.Cause.TheVariants as cause
+use Rattle.eip_route_grammar.specs.declared.fault.RouteFault.{RouteFault}
 
 unfoldable pub fault_line : RouteFault → List ℕ
 fault_line f = codes "error routes " ++ (f.path ++ (32 ∷ (cause_text f.cause ++ (10 ∷ []))))

@@ -1,7 +1,7 @@
 ghost use Rattle.std.specs.Prelude.{◌≡◌, IfOk};
 ghost use Rattle.eip_command.specs.Causes as spec;
 
-use eip_route_table::{RouteFault, print_cause};
+use eip_route_grammar::{RouteFault, print_cause};
 use eip_text::{NoMemory, Text};
 use std::alloc::Global;
 

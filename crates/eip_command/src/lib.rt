@@ -6,6 +6,3 @@ pub mod words;
 
 pub use fault::fault_line;
 pub use words::{Command, Path, WordsFault, read_words};
-
-#[cfg(test)]
-mod tests;

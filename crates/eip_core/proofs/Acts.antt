@@ -28,8 +28,8 @@ use Rattle.eip_history.proofs.Allowed.{waits-below}
 use Rattle.eip_plan.specs.Plan.{plan_of}
 use Rattle.eip_plan.proofs.Laws.{plan-laws, plan-simple}
 use Rattle.eip_books.specs.View.{BooksView, plan, IsLegalRun, Adds, AddsNone}
-use Rattle.eip_books.specs.declared.books.Inner.TheVariants.{Did}
-use Rattle.eip_books.specs.Places.{inner_of}
+use Rattle.eip_tables.specs.declared.asking.Inner.TheVariants.{Did}
+use Rattle.eip_tables.specs.Places.{inner_of}
 use Rattle.eip_core.specs.Doors.{Doors, inlet_names, inlet_at, uri_at}
 use Rattle.eip_core.specs.Outside.{acts_by, acts_of, refusal_of, inlet_acts_in, lane_calls_in, calls_asked, calls_for}
 use Rattle.eip_core.specs.Drain.{Drains, Acts, Progresses, doors}

@@ -7,4 +7,3 @@ pub mod Acts
 pub mod Sends
 pub mod Serving
 pub mod Turns
-pub mod Rows

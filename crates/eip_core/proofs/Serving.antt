@@ -33,7 +33,7 @@ use Rattle.eip_history.proofs.Parts.{numbered-number}
 use Rattle.eip_plan.specs.Plan.{plan_of}
 use Rattle.eip_plan.proofs.Laws.{plan-laws}
 use Rattle.eip_books.specs.View.{BooksView, plan, IsLegalRun, Adds}
-use Rattle.eip_books.specs.Outside.{is_among, with_number, IsAsked}
+use Rattle.eip_tables.specs.Outside.{is_among, with_number, IsAsked}
 use Rattle.eip_core.specs.Doors.{Doors, doors_of, lane_names, inlet_names, HasLanes, TellsNone}
 use Rattle.eip_core.specs.Outside.{calls_by, calls_for, calls_asked, calls_sent, lane_calls_in, IsSendable}
 use Rattle.eip_core.specs.Drain.{Drains, Acts, Progresses, doors}

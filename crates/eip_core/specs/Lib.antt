@@ -1,5 +1,4 @@
 pub mod Doors
 pub mod Outside
 pub mod Drain
-pub mod Rows
 pub mod Served

@@ -6,7 +6,7 @@ ghost use Rattle.eip_history.specs.Place.{hands, ready_numbers};
 ghost use Rattle.eip_history.specs.Rules.{IsBelow, first};
 ghost use Rattle.eip_history.specs.Stop.{stop_of};
 ghost use Rattle.eip_books.specs.View.{plan, IsLegalRun};
-ghost use Rattle.eip_books.specs.Outside.{is_among};
+ghost use Rattle.eip_tables.specs.Outside.{is_among};
 ghost use Rattle.eip_core.specs.Doors.{CanRun};
 ghost use Rattle.eip_core.specs.Drain.{IsStop, Drains, Acts};
 

@@ -5,8 +5,6 @@ pub mod drain;
 pub mod outside;
 pub mod registry;
 pub mod served;
-#[cfg(test)]
-mod tests;
 
 pub use registry::Registry;
 pub use served::{is_served, names_of};

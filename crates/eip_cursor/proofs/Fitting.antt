@@ -8,7 +8,7 @@ use Rattle.eip_frames.specs.declared.request.Request.{Request}
 use Rattle.eip_frames.specs.declared.answer.Answer.{Answer as Reply}
 use Rattle.eip_meaning.specs.Outcomes.{Outcome, Runner, followed, caught}
 use Rattle.eip_meaning.specs.Meaning.{finished}
-use Rattle.eip_cursor.specs.Rest.{waits, AnswerFits, WaitFits}
+use Rattle.eip_progress.specs.Rest.{waits, AnswerFits, WaitFits}
 
 -- an answer that fits what is asked fits what the step has asked
 pub fits-wait : (commit : Bool) (item : List ℕ) (p : At) (o : Option Request) (m : Message) (K : Fault → List Reply → Outcome) (L : Runner) (a : Reply)

@@ -1,65 +1,57 @@
 ghost use Rattle.std.specs.Prelude.{◌≡◌, ◌++◌, List, [], ◌∷◌, IfOk, OnOk, OnErr, MatchOption};
+ghost use Rattle.eip_route.specs.declared.route.RouteSet.{RouteSet as ARouteSet};
+ghost use Rattle.eip_frames.specs.Fate.{Fate as AFate};
 ghost use Rattle.eip_frames.specs.declared.answer.Answer.{Answer as AnAnswer};
+ghost use Rattle.eip_frames.specs.declared.request.At.{At as APlace};
 ghost use Rattle.eip_meaning.specs.Meaning.{mean, scene_of, id_of, is_told, is_told_origin, item_of};
-ghost use Rattle.eip_cursor.specs.Rest.{rest, IsFirst, asked_at, pause_mean, next_fate, answers_of, AnswerFits};
+ghost use Rattle.eip_progress.specs.Rest.{rest, IsFirst, asked_at, pause_mean, next_fate, answers_of, AnswerFits};
 
 use crate::run::{end_answered, finishing, run, step_answered};
-use eip_exchange::{Birth, End, Message, Origin, Work};
-use eip_frames::{Answer, At, Request};
+use eip_exchange::{Birth, End, Origin, Work};
+use eip_frames::{Answer, At};
 use eip_meaning::Scene;
+use eip_progress::{Cursor, Next, Pause, State};
 use eip_route::RouteSet;
 use eip_text::{NoMemory, Text};
 use eip_uri::{After, Uri};
 use std::alloc::Global;
 
-/// What comes next of an exchange.
-#[derive(Drop)]
-pub enum Next {
-    /// It asks this, and goes on by an answer that fits.
-    Asks(Request),
-    /// It has ended with this message.
-    Ended(End, Message),
-}
+/// What runs an exchange: it is made of a birth, and goes from one request of its route to the next.
+pub trait Advance: Sized {
+    ghost is_first: { Self → Type 0 };
 
-/// What an exchange waits for between two calls.
-#[derive(Drop)]
-pub enum Pause {
-    /// The step of the block at this index has asked.
-    Asked {
-        block: u32,
-        index: usize,
-        message: Message,
-    },
-    /// The end has been asked for.
-    Finishing(End, Message),
-    /// It has ended.
-    Over(End, Message),
-}
+    ghost rest: { ARouteSet → Self → List AnAnswer → AFate };
 
-/// Where a cursor stands between two calls.
-#[derive(Drop)]
-enum State {
-    /// Nothing has been asked.
-    Starting(Work, Message),
-    /// Something has been asked.
-    Paused(Pause),
-}
+    ghost asked_at: { Self → APlace };
 
-/// One exchange on its way through a route, from one request to the next.
-#[derive(Drop)]
-pub struct Cursor {
-    scene: Scene,
-    commit: bool,
-    origin: Origin,
-    state: State,
-}
-
-impl Cursor {
     /// The cursor of a birth, which has asked nothing yet.
-    #[tactic(auto, unfolding(crate::specs::Rest::IsFirst, crate::specs::Rest::rest, eip_meaning::specs::Meaning::mean))]
-    pub fn start(alloc: Global, birth: Birth, set: &RouteSet) -> Result<Cursor, NoMemory>
-        ensures { IfOk result (λ k. IsFirst k × ((A : List AnAnswer) → rest set.now k A ≡ mean set.now birth A)) }
-    {
+    fn start(alloc: Global, birth: Birth, set: &RouteSet) -> Result<Self, NoMemory>
+        ensures { IfOk result (λ k. is_first k × ((A : List AnAnswer) → rest set.now k A ≡ mean set.now birth A)) };
+
+    /// From one request to the next: `None` at first, later an answer that fits the last request. After an end no call may
+    /// come. On `NoMemory` the cursor is as before.
+    fn advance(
+        &mut self,
+        alloc: Global,
+        set: &RouteSet,
+        answer: Option<&Answer>,
+    ) -> Result<Next, NoMemory>
+        requires { MatchOption answer (is_first self.old) (λ a. (is_first self.old → ⊥) × AnswerFits (rest set.now self.old []) a.now) }
+        ensures rest { IfOk result (λ _. (A : List AnAnswer) → rest set.now self.new A ≡ rest set.now self.old (answers_of answer.entry ++ A)) }
+        ensures asks { IfOk result (λ n. rest set.now self.new [] ≡ next_fate (asked_at self.new) n) }
+        ensures later { OnOk result (is_first self.new → ⊥) }
+        ensures err { OnErr result (self.new ≡ self.old) };
+}
+
+impl Advance for Cursor {
+    ghost is_first = { IsFirst };
+
+    ghost rest = { rest };
+
+    ghost asked_at = { asked_at };
+
+    #[tactic(auto, unfolding(eip_progress::specs::Rest::IsFirst, eip_progress::specs::Rest::rest, eip_meaning::specs::Meaning::mean))]
+    fn start(alloc: Global, birth: Birth, set: &RouteSet) -> Result<Cursor, NoMemory> {
         Ok(Cursor {
             scene: scene_of(alloc, set, &birth)?,
             commit: is_told_origin(set, &birth.origin),
@@ -68,115 +60,99 @@ impl Cursor {
         })
     }
 
-    /// From one request to the next: `None` at first, later an answer that fits the last request. After an end no call may come.
-    /// On `NoMemory` the cursor is as before.
-    #[tactic(auto, unfolding(crate::specs::Rest::rest, crate::specs::Rest::IsFirst, crate::specs::Rest::asked_at))]
-    pub fn advance(
+    #[tactic(auto, unfolding(eip_progress::specs::Rest::rest, eip_progress::specs::Rest::IsFirst, eip_progress::specs::Rest::asked_at))]
+    fn advance(
         &mut self,
         alloc: Global,
         set: &RouteSet,
         answer: Option<&Answer>,
-    ) -> Result<Next, NoMemory>
-        requires { MatchOption answer (IsFirst self.old) (λ a. (IsFirst self.old → ⊥) × AnswerFits (rest set.now self.old []) a.now) }
-        ensures rest { IfOk result (λ _. (A : List AnAnswer) → rest set.now self.new A ≡ rest set.now self.old (answers_of answer.entry ++ A)) }
-        ensures asks { IfOk result (λ n. rest set.now self.new [] ≡ next_fate (asked_at self.new) n) }
-        ensures later { OnOk result (IsFirst self.new → ⊥) }
-        ensures err { OnErr result (self.new ≡ self.old) }
-    {
-        let (pause, next) = self.following(alloc, set, answer)?;
+    ) -> Result<Next, NoMemory> {
+        let (pause, next) = following(self, alloc, set, answer)?;
         self.state = State::Paused(pause);
         Ok(next)
     }
+}
 
-    /// The place of the last request.
-    #[tactic(auto, unfolding(crate::specs::Rest::asked_at))]
-    pub fn at(&self) -> At
-        ensures { result ≡ asked_at self.now }
-    {
-        self.scene.place
+/// What comes next.
+fn following(
+    cursor: &Cursor,
+    alloc: Global,
+    set: &RouteSet,
+    answer: Option<&Answer>,
+) -> Result<(Pause, Next), NoMemory>
+    requires { MatchOption answer (IsFirst cursor.now) (λ a. (IsFirst cursor.now → ⊥) × AnswerFits (rest set.now cursor.now []) a.now) }
+    ensures rest { IfOk result (λ r. (A : List AnAnswer) → pause_mean set.now cursor.now.commit (item_of cursor.now.origin) cursor.now.scene r.0 A ≡ rest set.now cursor.now (answers_of answer.entry ++ A)) }
+    ensures asks { IfOk result (λ r. pause_mean set.now cursor.now.commit (item_of cursor.now.origin) cursor.now.scene r.0 [] ≡ next_fate cursor.now.scene.place r.1) }
+{
+    match answer {
+        None => first(cursor, alloc, set),
+        Some(answer) => answered(cursor, alloc, set, answer),
     }
+}
 
-    /// What comes next.
-    fn following(
-        &self,
-        alloc: Global,
-        set: &RouteSet,
-        answer: Option<&Answer>,
-    ) -> Result<(Pause, Next), NoMemory>
-        requires { MatchOption answer (IsFirst self.now) (λ a. (IsFirst self.now → ⊥) × AnswerFits (rest set.now self.now []) a.now) }
-        ensures rest { IfOk result (λ r. (A : List AnAnswer) → pause_mean set.now self.now.commit (item_of self.now.origin) self.now.scene r.0 A ≡ rest set.now self.now (answers_of answer.entry ++ A)) }
-        ensures asks { IfOk result (λ r. pause_mean set.now self.now.commit (item_of self.now.origin) self.now.scene r.0 [] ≡ next_fate self.now.scene.place r.1) }
-    {
-        match answer {
-            None => self.first(alloc, set),
-            Some(answer) => self.answered(alloc, set, answer),
+/// The first request.
+#[tactic(auto, unfolding(eip_progress::specs::Rest::rest, eip_progress::specs::Rest::IsFirst))]
+fn first(cursor: &Cursor, alloc: Global, set: &RouteSet) -> Result<(Pause, Next), NoMemory>
+    requires { IsFirst cursor.now }
+    ensures rest { IfOk result (λ r. (A : List AnAnswer) → pause_mean set.now cursor.now.commit (item_of cursor.now.origin) cursor.now.scene r.0 A ≡ rest set.now cursor.now A) }
+    ensures asks { IfOk result (λ r. pause_mean set.now cursor.now.commit (item_of cursor.now.origin) cursor.now.scene r.0 [] ≡ next_fate cursor.now.scene.place r.1) }
+{
+    let State::Starting(work, message) = &cursor.state else {
+        unreachable!()
+    };
+    let message = message.copy(alloc)?;
+    match work {
+        Work::Block(block) => {
+            let reached = run(alloc, set, &cursor.scene, cursor.commit, *block, 0, message)?;
+            Ok(reached)
+        }
+        Work::To(_) => {
+            let reached = finishing(alloc, cursor.commit, End::Completed, message)?;
+            Ok(reached)
         }
     }
+}
 
-    /// The first request.
-    #[tactic(auto, unfolding(crate::specs::Rest::rest, crate::specs::Rest::IsFirst))]
-    fn first(&self, alloc: Global, set: &RouteSet) -> Result<(Pause, Next), NoMemory>
-        requires { IsFirst self.now }
-        ensures rest { IfOk result (λ r. (A : List AnAnswer) → pause_mean set.now self.now.commit (item_of self.now.origin) self.now.scene r.0 A ≡ rest set.now self.now A) }
-        ensures asks { IfOk result (λ r. pause_mean set.now self.now.commit (item_of self.now.origin) self.now.scene r.0 [] ≡ next_fate self.now.scene.place r.1) }
-    {
-        let State::Starting(work, message) = &self.state else {
-            unreachable!()
-        };
-        let message = message.copy(alloc)?;
-        match work {
-            Work::Block(block) => {
-                let reached = run(alloc, set, &self.scene, self.commit, *block, 0, message)?;
-                Ok(reached)
-            }
-            Work::To(_) => {
-                let reached = finishing(alloc, self.commit, End::Completed, message)?;
-                Ok(reached)
-            }
-        }
-    }
-
-    /// What follows an answer.
-    #[tactic(auto, unfolding(crate::specs::Rest::rest, crate::specs::Rest::IsFirst))]
-    fn answered(
-        &self,
-        alloc: Global,
-        set: &RouteSet,
-        answer: &Answer,
-    ) -> Result<(Pause, Next), NoMemory>
-        requires later { IsFirst self.now → ⊥ }
-        requires fits { AnswerFits (rest set.now self.now []) answer.now }
-        ensures rest { IfOk result (λ r. (A : List AnAnswer) → pause_mean set.now self.now.commit (item_of self.now.origin) self.now.scene r.0 A ≡ rest set.now self.now (answer.now ∷ A)) }
-        ensures asks { IfOk result (λ r. pause_mean set.now self.now.commit (item_of self.now.origin) self.now.scene r.0 [] ≡ next_fate self.now.scene.place r.1) }
-    {
-        let State::Paused(pause) = &self.state else {
-            unreachable!()
-        };
-        match pause {
-            Pause::Asked {
-                block,
-                index,
+/// What follows an answer.
+#[tactic(auto, unfolding(eip_progress::specs::Rest::rest, eip_progress::specs::Rest::IsFirst))]
+fn answered(
+    cursor: &Cursor,
+    alloc: Global,
+    set: &RouteSet,
+    answer: &Answer,
+) -> Result<(Pause, Next), NoMemory>
+    requires later { IsFirst cursor.now → ⊥ }
+    requires fits { AnswerFits (rest set.now cursor.now []) answer.now }
+    ensures rest { IfOk result (λ r. (A : List AnAnswer) → pause_mean set.now cursor.now.commit (item_of cursor.now.origin) cursor.now.scene r.0 A ≡ rest set.now cursor.now (answer.now ∷ A)) }
+    ensures asks { IfOk result (λ r. pause_mean set.now cursor.now.commit (item_of cursor.now.origin) cursor.now.scene r.0 [] ≡ next_fate cursor.now.scene.place r.1) }
+{
+    let State::Paused(pause) = &cursor.state else {
+        unreachable!()
+    };
+    match pause {
+        Pause::Asked {
+            block,
+            index,
+            message,
+        } => {
+            let message = message.copy(alloc)?;
+            let reached = step_answered(
+                alloc,
+                set,
+                &cursor.scene,
+                cursor.commit,
+                *block,
+                *index,
                 message,
-            } => {
-                let message = message.copy(alloc)?;
-                let reached = step_answered(
-                    alloc,
-                    set,
-                    &self.scene,
-                    self.commit,
-                    *block,
-                    *index,
-                    message,
-                    answer,
-                )?;
-                Ok(reached)
-            }
-            Pause::Finishing(end, message) => {
-                let reached = end_answered(alloc, self.commit, &self.origin, end, message, answer)?;
-                Ok(reached)
-            }
-            Pause::Over(_, _) => unreachable!(),
+                answer,
+            )?;
+            Ok(reached)
         }
+        Pause::Finishing(end, message) => {
+            let reached = end_answered(alloc, cursor.commit, &cursor.origin, end, message, answer)?;
+            Ok(reached)
+        }
+        Pause::Over(_, _) => unreachable!(),
     }
 }
 

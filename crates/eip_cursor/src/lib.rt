@@ -1,9 +1,8 @@
-// A cursor runs one exchange from one request to the next.
+// A cursor is run from one request to the next.
 #![tactic(auto)]
 
 mod cursor;
 mod run;
-mod steps;
-mod values;
 
-pub use cursor::{Cursor, Next};
+pub use cursor::Advance;
+pub use eip_progress::{Cursor, Next};

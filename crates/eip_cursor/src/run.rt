@@ -5,14 +5,14 @@ ghost use Rattle.eip_frames.specs.declared.answer.Answer.{Answer as AnAnswer};
 ghost use Rattle.eip_route.specs.declared.route.RouteSet.{RouteSet as ARouteSet};
 ghost use Rattle.eip_meaning.specs.declared.scene.Scene.{Scene as AScene};
 ghost use Rattle.eip_meaning.specs.Meaning.{steps_of as steps_in_block, steps_mean, caught_message, finished, finish_by, item_of};
-ghost use Rattle.eip_cursor.specs.Rest.{pause_mean, asked_mean, next_fate, request_at, WaitFits};
+ghost use Rattle.eip_progress.specs.Rest.{pause_mean, asked_mean, next_fate, request_at, WaitFits};
 
-use crate::cursor::{Next, Pause};
-use crate::steps::{Tried, fault_of, steps_of, try_step};
 use eip_exchange::{End, Fault, Message, Origin};
 use eip_frames::{Answer, Request};
 use eip_meaning::Scene;
+use eip_progress::{Next, Pause, Tried};
 use eip_route::RouteSet;
+use eip_steps::{fault_of, steps_of, try_step};
 use eip_text::{NoMemory, Text};
 use std::alloc::Global;
 

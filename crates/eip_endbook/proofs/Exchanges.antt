@@ -17,7 +17,7 @@ use Rattle.eip_history.specs.Counts.{is_failed, is_waiting, total_count, count_o
 use Rattle.eip_history.specs.BookText.{origin_of, origin_at}
 use Rattle.eip_history.proofs.Lists.{filter-length, slice_get-some}
 use Rattle.eip_history.proofs.Totals.{count-first-more}
-use Rattle.eip_books.specs.Origin.{ending_at}
+use Rattle.eip_tables.specs.Origin.{ending_at}
 use Rattle.eip_endbook.specs.declared.counts.Ends.{Ends}
 use Rattle.eip_endbook.specs.Totals.{counted, CountsFirst}
 

@@ -6,8 +6,6 @@ pub mod counts;
 pub mod lines;
 pub mod log;
 pub mod names;
-#[cfg(test)]
-mod tests;
 
 pub use book::{book_text, summary_text};
 pub use counts::{Summary, totals};

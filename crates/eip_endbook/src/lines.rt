@@ -1,6 +1,6 @@
 ghost use Rattle.std.specs.Prelude.{◌≡◌, ◌++◌, OnOk, codes, decimal, string_bytes};
 ghost use Rattle.eip_history.specs.BookText.{note_line, origin_text, end_text, state_text, exchange_line, cause_text, refused_line, refused_line_in, accepted_line, total_line, stop_line};
-ghost use Rattle.eip_books.specs.Origin.{origin_seen};
+ghost use Rattle.eip_tables.specs.Origin.{origin_seen};
 ghost use Rattle.eip_endbook.specs.Names.{route_names};
 
 use crate::counts::Summary;

@@ -24,6 +24,3 @@ pub use memory_sink::MemorySink;
 pub use memory_source::MemorySource;
 pub use sink::{Sink, SinkFault};
 pub use source::{Commit, CommitFault, CommitOutcome, PullFault, Pulled, Refusal, Source};
-
-#[cfg(test)]
-mod tests;

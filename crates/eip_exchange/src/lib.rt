@@ -8,8 +8,6 @@ pub mod message;
 pub mod name;
 pub mod properties;
 pub mod setting;
-#[cfg(test)]
-mod tests;
 
 pub use birth::{Birth, Care, Origin, Work};
 pub use end::{End, Ended, Ending, Fault};

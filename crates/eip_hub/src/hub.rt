@@ -9,13 +9,13 @@ ghost use Rattle.eip_history.specs.Stop.{stop_of};
 ghost use Rattle.eip_history.specs.Texts.{notes};
 ghost use Rattle.eip_history.specs.Tables.{without};
 ghost use Rattle.eip_frames.specs.Fits.{fits, is_outside};
-ghost use Rattle.eip_books.specs.declared.books.Inner.TheVariants.{Did, Outside};
+ghost use Rattle.eip_tables.specs.declared.asking.Inner.TheVariants.{Did, Outside};
 ghost use Rattle.eip_books.specs.View.{plan, IsLegalRun, Adds, AddsNone, AddsAnswer};
-ghost use Rattle.eip_books.specs.Places.{inner_of};
-ghost use Rattle.eip_books.specs.Outside.{is_among, outside_after, unlooked_numbers, IsAsked};
+ghost use Rattle.eip_tables.specs.Places.{inner_of};
+ghost use Rattle.eip_tables.specs.Outside.{is_among, outside_after, unlooked_numbers, IsAsked};
 ghost use Rattle.std.specs.Prelude.{option_map};
 ghost use Rattle.eip_history.specs.BookText.{origin_at};
-ghost use Rattle.eip_books.specs.Origin.{origin_seen, ending_at};
+ghost use Rattle.eip_tables.specs.Origin.{origin_seen, ending_at};
 
 use eip_books::{Books, Inner, OriginView, Ticket};
 use eip_exchange::{Ending, Message};

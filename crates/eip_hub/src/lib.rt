@@ -5,6 +5,3 @@ pub mod hub;
 
 pub use eip_books::{Inner, OriginView, Ticket};
 pub use hub::Hub;
-
-#[cfg(test)]
-mod tests;

@@ -13,15 +13,15 @@ use Rattle.eip_route.specs.declared.step.Check.TheVariants as check
 use Rattle.eip_route.specs.declared.step.Expr.{Expr}
 use Rattle.eip_route.specs.declared.step.Expr.TheVariants as expr
 use Rattle.eip_route.specs.declared.step.Fan.{Fan}
-use Rattle.eip_route_table.specs.Keys.{is_spelled, spelled, dashed}
-use Rattle.eip_route_table.specs.Sites.{value_at}
-use Rattle.eip_route_table.specs.declared.keys.Key.TheVariants as key
-use Rattle.eip_route_json.specs.Fit.{ExprFits, CheckFits, GatheringFits}
-use Rattle.eip_route_json.specs.Kinds.{kind_of}
-use Rattle.eip_route_json.specs.Leaves.{flag_given, flag_at, count_of, small_count_at, count_at, members_given}
-use Rattle.eip_route_json.specs.Nesting.{nest_list, nest_step, nest_in, nest_case_list, nest_case, case_check}
-use Rattle.eip_route_json.specs.Parts.{expr_in, expr_of, fan_in, how_given, gathering_in, strategy_given, completion_of, repository_given}
-use Rattle.eip_route_json.specs.Sets.{steps_given}
+use Rattle.eip_route_grammar.specs.Keys.{is_spelled, spelled, dashed}
+use Rattle.eip_route_grammar.specs.Objects.{value_at}
+use Rattle.eip_route_grammar.specs.declared.keys.Key.TheVariants as key
+use Rattle.eip_route_validity.specs.Fit.{ExprFits, CheckFits, GatheringFits}
+use Rattle.eip_route_values.specs.Kinds.{kind_of}
+use Rattle.eip_route_values.specs.Leaves.{flag_given, flag_at, count_of, small_count_at, count_at, members_given}
+use Rattle.eip_route_values.specs.Nesting.{nest_list, nest_step, nest_in, nest_case_list, nest_case, case_check}
+use Rattle.eip_route_values.specs.Parts.{expr_in, expr_of, fan_in, how_given, gathering_in, strategy_given, completion_of, repository_given}
+use Rattle.eip_route_values.specs.Sets.{steps_given}
 use Rattle.eip_route_print.specs.Canonical.{Pairs, object_of, alone, expr_pairs, guarded_json, choice_json, otherwise_pairs, split_json, multicast_json, aggregate_json, idempotent_json}
 use Rattle.eip_route_again.proofs.Nested.{steps_slot}
 use Rattle.eip_route_again.proofs.Objects.{set_value, unset_value, word_value, strategy_value, expr_puts, split_slots, split_puts, multicast_slots, multicast_puts, aggregate_slots, aggregate_puts, idempotent_slots, idempotent_puts}

@@ -4,12 +4,13 @@ use Rattle.std.specs.Prelude.{codes}
 use Rattle.eip_text.specs.Json.{Json, list, Items, items_of}
 use Rattle.eip_route.specs.Nest.{NestedSet}
 use Rattle.eip_route.specs.declared.route.Names.{Names}
-use Rattle.eip_route_table.specs.Sites.{found, when, items_sites, first_fault}
-use Rattle.eip_route_table.specs.declared.fault.Cause.TheVariants as cause
-use Rattle.eip_route_table.specs.declared.fault.RouteFault.{RouteFault}
-use Rattle.eip_route_table.specs.declared.table.Kind.TheVariants as kind
+use Rattle.eip_route_grammar.specs.Objects.{when}
+use Rattle.eip_route_faults.specs.Sites.{found, items_sites, first_fault}
+use Rattle.eip_route_grammar.specs.declared.fault.Cause.TheVariants as cause
+use Rattle.eip_route_grammar.specs.declared.fault.RouteFault.{RouteFault}
+use Rattle.eip_route_grammar.specs.declared.table.Kind.TheVariants as kind
 use Rattle.eip_route_file.specs.Later.{too_many, later_fault, as_sites, items_file, file_sites}
-use Rattle.eip_route_json.specs.Fit.{SetFits}
+use Rattle.eip_route_validity.specs.Fit.{SetFits}
 use Rattle.eip_route_print.specs.Canonical.{list_of, handler_items, clauses_json, routes_json, set_items}
 use Rattle.eip_route_again.proofs.Fine.{ItemsFine, none_at_all, none_found, none_under, none_both}
 use Rattle.eip_route_again.proofs.FineItems.{items_fine}

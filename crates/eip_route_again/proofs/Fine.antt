@@ -2,14 +2,16 @@
 use Rattle.std.proofs.Common.{◌≡◌, ℕ, ◌+◌, Bool, false, cond, List, [], ◌∷◌, ◌++◌, Option, Some, None, option_map, refl, sym, ap, subst, ◌∙◌}
 use Rattle.eip_text.specs.Json.{Json, word, object, Items, no_items, item, Members, no_members, member, members_of}
 use Rattle.eip_route.specs.declared.route.Names.{Names}
-use Rattle.eip_route_table.specs.Sites.{Site, predicate, found, under, key_step, index_step, own_keys, keys_of, value_at, value_kind, pairs_in, whole_object, is_predicate, word_sites, sites_at, items_sites, members_sites, first_fault, placed}
-use Rattle.eip_route_table.specs.Table.{rows, rule_of, shape_of}
-use Rattle.eip_route_table.specs.Values.{word_cause}
-use Rattle.eip_route_table.specs.declared.fault.Cause.{Cause}
-use Rattle.eip_route_table.specs.declared.keys.Key.TheVariants as key
-use Rattle.eip_route_table.specs.declared.table.Kind.{Kind}
-use Rattle.eip_route_table.specs.declared.table.Rule.{Rule}
-use Rattle.eip_route_table.proofs.Walking.{none_append, first_under}
+use Rattle.eip_route_grammar.specs.Objects.{own_keys, keys_of, value_at, value_kind, pairs_in, whole_object}
+use Rattle.eip_route_grammar.specs.Paths.{key_step, index_step, placed}
+use Rattle.eip_route_faults.specs.Sites.{Site, predicate, found, under, is_predicate, word_sites, sites_at, items_sites, members_sites, first_fault}
+use Rattle.eip_route_grammar.specs.Table.{rows, rule_of, shape_of}
+use Rattle.eip_route_faults.specs.Values.{word_cause}
+use Rattle.eip_route_grammar.specs.declared.fault.Cause.{Cause}
+use Rattle.eip_route_grammar.specs.declared.keys.Key.TheVariants as key
+use Rattle.eip_route_grammar.specs.declared.table.Kind.{Kind}
+use Rattle.eip_route_grammar.specs.declared.table.Rule.{Rule}
+use Rattle.eip_route_faults.proofs.Walking.{none_append, first_under}
 use Rattle.eip_route_print.specs.Canonical.{Pairs, object_of, alone}
 use Rattle.eip_route_again.proofs.Slots.{Slot, sure, maybe, filled, slot_at, slot_keys, value_filled, Puts}
 

@@ -15,18 +15,19 @@ use Rattle.eip_route.specs.declared.step.Check.TheVariants as check
 use Rattle.eip_route.specs.declared.step.Expr.{Expr}
 use Rattle.eip_route.specs.declared.step.Expr.TheVariants as expr
 use Rattle.eip_route.specs.declared.step.Fan.{Fan}
-use Rattle.eip_route_table.specs.Keys.{is_spelled, spelled, dashed}
-use Rattle.eip_route_table.specs.Sites.{found, has_key, has_none, own_list, item_kind, deeper, value_at, plainly, completes, sites_at, items_sites, first_fault}
-use Rattle.eip_route_table.specs.Table.{rows, rule_of, shape_of}
-use Rattle.eip_route_table.specs.Table.{list_of as listed}
-use Rattle.eip_route_table.specs.declared.fault.Cause.TheVariants as cause
-use Rattle.eip_route_table.specs.declared.keys.Key.{Key}
-use Rattle.eip_route_table.specs.declared.keys.Key.TheVariants as key
-use Rattle.eip_route_table.specs.declared.table.Listed.{Listed}
-use Rattle.eip_route_table.specs.declared.table.Kind.{Kind}
-use Rattle.eip_route_table.specs.declared.table.Kind.TheVariants as kind
-use Rattle.eip_route_table.specs.declared.table.Rule.TheVariants as rule
-use Rattle.eip_route_json.specs.Fit.{ExprFits, CheckFits, GatheringFits, MayPredicateFit}
+use Rattle.eip_route_grammar.specs.Keys.{is_spelled, spelled, dashed}
+use Rattle.eip_route_grammar.specs.Objects.{has_key, value_at, plainly, completes}
+use Rattle.eip_route_faults.specs.Sites.{found, has_none, own_list, item_kind, deeper, sites_at, items_sites, first_fault}
+use Rattle.eip_route_grammar.specs.Table.{rows, rule_of, shape_of}
+use Rattle.eip_route_grammar.specs.Table.{list_of as listed}
+use Rattle.eip_route_grammar.specs.declared.fault.Cause.TheVariants as cause
+use Rattle.eip_route_grammar.specs.declared.keys.Key.{Key}
+use Rattle.eip_route_grammar.specs.declared.keys.Key.TheVariants as key
+use Rattle.eip_route_grammar.specs.declared.table.Listed.{Listed}
+use Rattle.eip_route_grammar.specs.declared.table.Kind.{Kind}
+use Rattle.eip_route_grammar.specs.declared.table.Kind.TheVariants as kind
+use Rattle.eip_route_grammar.specs.declared.table.Rule.TheVariants as rule
+use Rattle.eip_route_validity.specs.Fit.{ExprFits, CheckFits, GatheringFits, MayPredicateFit}
 use Rattle.eip_route_print.specs.Canonical.{alone, guarded_json, choice_json, otherwise_pairs, split_json, multicast_json, aggregate_json, idempotent_json}
 use Rattle.eip_route_again.proofs.Fine.{Fine, MayBeFine, ItemsFine, SlotsFine, HasKeys, none_found, none_both, word_fine, object_fine, alone_fine}
 use Rattle.eip_route_again.proofs.FineSteps.{simple_fine, constant_fine, named_fine, value_fine}

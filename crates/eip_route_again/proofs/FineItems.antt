@@ -11,16 +11,17 @@ use Rattle.eip_route.specs.Nest.{NestedClause, NestedRoute, NestedSet}
 use Rattle.eip_route.specs.Valid.{is_filled, is_policy, is_given_between}
 use Rattle.eip_route.specs.declared.route.Handler.{Handler}
 use Rattle.eip_route.specs.declared.route.Names.{Names}
-use Rattle.eip_route_table.specs.Keys.{is_spelled, spelled, dashed}
-use Rattle.eip_route_table.specs.Sites.{value_at, has_none, outcome}
-use Rattle.eip_route_table.specs.Table.{rows, rule_of, shape_of}
-use Rattle.eip_route_table.specs.Table.{list_of as listed}
-use Rattle.eip_route_table.specs.declared.fault.Cause.TheVariants as cause
-use Rattle.eip_route_table.specs.declared.keys.Key.TheVariants as key
-use Rattle.eip_route_table.specs.declared.table.Kind.{Kind}
-use Rattle.eip_route_table.specs.declared.table.Kind.TheVariants as kind
-use Rattle.eip_route_table.specs.declared.table.Rule.TheVariants as rule
-use Rattle.eip_route_json.specs.Fit.{ClauseFits, DeadFits, HandlerFits, RouteFits, SetFits}
+use Rattle.eip_route_grammar.specs.Keys.{is_spelled, spelled, dashed}
+use Rattle.eip_route_grammar.specs.Objects.{value_at, outcome}
+use Rattle.eip_route_faults.specs.Sites.{has_none}
+use Rattle.eip_route_grammar.specs.Table.{rows, rule_of, shape_of}
+use Rattle.eip_route_grammar.specs.Table.{list_of as listed}
+use Rattle.eip_route_grammar.specs.declared.fault.Cause.TheVariants as cause
+use Rattle.eip_route_grammar.specs.declared.keys.Key.TheVariants as key
+use Rattle.eip_route_grammar.specs.declared.table.Kind.{Kind}
+use Rattle.eip_route_grammar.specs.declared.table.Kind.TheVariants as kind
+use Rattle.eip_route_grammar.specs.declared.table.Rule.TheVariants as rule
+use Rattle.eip_route_validity.specs.Fit.{ClauseFits, DeadFits, HandlerFits, RouteFits, SetFits}
 use Rattle.eip_route_print.specs.Canonical.{Pairs, object_of, list_of, one, words, where_any, steps_json, last_json, clause_json, route_json, policy_pairs, policy_in, default_items, dead_items, handler_items, clauses_json, routes_json}
 use Rattle.eip_route_again.proofs.Fine.{Fine, MayBeFine, ItemsFine, no_items_fine, item_fine, word_fine, object_fine, alone_fine}
 use Rattle.eip_route_again.proofs.FineBlocks.{block_fine, filled_list_fine}

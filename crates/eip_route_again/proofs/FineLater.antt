@@ -11,13 +11,13 @@ use Rattle.eip_uri.proofs.AgainForms.{uri_again}
 use Rattle.eip_route.specs.Faults.{same_consumer}
 use Rattle.eip_route.specs.Nest.{NestedClause, NestedRoute, NestedSet}
 use Rattle.eip_route.specs.declared.route.Names.{Names}
-use Rattle.eip_route_table.specs.Keys.{is_spelled, spelled, dashed}
-use Rattle.eip_route_table.specs.Values.{or_else}
-use Rattle.eip_route_table.specs.declared.fault.Cause.TheVariants as cause
-use Rattle.eip_route_table.specs.declared.fault.RouteFault.{RouteFault}
+use Rattle.eip_route_grammar.specs.Keys.{is_spelled, spelled, dashed}
+use Rattle.eip_route_grammar.specs.Causes.{or_else}
+use Rattle.eip_route_grammar.specs.declared.fault.Cause.TheVariants as cause
+use Rattle.eip_route_grammar.specs.declared.fault.RouteFault.{RouteFault}
 use Rattle.eip_route_file.specs.Later.{too_many, second_handler, uri_of, heads, same_from, is_from_taken, at_step, head_path, uri_path, head_fault, second_route, later_fault}
 use Rattle.eip_route_file.specs.declared.head.Head.{Head}
-use Rattle.eip_route_json.specs.Fit.{Apart, AreApart, RouteFits, SetFits}
+use Rattle.eip_route_validity.specs.Fit.{Apart, AreApart, RouteFits, SetFits}
 use Rattle.eip_route_print.specs.Canonical.{Pairs, policy_in, clause_json, route_json, dead_items, handler_items, clauses_json, routes_json}
 
 -- ---- how many routes there are

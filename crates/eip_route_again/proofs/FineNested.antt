@@ -3,10 +3,10 @@ use Rattle.std.proofs.Common.{◌≡◌, ℕ, ◌+◌, false, [], refl}
 use Rattle.eip_text.specs.Json.{items_of}
 use Rattle.eip_route.specs.Nest.{NestedStep, NestedSteps, NestedCases, NestedLast, sets_body, sets_header, sets_property, removes_header, goes_to, logs, throws, processes, chooses, filters, splits, multicasts, sends_to_list, aggregates, runs_once, none, more, no_case, more_case, no_last, last}
 use Rattle.eip_route.specs.declared.route.Names.{Names}
-use Rattle.eip_route_table.specs.Sites.{has_none}
-use Rattle.eip_route_table.specs.Table.{list_of as listed}
-use Rattle.eip_route_table.specs.declared.table.Kind.TheVariants as kind
-use Rattle.eip_route_json.specs.Fit.{HasSteps, HasCases, StepsFit, StepFits, CasesFit, LastFits}
+use Rattle.eip_route_faults.specs.Sites.{has_none}
+use Rattle.eip_route_grammar.specs.Table.{list_of as listed}
+use Rattle.eip_route_grammar.specs.declared.table.Kind.TheVariants as kind
+use Rattle.eip_route_validity.specs.Fit.{HasSteps, HasCases, StepsFit, StepFits, CasesFit, LastFits}
 use Rattle.eip_route_print.specs.Canonical.{list_of, steps_json, step_json, cases_json, last_json, guarded_json}
 use Rattle.eip_route_again.proofs.Fine.{Fine, MayBeFine, ItemsFine, no_items_fine, item_fine}
 use Rattle.eip_route_again.proofs.FineBlocks.{block_fine, branches_fine, filled_list_fine, choice_fine, guarded_fine, filter_fine, split_fine, multicast_fine, aggregate_fine, once_fine}

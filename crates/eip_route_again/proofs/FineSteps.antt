@@ -12,11 +12,11 @@ use Rattle.eip_route.specs.declared.route.Names.{Names}
 use Rattle.eip_route.specs.declared.step.Expr.{Expr}
 use Rattle.eip_route.specs.declared.step.Expr.TheVariants as expr
 use Rattle.eip_route.specs.declared.step.Fan.{Fan}
-use Rattle.eip_route_table.specs.Keys.{is_spelled, spelled, dashed}
-use Rattle.eip_route_table.specs.Table.{rows, rule_of, shape_of}
-use Rattle.eip_route_table.specs.declared.table.Kind.TheVariants as kind
-use Rattle.eip_route_table.specs.declared.table.Rule.TheVariants as rule
-use Rattle.eip_route_json.specs.Fit.{TemplateFits, ExprFits, Registered, TargetFits}
+use Rattle.eip_route_grammar.specs.Keys.{is_spelled, spelled, dashed}
+use Rattle.eip_route_grammar.specs.Table.{rows, rule_of, shape_of}
+use Rattle.eip_route_grammar.specs.declared.table.Kind.TheVariants as kind
+use Rattle.eip_route_grammar.specs.declared.table.Rule.TheVariants as rule
+use Rattle.eip_route_validity.specs.Fit.{TemplateFits, ExprFits, Registered, TargetFits}
 use Rattle.eip_route_print.specs.Canonical.{object_of, one, constant_pairs, named_pairs, simple_pairs, expr_pairs, set_body_json, named_value_json, text_json, log_json, throw_json, recipients_json}
 use Rattle.eip_route_again.proofs.Fine.{Fine, MayBeFine, SlotsFine, HasKeys, word_fine, object_fine, alone_fine}
 use Rattle.eip_route_again.proofs.Keyed.{keys_fine}

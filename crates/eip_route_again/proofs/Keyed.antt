@@ -1,13 +1,13 @@
 -- The keys of an object by its slots are as they are to be, where those of all slots stand once and are known, and those of the sure ones are enough.
 use Rattle.std.proofs.Common.{◌≡◌, ℕ, Bool, true, false, cond, List, [], ◌∷◌, ◌++◌, Option, Some, None, refl, sym, ap, ◌∙◌}
 use Rattle.std.proofs.lemmas.Bool.{or_parts, or_from}
-use Rattle.eip_route_table.specs.Keys.{spelled}
-use Rattle.eip_route_table.specs.Sites.{clash, clashes, missed, missing, known, keyed}
-use Rattle.eip_route_table.specs.Table.{row_for, key_in}
-use Rattle.eip_route_table.specs.Values.{or_else}
-use Rattle.eip_route_table.specs.declared.fault.Cause.{Cause}
-use Rattle.eip_route_table.specs.declared.fault.Cause.TheVariants as cause
-use Rattle.eip_route_table.specs.declared.table.Row.{Row}
+use Rattle.eip_route_grammar.specs.Keys.{spelled}
+use Rattle.eip_route_grammar.specs.Objects.{clash, clashes, missed, missing, known, keyed}
+use Rattle.eip_route_grammar.specs.Table.{row_for, key_in}
+use Rattle.eip_route_grammar.specs.Causes.{or_else}
+use Rattle.eip_route_grammar.specs.declared.fault.Cause.{Cause}
+use Rattle.eip_route_grammar.specs.declared.fault.Cause.TheVariants as cause
+use Rattle.eip_route_grammar.specs.declared.table.Row.{Row}
 use Rattle.eip_route_again.proofs.Slots.{Slot, sure, maybe, filled, all_keys, sure_keys, slot_keys}
 
 -- ---- rows that were seen

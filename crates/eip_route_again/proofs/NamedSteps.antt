@@ -3,7 +3,7 @@ use Rattle.std.proofs.Common.{◌≡◌, ℕ, suc, ◌+◌, true, List, [], ◌�
 use Rattle.eip_route.specs.Nest.{NestedStep, NestedSteps, NestedCases, NestedLast, NestedClause, NestedRoute, NestedSet, sets_body, sets_header, sets_property, removes_header, goes_to, logs, throws, processes, chooses, filters, splits, multicasts, sends_to_list, aggregates, runs_once, none, more, no_case, more_case, no_last, last, flat_set, un_set}
 use Rattle.eip_route.specs.Valid.{is_given_name}
 use Rattle.eip_route.specs.declared.route.Names.{Names}
-use Rattle.eip_route_json.specs.Fit.{StepsFit, StepFits, CasesFit, LastFits, ClauseFits, RouteFits, SetFits}
+use Rattle.eip_route_validity.specs.Fit.{StepsFit, StepFits, CasesFit, LastFits, ClauseFits, RouteFits, SetFits}
 use Rattle.eip_route_print.specs.Named.{IsNamed, AreNamed, StepNamed, CasesNamed, LastNamed, ClausesNamed, RoutesNamed, SetNamed}
 use Rattle.eip_route_print.proofs.Numbered.{back_set}
 

@@ -2,11 +2,11 @@
 use Rattle.std.proofs.Common.{◌≡◌, Bool, true, false, cond, List, Option, Some, refl, ap, ◌∙◌}
 use Rattle.eip_text.specs.Json.{Json, Members, no_members, member, members_of}
 use Rattle.eip_route.specs.Nest.{NestedSteps}
-use Rattle.eip_route_table.specs.Keys.{is_spelled}
-use Rattle.eip_route_table.specs.Sites.{value_at}
-use Rattle.eip_route_table.specs.declared.keys.Key.TheVariants as key
-use Rattle.eip_route_json.specs.Nesting.{nest_list, nest_in}
-use Rattle.eip_route_json.specs.Sets.{steps_given}
+use Rattle.eip_route_grammar.specs.Keys.{is_spelled}
+use Rattle.eip_route_grammar.specs.Objects.{value_at}
+use Rattle.eip_route_grammar.specs.declared.keys.Key.TheVariants as key
+use Rattle.eip_route_values.specs.Nesting.{nest_list, nest_in}
+use Rattle.eip_route_values.specs.Sets.{steps_given}
 use Rattle.eip_route_again.proofs.Slots.{Slot, filled, slot_at, value_filled}
 
 steps_by : (b : Bool) (t : Json) (x : NestedSteps) (o : Option Json) → x ≡ steps_given o → cond b (nest_list t) x ≡ steps_given (cond b (Some t) o)

@@ -20,13 +20,13 @@ use Rattle.eip_route.specs.Valid.{is_kind, is_kind_byte, is_fan, is_given_betwee
 use Rattle.eip_route.specs.declared.step.Expr.{Expr}
 use Rattle.eip_route.specs.declared.step.Expr.TheVariants as expr
 use Rattle.eip_route.specs.declared.step.Fan.{Fan}
-use Rattle.eip_route_table.specs.Keys.{is_spelled, spelled, dashed}
-use Rattle.eip_route_table.specs.Sites.{value_at}
-use Rattle.eip_route_table.specs.Values.{unhashed, last_segment, strategy_of}
-use Rattle.eip_route_table.specs.declared.keys.Key.TheVariants as key
-use Rattle.eip_route_json.specs.Fit.{TemplateFits, PredicateFits, MayPredicateFit, ExprFits}
-use Rattle.eip_route_json.specs.Leaves.{count_of, flag_at, flag_given, members_given}
-use Rattle.eip_route_json.specs.Parts.{template, predicate, template_or_empty, predicate_or_empty, endpoint, uri_or_input, expr_given, expr_in, expr_from, strategy_given, fan_in, delimiter_given, completion_of, repository_given}
+use Rattle.eip_route_grammar.specs.Keys.{is_spelled, spelled, dashed}
+use Rattle.eip_route_grammar.specs.Objects.{value_at}
+use Rattle.eip_route_grammar.specs.Texts.{unhashed, last_segment, strategy_of}
+use Rattle.eip_route_grammar.specs.declared.keys.Key.TheVariants as key
+use Rattle.eip_route_validity.specs.Fit.{TemplateFits, PredicateFits, MayPredicateFit, ExprFits}
+use Rattle.eip_route_values.specs.Leaves.{count_of, flag_at, flag_given, members_given}
+use Rattle.eip_route_values.specs.Parts.{template, predicate, template_or_empty, predicate_or_empty, endpoint, uri_or_input, expr_given, expr_in, expr_from, strategy_given, fan_in, delimiter_given, completion_of, repository_given}
 use Rattle.eip_route_print.specs.Canonical.{is_comma, strategy_text}
 use Rattle.eip_route_again.proofs.Objects.{set_value, unset_value, word_value, number_value, strategy_value, group_value, completion_value, delimiter_value, expr_slots}
 use Rattle.eip_route_again.proofs.Slots.{Slot, filled, slot_at, value_filled}

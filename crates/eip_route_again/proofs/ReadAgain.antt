@@ -5,13 +5,13 @@ use Rattle.eip_text.specs.Json.{Json, json_read}
 use Rattle.eip_text.specs.JsonText.{json_text, has_float}
 use Rattle.eip_route.specs.Nest.{NestedSet, flat_set}
 use Rattle.eip_route.specs.declared.route.Names.{Names}
-use Rattle.eip_route_table.specs.Sites.{Site, first_fault}
-use Rattle.eip_route_table.specs.declared.fault.Cause.{Cause}
-use Rattle.eip_route_table.specs.declared.fault.Cause.TheVariants as cause
+use Rattle.eip_route_faults.specs.Sites.{Site, first_fault}
+use Rattle.eip_route_grammar.specs.declared.fault.Cause.{Cause}
+use Rattle.eip_route_grammar.specs.declared.fault.Cause.TheVariants as cause
 use Rattle.eip_route_file.specs.Later.{file_sites}
-use Rattle.eip_route_json.specs.Fit.{SetFits}
+use Rattle.eip_route_validity.specs.Fit.{SetFits}
 use Rattle.eip_route_json.specs.Reading.{whole_file, tree_sites, is_too_long, byte_sites, tree_set, set_of}
-use Rattle.eip_route_json.specs.Sets.{nest}
+use Rattle.eip_route_values.specs.Sets.{nest}
 use Rattle.eip_route_print.specs.Canonical.{list_of, set_items, set_json, canonical_text}
 use Rattle.eip_route_print.proofs.Floats.{floatless}
 use Rattle.eip_route_again.proofs.LineRead.{line_read}

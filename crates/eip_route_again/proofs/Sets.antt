@@ -12,14 +12,14 @@ use Rattle.eip_uri.specs.Ranges.{is_uri}
 use Rattle.eip_route.specs.Valid.{is_policy, is_given_between}
 use Rattle.eip_route.specs.declared.route.Handler.{Handler}
 use Rattle.eip_route.specs.declared.route.Names.{Names}
-use Rattle.eip_route_table.specs.Keys.{is_spelled, spelled, dashed}
-use Rattle.eip_route_table.specs.Sites.{value_at, outcome, plainly}
-use Rattle.eip_route_table.specs.declared.keys.Key.TheVariants as key
-use Rattle.eip_route_json.specs.Fit.{LastFits, LastHasSteps, ClauseFits, DeadFits, HandlerFits, RouteFits, SetFits}
-use Rattle.eip_route_json.specs.Leaves.{texts_of, exceptions_given, small_count_at, count_at, count_of, policy_in, policy_given, policy_at, members_given, text_given, text_at}
-use Rattle.eip_route_json.specs.Nesting.{nest_steps}
-use Rattle.eip_route_json.specs.Parts.{endpoint}
-use Rattle.eip_route_json.specs.Sets.{where_filled, clause_steps, clause_in, clauses_of, default_handler, dead_letter_in, handler_in, routes_of, nest}
+use Rattle.eip_route_grammar.specs.Keys.{is_spelled, spelled, dashed}
+use Rattle.eip_route_grammar.specs.Objects.{value_at, outcome, plainly}
+use Rattle.eip_route_grammar.specs.declared.keys.Key.TheVariants as key
+use Rattle.eip_route_validity.specs.Fit.{LastFits, LastHasSteps, ClauseFits, DeadFits, HandlerFits, RouteFits, SetFits}
+use Rattle.eip_route_values.specs.Leaves.{texts_of, exceptions_given, small_count_at, count_at, count_of, policy_in, policy_given, policy_at, members_given, text_given, text_at}
+use Rattle.eip_route_values.specs.Nesting.{nest_steps}
+use Rattle.eip_route_values.specs.Parts.{endpoint}
+use Rattle.eip_route_values.specs.Sets.{where_filled, clause_steps, clause_in, clauses_of, default_handler, dead_letter_in, handler_in, routes_of, nest}
 use Rattle.eip_route_print.specs.Canonical.{Pairs, object_of, list_of, words, where_any, steps_json, last_json, clause_json, route_json, policy_pairs, default_items, dead_items, handler_items, clauses_json, routes_json, set_items}
 use Rattle.eip_route_print.specs.Canonical as printed_form
 use Rattle.eip_route_again.proofs.Again.{steps_again}

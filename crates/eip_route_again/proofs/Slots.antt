@@ -1,9 +1,9 @@
 -- An object by its slots: the members that it has, and those that it may have.
 use Rattle.std.proofs.Common.{◌≡◌, ℕ, Bool, true, false, ◌||◌, cond, List, [], ◌∷◌, ◌++◌, Option, Some, None, is_some, refl, ap, ◌∙◌}
 use Rattle.eip_text.specs.Json.{Json, Members, no_members, member, members_of}
-use Rattle.eip_route_table.specs.Keys.{is_spelled}
-use Rattle.eip_route_table.specs.Sites.{value_at, has_key, keys_of}
-use Rattle.eip_route_table.specs.declared.keys.Key.{Key}
+use Rattle.eip_route_grammar.specs.Keys.{is_spelled}
+use Rattle.eip_route_grammar.specs.Objects.{value_at, has_key, keys_of}
+use Rattle.eip_route_grammar.specs.declared.keys.Key.{Key}
 use Rattle.eip_route_print.specs.Canonical.{Pairs}
 
 pub data Slot : Type 0 where

@@ -13,14 +13,14 @@ use Rattle.eip_route.specs.Valid.{is_fan, is_kind}
 use Rattle.eip_route.specs.declared.step.Expr.{Expr}
 use Rattle.eip_route.specs.declared.step.Expr.TheVariants as expr
 use Rattle.eip_route.specs.declared.step.Fan.{Fan}
-use Rattle.eip_route_table.specs.Keys.{is_spelled, spelled, dashed}
-use Rattle.eip_route_table.specs.Sites.{value_at}
-use Rattle.eip_route_table.specs.declared.keys.Key.TheVariants as key
-use Rattle.eip_route_json.specs.Fit.{TemplateFits, ExprFits}
-use Rattle.eip_route_json.specs.Kinds.{kind_of}
-use Rattle.eip_route_json.specs.Leaves.{text_given}
-use Rattle.eip_route_json.specs.Nesting.{nest_step}
-use Rattle.eip_route_json.specs.Parts.{template, expr_in, fan_in, delimiter_given}
+use Rattle.eip_route_grammar.specs.Keys.{is_spelled, spelled, dashed}
+use Rattle.eip_route_grammar.specs.Objects.{value_at}
+use Rattle.eip_route_grammar.specs.declared.keys.Key.TheVariants as key
+use Rattle.eip_route_validity.specs.Fit.{TemplateFits, ExprFits}
+use Rattle.eip_route_values.specs.Kinds.{kind_of}
+use Rattle.eip_route_values.specs.Leaves.{text_given}
+use Rattle.eip_route_values.specs.Nesting.{nest_step}
+use Rattle.eip_route_values.specs.Parts.{template, expr_in, fan_in, delimiter_given}
 use Rattle.eip_route_print.specs.Canonical.{Pairs, object_of, alone, set_body_json, named_value_json, log_json, throw_json, text_json, recipients_json}
 use Rattle.eip_route_again.proofs.Objects.{set_value, strategy_value, delimiter_value, expr_puts, named_value_slots, named_value_puts, recipients_slots, recipients_puts}
 use Rattle.eip_route_again.proofs.Parts.{template_again, endpoint_again, unhashed_name, kind_again, fan_again, expr_slot, simple_again, plain_expr_again, delimiter_again}

@@ -18,15 +18,17 @@ use Rattle.eip_uri.proofs.AgainForms.{uri_again}
 use Rattle.eip_route.specs.Goals.{is_among, lane_of}
 use Rattle.eip_route.specs.Valid.{is_filled, is_kind, is_given_among, is_given_between, is_given_name, is_group_strategy}
 use Rattle.eip_route.specs.declared.route.Names.{Names}
-use Rattle.eip_route_table.specs.Sites.{found, word_sites, sites_at, or_later, first_fault}
-use Rattle.eip_route_table.specs.Table.{rule_of}
-use Rattle.eip_route_table.specs.Values.{unless, or_else, unhashed, strategy_of, handed_in, name_cause, registered, served, consumer_cause, producer_cause, read_cause, spelled_cause, whole_cause, flag_cause, word_cause}
-use Rattle.eip_route_table.specs.declared.fault.Cause.{Cause}
-use Rattle.eip_route_table.specs.declared.fault.Cause.TheVariants as cause
-use Rattle.eip_route_table.specs.declared.table.Kind.{Kind}
-use Rattle.eip_route_table.specs.declared.table.Rule.{Rule}
-use Rattle.eip_route_table.specs.declared.table.Rule.TheVariants as rule
-use Rattle.eip_route_json.specs.Fit.{TemplateFits, PredicateFits, Registered, TargetFits, SourceFits}
+use Rattle.eip_route_faults.specs.Sites.{found, word_sites, sites_at, or_later, first_fault}
+use Rattle.eip_route_grammar.specs.Table.{rule_of}
+use Rattle.eip_route_grammar.specs.Causes.{or_else}
+use Rattle.eip_route_grammar.specs.Texts.{unhashed, strategy_of}
+use Rattle.eip_route_faults.specs.Values.{unless, handed_in, name_cause, registered, served, consumer_cause, producer_cause, read_cause, spelled_cause, whole_cause, flag_cause, word_cause}
+use Rattle.eip_route_grammar.specs.declared.fault.Cause.{Cause}
+use Rattle.eip_route_grammar.specs.declared.fault.Cause.TheVariants as cause
+use Rattle.eip_route_grammar.specs.declared.table.Kind.{Kind}
+use Rattle.eip_route_grammar.specs.declared.table.Rule.{Rule}
+use Rattle.eip_route_grammar.specs.declared.table.Rule.TheVariants as rule
+use Rattle.eip_route_validity.specs.Fit.{TemplateFits, PredicateFits, Registered, TargetFits, SourceFits}
 use Rattle.eip_route_print.specs.Canonical.{is_comma, strategy_text}
 use Rattle.eip_route_again.proofs.Fine.{Fine, MayBeFine, none_at_all, none_found, word_fine}
 use Rattle.eip_route_again.proofs.Objects.{set_value, unset_value, word_value, number_value, strategy_value, group_value, delimiter_value, backing_value}

@@ -1,7 +1,7 @@
 ghost use Rattle.std.specs.Prelude.{◌≡◌, ℕ, false, List, None};
 ghost use Rattle.std.specs.Str.{IsUtf8};
 ghost use Rattle.eip_route.specs.declared.route.Names.{Names as NamesGiven};
-ghost use Rattle.eip_route_table.specs.Sites.{first_fault};
+ghost use Rattle.eip_route_faults.specs.Sites.{first_fault};
 ghost use Rattle.eip_route_json.specs.Reading.{byte_sites, is_too_long, set_of};
 ghost use Rattle.eip_route_print.specs.Canonical.{canonical_text};
 

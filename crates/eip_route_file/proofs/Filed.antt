@@ -3,18 +3,20 @@ use Rattle.std.proofs.Common.{ℕ, ◌+◌, ◌≡◌, ◌≤◌, inl, Bool, tru
 use Rattle.eip_text.specs.Causes.{Rises}
 use Rattle.eip_text.specs.Json.{Json, Items, no_items, item, object, members_json}
 use Rattle.eip_text.specs.declared.tree.Tree.{Tree}
-use Rattle.eip_route_table.specs.declared.known.Entry.{Entry}
+use Rattle.eip_route_grammar.specs.declared.known.Entry.{Entry}
 use Rattle.eip_route.specs.declared.route.Names.{Names}
-use Rattle.eip_route_table.specs.Values.{or_else}
-use Rattle.eip_route_table.specs.Sites.{found, under, when, items_sites, at_once, placed, first_fault, cause_failures, found_failures, Walks, Starves}
-use Rattle.eip_route_table.specs.declared.fault.Cause.{Cause}
-use Rattle.eip_route_table.specs.declared.fault.Cause.TheVariants as cause
-use Rattle.eip_route_table.specs.declared.fault.RouteFault.{RouteFault}
-use Rattle.eip_route_table.specs.declared.table.Kind.TheVariants as kind
-use Rattle.eip_route_table.proofs.Quiet.{Quiet, AreQuiet, quiet_found, quiet_append, quiet_under, quiet_items, walk_rises}
-use Rattle.eip_route_table.proofs.Sited.{at_c, found_at, answered}
-use Rattle.eip_route_table.proofs.Walking.{walk_nothing, walk_found, walk_own, walk_behind, walk_before, walk_under, starves_before, starves_under}
-use Rattle.eip_route_table.proofs.Starved.{starves_at}
+use Rattle.eip_route_grammar.specs.Causes.{or_else}
+use Rattle.eip_route_grammar.specs.Objects.{when}
+use Rattle.eip_route_grammar.specs.Paths.{at_once, placed}
+use Rattle.eip_route_faults.specs.Sites.{found, under, items_sites, first_fault, cause_failures, found_failures, Walks, Starves}
+use Rattle.eip_route_grammar.specs.declared.fault.Cause.{Cause}
+use Rattle.eip_route_grammar.specs.declared.fault.Cause.TheVariants as cause
+use Rattle.eip_route_grammar.specs.declared.fault.RouteFault.{RouteFault}
+use Rattle.eip_route_grammar.specs.declared.table.Kind.TheVariants as kind
+use Rattle.eip_route_faults.proofs.Quiet.{Quiet, AreQuiet, quiet_found, quiet_append, quiet_under, quiet_items, walk_rises}
+use Rattle.eip_route_faults.proofs.Sited.{at_c, found_at, answered}
+use Rattle.eip_route_faults.proofs.Walking.{walk_nothing, walk_found, walk_own, walk_behind, walk_before, walk_under, starves_before, starves_under}
+use Rattle.eip_route_faults.proofs.Starved.{starves_at}
 use Rattle.eip_route_file.specs.Later.{sole_key, is_handler, too_many, second_handler, heads, head_at, head_fault, is_id_taken, is_from_taken, second_route, later_fault, as_sites, items_in, list_file, items_file, whole_file, whole_sites, file_sites}
 use Rattle.eip_route_file.specs.declared.head.Head.{Head}
 

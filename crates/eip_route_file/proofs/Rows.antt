@@ -2,7 +2,7 @@
 use Rattle.std.proofs.Common.{◌≡◌, ℕ, List, [], ◌∷◌, Option, None, Some, refl}
 use Rattle.std.specs.Fmt.{digits}
 use Rattle.std.specs.Prelude.{codes, pos}
-use Rattle.eip_text.specs.Json.{Json, null, whole, word, list, object, Items, no_items, item, Members, no_members, member}
+use Rattle.eip_text.specs.Json.{Json, null, whole, word, list, object, no_items, item, no_members, member}
 use Rattle.eip_text.specs.Counts.{count_of}
 use Rattle.eip_text.specs.Names.{is_name}
 use Rattle.eip_uri.specs.Options.{has, values_of}
@@ -11,12 +11,12 @@ use Rattle.eip_simple_read.specs.Reading.{named, function_behind, template, quot
 use Rattle.eip_simple_read.specs.Reading as reading
 use Rattle.eip_simple_read.specs.Meaning.{template_of, predicate_of}
 use Rattle.eip_route.specs.declared.route.Names.{Names}
-use Rattle.eip_route_table.specs.Keys.{spelled, dashed, is_spelled}
-use Rattle.eip_route_table.specs.Table.{rows, rule_of, list_of, shape_of}
-use Rattle.eip_route_table.specs.Sites.{sites_at, first_fault}
-use Rattle.eip_route_table.specs.declared.fault.Cause.{Cause}
-use Rattle.eip_route_table.specs.declared.fault.Cause.TheVariants as cause
-use Rattle.eip_route_table.specs.declared.fault.RouteFault.{RouteFault}
+use Rattle.eip_route_grammar.specs.Keys.{spelled, dashed, is_spelled}
+use Rattle.eip_route_grammar.specs.Table.{rows, rule_of, list_of, shape_of}
+use Rattle.eip_route_faults.specs.Sites.{sites_at, first_fault}
+use Rattle.eip_route_grammar.specs.declared.fault.Cause.{Cause}
+use Rattle.eip_route_grammar.specs.declared.fault.Cause.TheVariants as cause
+use Rattle.eip_route_grammar.specs.declared.fault.RouteFault.{RouteFault}
 use Rattle.eip_route_file.specs.Later.{file_sites, file_fault}
 
 -- ---- trees

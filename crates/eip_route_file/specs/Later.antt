@@ -1,5 +1,5 @@
 -- What is wrong with a whole route file: its form, how many routes there are, and what stands twice in it.
-use Rattle.std.specs.Prelude.{ℕ, ◌+◌, ◌-◌, Bool, true, false, ◌||◌, nat_eq, List, [], ◌∷◌, ◌++◌, codes, decimal, bytes_eq, Option, Some, None, Result, Ok, Err, if◌then◌else◌}
+use Rattle.std.specs.Prelude.{ℕ, ◌+◌, ◌-◌, Bool, true, false, ◌||◌, nat_eq, List, [], ◌∷◌, ◌++◌, codes, bytes_eq, Option, Some, None, Result, Ok, Err, if◌then◌else◌}
 use Rattle.std.specs.List.{list_any}
 use Rattle.eip_text.specs.Json.{Json, word, list, object, Items, no_items, item, Members, no_members, member}
 use Rattle.eip_uri.specs.declared.uri.Uri.{Uri}
@@ -7,16 +7,19 @@ use Rattle.eip_uri.specs.declared.fault.UriFault.{UriFault}
 use Rattle.eip_uri.specs.Reading.{read}
 use Rattle.eip_route.specs.declared.route.Names.{Names}
 use Rattle.eip_route.specs.Faults.{same_consumer}
-use Rattle.eip_route_table.specs.Keys.{is_spelled}
-use Rattle.eip_route_table.specs.Values.{or_else}
-use Rattle.eip_route_table.specs.Sites.{Site, wrong, found, under, key_step, index_step, value_at, parameters_of, when, items_sites, first_fault}
-use Rattle.eip_route_table.specs.declared.fault.Cause.{Cause}
-use Rattle.eip_route_table.specs.declared.fault.Cause.TheVariants as cause
-use Rattle.eip_route_table.specs.declared.fault.RouteFault.{RouteFault}
+use Rattle.eip_route_grammar.specs.Keys.{is_spelled}
+use Rattle.eip_route_grammar.specs.Texts.{own_id}
+use Rattle.eip_route_grammar.specs.Causes.{or_else}
+use Rattle.eip_route_grammar.specs.Objects.{value_at, parameters_of, when}
+use Rattle.eip_route_grammar.specs.Paths.{index_step}
+use Rattle.eip_route_faults.specs.Sites.{Site, wrong, found, under, items_sites, first_fault}
+use Rattle.eip_route_grammar.specs.declared.fault.Cause.{Cause}
+use Rattle.eip_route_grammar.specs.declared.fault.Cause.TheVariants as cause
+use Rattle.eip_route_grammar.specs.declared.fault.RouteFault.{RouteFault}
 use Rattle.eip_route_file.specs.declared.head.Head.{Head}
-use Rattle.eip_route_table.specs.declared.keys.Key.{Key}
-use Rattle.eip_route_table.specs.declared.keys.Key.TheVariants as key
-use Rattle.eip_route_table.specs.declared.table.Kind.TheVariants as kind
+use Rattle.eip_route_grammar.specs.declared.keys.Key.{Key}
+use Rattle.eip_route_grammar.specs.declared.keys.Key.TheVariants as key
+use Rattle.eip_route_grammar.specs.declared.table.Kind.TheVariants as kind
 
 -- ---- items
 
@@ -69,10 +72,6 @@ uri_in ms = uri_at (value_at key.Uri ms) (parameters_of ms)
 abbrev pub members_in : Option Json → Members
 members_in (Some (object ms)) = ms
 members_in _ = no_members
-
--- the id of a route that names none: its position among the routes, from 1
-abbrev pub own_id : ℕ → List ℕ
-own_id position = codes "route" ++ decimal position
 
 abbrev pub id_at : ℕ → Option Json → List ℕ
 id_at position (Some (word w)) = w

@@ -3,14 +3,15 @@
 ghost use Rattle.std.specs.Prelude.{◌≡◌, IfOk, option_map};
 ghost use Rattle.eip_text.specs.Causes.{Rises};
 ghost use Rattle.eip_text.specs.Json.{json, items_json};
-ghost use Rattle.eip_route_table.specs.Sites.{Walked, found_failures, when};
+ghost use Rattle.eip_route_grammar.specs.Objects.{when};
+ghost use Rattle.eip_route_faults.specs.Sites.{Walked, found_failures};
 ghost use Rattle.eip_route_file.specs.Later as spec;
 
 use crate::later::{has_more_routes, later_fault};
 use eip_route::Names;
-use eip_route_table::table::Kind;
-use eip_route_table::walk::find_in_items;
-use eip_route_table::{Cause, Known, RouteFault};
+use eip_route_faults::walk::find_in_items;
+use eip_route_grammar::table::Kind;
+use eip_route_grammar::{Cause, Known, RouteFault};
 use eip_simple_read::Patterns;
 use eip_text::{NoMemory, Tree};
 use std::alloc::Global;

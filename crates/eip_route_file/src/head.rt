@@ -3,13 +3,14 @@
 ghost use Rattle.std.specs.Prelude.{◌≡◌, IfOk, Some, option_map};
 ghost use Rattle.eip_text.specs.Json.{json, object, items_json, members_json};
 ghost use Rattle.eip_uri.specs.Reading.{read};
-ghost use Rattle.eip_route_table.specs.Sites as sites;
+ghost use Rattle.eip_route_grammar.specs.Objects as objects;
 ghost use Rattle.eip_route_file.specs.Later as spec;
 
-use eip_route_table::keys::Key;
-use eip_route_table::objects::{parameters_of, value_at};
-use eip_route_table::values::uri_cause;
-use eip_text::{NoMemory, Text, Tree, decimal};
+use eip_route_faults::values::uri_cause;
+use eip_route_grammar::keys::Key;
+use eip_route_grammar::objects::{parameters_of, value_at};
+use eip_route_grammar::texts::own_id;
+use eip_text::{NoMemory, Text, Tree};
 use eip_uri::Uri;
 use std::alloc::Global;
 
@@ -75,15 +76,6 @@ fn members_in(tree: &Tree) -> &[(Text, Tree)]
     }
 }
 
-/// The id of a route that names none, by its position among the routes, from 1.
-pub fn own_id(alloc: Global, position: u64) -> Result<Text, NoMemory>
-    ensures { IfOk result (λ t. t ≡ spec.own_id position) }
-{
-    let mut id = String::from_str(alloc, "route")?;
-    id.push_str(decimal(alloc, position)?.as_str())?;
-    Ok(Text::of(id))
-}
-
 fn id_of(alloc: Global, position: u64, tree: &Tree) -> Result<Text, NoMemory>
     ensures { IfOk result (λ t. t ≡ spec.id_at position (Some (json tree.now))) }
 {
@@ -99,7 +91,7 @@ fn id_of(alloc: Global, position: u64, tree: &Tree) -> Result<Text, NoMemory>
 }
 
 fn id_in(alloc: Global, position: u64, members: &[(Text, Tree)]) -> Result<Text, NoMemory>
-    ensures { IfOk result (λ t. t ≡ spec.id_at position (sites.value_at Key.Id (members_json members.now))) }
+    ensures { IfOk result (λ t. t ≡ spec.id_at position (objects.value_at Key.Id (members_json members.now))) }
 {
     match value_at(Key::Id, members) {
         None => own_id(alloc, position),
@@ -109,7 +101,7 @@ fn id_in(alloc: Global, position: u64, members: &[(Text, Tree)]) -> Result<Text,
 
 fn from_in(alloc: Global, members: &[(Text, Tree)]) -> Result<Option<Uri>, NoMemory>
     ensures { IfOk result (λ u. u
-        ≡ spec.uri_in (spec.members_in (sites.value_at Key.From (members_json members.now)))) }
+        ≡ spec.uri_in (spec.members_in (objects.value_at Key.From (members_json members.now)))) }
 {
     match value_at(Key::From, members) {
         None => Ok(None),

@@ -2,13 +2,13 @@
 
 ghost use Rattle.std.specs.Prelude.{◌≡◌, ◌++◌, [], false, IfOk, option_map};
 ghost use Rattle.eip_text.specs.Json.{json, object, items_json, members_json};
-ghost use Rattle.eip_route_table.specs.Sites as sites;
+ghost use Rattle.eip_route_grammar.specs.Paths as paths;
 ghost use Rattle.eip_route_file.specs.Later as spec;
 
 use crate::head::{Head, heads_of};
 use eip_route::fault::is_same_consumer;
-use eip_route_table::keys::Key;
-use eip_route_table::{Cause, RouteFault};
+use eip_route_grammar::keys::Key;
+use eip_route_grammar::{Cause, RouteFault};
 use eip_text::{NoMemory, Text, Tree};
 use eip_uri::Uri;
 use std::alloc::Global;
@@ -72,7 +72,7 @@ pub fn has_more_routes(most: u32, items: &[Tree]) -> bool
 
 /// The fault `cause` at the item of this index, or below it.
 fn at_step(alloc: Global, index: usize, below: &str, cause: Cause) -> Result<RouteFault, NoMemory>
-    ensures { IfOk result (λ f. f ≡ spec.at_step (sites.index_step index ++ below.now) cause) }
+    ensures { IfOk result (λ f. f ≡ spec.at_step (paths.index_step index ++ below.now) cause) }
 {
     let fault = RouteFault {
         path: Text::of_str(alloc, below)?,

@@ -6,7 +6,3 @@ pub mod head;
 pub mod later;
 
 pub use file::find_fault;
-pub use head::own_id;
-
-#[cfg(test)]
-mod tests;

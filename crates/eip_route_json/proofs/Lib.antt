@@ -1,15 +1,3 @@
-pub mod Appended
 pub mod Filled
-pub mod filed
 pub mod Walked
-pub mod fitting
-pub mod GoodParts
-pub mod GoodSteps
-pub mod NumbersInOrder
-pub mod NothingFound
-pub mod PlacedOnce
-pub mod NumbersInRange
-pub mod NotTooDeep
-pub mod ConsumersApart
-pub mod ValidSets
 pub mod Validity

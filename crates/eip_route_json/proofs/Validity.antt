@@ -4,13 +4,13 @@ use Rattle.std.specs.Prelude.{if◌then◌else◌}
 use Rattle.eip_text.specs.Json.{Json, json_read}
 use Rattle.eip_route.specs.Valid.{IsValid}
 use Rattle.eip_route.specs.declared.route.Names.{Names}
-use Rattle.eip_route_table.specs.Sites.{first_fault}
-use Rattle.eip_route_table.specs.declared.fault.Cause.{Cause}
-use Rattle.eip_route_table.specs.declared.fault.Cause.TheVariants as cause
+use Rattle.eip_route_faults.specs.Sites.{first_fault}
+use Rattle.eip_route_grammar.specs.declared.fault.Cause.{Cause}
+use Rattle.eip_route_grammar.specs.declared.fault.Cause.TheVariants as cause
 use Rattle.eip_route_json.specs.Reading.{whole_file, tree_sites, tree_set, is_too_long, byte_sites, set_of}
-use Rattle.eip_route_json.specs.Sets.{nest}
-use Rattle.eip_route_json.proofs.filed.Whole.{file_fits}
-use Rattle.eip_route_json.proofs.ValidSets.{fits_valid}
+use Rattle.eip_route_values.specs.Sets.{nest}
+use Rattle.eip_route_validity.proofs.filed.Whole.{file_fits}
+use Rattle.eip_route_validity.proofs.ValidSets.{fits_valid}
 
 is_wrong : (c : Cause) → first_fault (whole_file c) ≡ None → ⊥
 unfolding first_fault

@@ -4,11 +4,11 @@ use Rattle.eip_text.specs.Json.{json_read}
 use Rattle.eip_route.specs.Valid.{IsValid}
 use Rattle.eip_route.specs.declared.route.Names.{Names}
 use Rattle.eip_route.specs.declared.route.RouteSet.{RouteSet}
-use Rattle.eip_route_table.specs.Sites.{Site, first_fault, Walks, Starves}
-use Rattle.eip_route_table.specs.declared.fault.Cause.{Cause}
-use Rattle.eip_route_table.specs.declared.fault.Cause.TheVariants as cause
-use Rattle.eip_route_table.specs.declared.fault.RouteFault.{RouteFault}
-use Rattle.eip_route_table.specs.declared.known.Entry.{Entry}
+use Rattle.eip_route_faults.specs.Sites.{Site, first_fault, Walks, Starves}
+use Rattle.eip_route_grammar.specs.declared.fault.Cause.{Cause}
+use Rattle.eip_route_grammar.specs.declared.fault.Cause.TheVariants as cause
+use Rattle.eip_route_grammar.specs.declared.fault.RouteFault.{RouteFault}
+use Rattle.eip_route_grammar.specs.declared.known.Entry.{Entry}
 use Rattle.eip_route_json.specs.declared.read.RouteRefusal.{RouteRefusal}
 use Rattle.eip_route_json.specs.declared.read.RouteRefusal.TheVariants as refusal
 use Rattle.eip_route_json.specs.Reading.{whole_file, tree_sites, is_too_long, byte_sites, set_of, Finds, ReadsAt, Refuses}

@@ -1,8 +1,1 @@
-pub mod Leaves
-pub mod Parts
-pub mod Kinds
-pub mod Nesting
-pub mod Sets
-pub mod Built
 pub mod Reading
-pub mod Fit

@@ -6,12 +6,12 @@ use Rattle.eip_route.specs.Nest.{flat_set}
 use Rattle.eip_route.specs.Valid.{IsValid}
 use Rattle.eip_route.specs.declared.route.Names.{Names}
 use Rattle.eip_route.specs.declared.route.RouteSet.{RouteSet}
-use Rattle.eip_route_table.specs.Sites.{Site, wrong, first_fault, Stops, cause_failures, Starves}
-use Rattle.eip_route_table.specs.declared.fault.Cause.{Cause}
-use Rattle.eip_route_table.specs.declared.fault.Cause.TheVariants as cause
-use Rattle.eip_route_table.specs.declared.fault.RouteFault.{RouteFault}
+use Rattle.eip_route_faults.specs.Sites.{Site, wrong, first_fault, Stops, cause_failures, Starves}
+use Rattle.eip_route_grammar.specs.declared.fault.Cause.{Cause}
+use Rattle.eip_route_grammar.specs.declared.fault.Cause.TheVariants as cause
+use Rattle.eip_route_grammar.specs.declared.fault.RouteFault.{RouteFault}
 use Rattle.eip_route_file.specs.Later.{file_sites}
-use Rattle.eip_route_json.specs.Sets.{nest}
+use Rattle.eip_route_values.specs.Sets.{nest}
 use Rattle.eip_route_json.specs.declared.read.RouteRefusal.{RouteRefusal}
 use Rattle.eip_route_json.specs.declared.read.RouteRefusal.TheVariants as refusal
 

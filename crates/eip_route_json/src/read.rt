@@ -2,14 +2,14 @@ ghost use Rattle.std.specs.Prelude.{◌≡◌, IfOk};
 ghost use Rattle.eip_text.specs.Json.{json};
 ghost use Rattle.eip_route.specs.Nest.{flat_set};
 ghost use Rattle.eip_route_file.specs.Later.{file_sites};
-ghost use Rattle.eip_route_json.specs.Sets.{nest};
+ghost use Rattle.eip_route_values.specs.Sets.{nest};
 ghost use Rattle.eip_route_json.specs.Reading.{ReadsAt, Refuses, byte_sites, is_too_long, set_of};
 
 use crate::sets::build_routes;
 use eip_route::{Names, RouteSet};
 use eip_route_file::find_fault;
-use eip_route_table::known::Known;
-use eip_route_table::{Cause, RouteFault};
+use eip_route_grammar::known::Known;
+use eip_route_grammar::{Cause, RouteFault};
 use eip_simple_read::Patterns;
 use eip_text::{JsonFault, NoMemory, Series, Text, Tree, read_json};
 use std::alloc::Global;

@@ -3,24 +3,26 @@
 ghost use Rattle.std.specs.Prelude.{◌≡◌, ◌+◌, [], IfOk};
 ghost use Rattle.eip_text.specs.Json.{json, items_json, members_json};
 ghost use Rattle.eip_route.specs.Nest as nest;
-ghost use Rattle.eip_route_table.specs.Sites as sites;
-ghost use Rattle.eip_route_json.specs.Built.{AreClauses, AreRoutes, IsRoute, MayBeRoute};
-ghost use Rattle.eip_route_json.specs.Leaves as leaves;
-ghost use Rattle.eip_route_json.specs.Nesting.{nest_list, nest_steps};
-ghost use Rattle.eip_route_json.specs.Sets as spec;
+ghost use Rattle.eip_route_grammar.specs.Objects as objects;
+ghost use Rattle.eip_route_values.specs.Built.{AreClauses, AreRoutes, IsRoute, MayBeRoute};
+ghost use Rattle.eip_route_values.specs.Leaves as leaves;
+ghost use Rattle.eip_route_values.specs.Nesting.{nest_list, nest_steps};
+ghost use Rattle.eip_route_values.specs.Sets as spec;
 
-use crate::build::build_list;
-use crate::built::{BuiltClauses, BuiltRoute, BuiltRoutes, after, empty_block, number, number_at};
-use crate::leaves::{
-    exceptions_at, members_at, members_in, no_policy, outcome_at, policy_at, text_at, text_of,
-};
-use crate::parts::{endpoint, endpoint_in};
 use eip_exchange::Clause;
 use eip_route::{Block, Handler, Names, Route, RouteSet};
-use eip_route_file::own_id;
-use eip_route_table::keys::Key;
-use eip_route_table::known::Known;
-use eip_route_table::objects::value_at;
+use eip_route_blocks::build::build_list;
+use eip_route_grammar::keys::Key;
+use eip_route_grammar::known::Known;
+use eip_route_grammar::objects::value_at;
+use eip_route_grammar::texts::own_id;
+use eip_route_values::built::{
+    BuiltClauses, BuiltRoute, BuiltRoutes, after, empty_block, number, number_at,
+};
+use eip_route_values::leaves::{
+    exceptions_at, members_at, members_in, no_policy, outcome_at, policy_at, text_at, text_of,
+};
+use eip_route_values::parts::{endpoint, endpoint_in};
 use eip_text::{NoMemory, Series, Text, Tree};
 use eip_uri::Uri;
 use std::alloc::Global;
@@ -65,7 +67,7 @@ fn build_clause_steps(
     known: &mut Known,
     members: &[(Text, Tree)],
 ) -> Result<Vec<Block>, NoMemory>
-    ensures { let steps = spec.clause_steps (sites.value_at Key.Steps (members_json members.now)) in
+    ensures { let steps = spec.clause_steps (objects.value_at Key.Steps (members_json members.now)) in
         IfOk result (λ bs. bs.items ≡ nest.flat_last n steps) }
 {
     match value_at(Key::Steps, members) {
@@ -164,7 +166,7 @@ fn handler_in(alloc: Global, items: &[Tree]) -> Result<Handler, NoMemory>
 
 fn id_in(alloc: Global, position: usize, members: &[(Text, Tree)]) -> Result<Text, NoMemory>
     ensures { IfOk result (λ t. t
-        ≡ spec.id_given position (sites.value_at Key.Id (members_json members.now))) }
+        ≡ spec.id_given position (objects.value_at Key.Id (members_json members.now))) }
 {
     match value_at(Key::Id, members) {
         None => own_id(alloc, position as u64),
@@ -189,7 +191,7 @@ fn build_from_steps(
     known: &mut Known,
     members: &[(Text, Tree)],
 ) -> Result<Vec<Block>, NoMemory>
-    ensures { let steps = spec.steps_given (sites.value_at Key.Steps (members_json members.now)) in
+    ensures { let steps = spec.steps_given (objects.value_at Key.Steps (members_json members.now)) in
         IfOk result (λ bs. bs.items ≡ nest.flat_block n steps) }
 {
     match value_at(Key::Steps, members) {
@@ -222,7 +224,7 @@ fn build_route_steps(
 ) -> Result<Vec<Block>, NoMemory>
     ensures { let ms = members_json members.now in
         let inner = spec.inner_steps (leaves.members_at Key.From ms) in
-        let steps = spec.steps_or (sites.value_at Key.Steps ms) inner in
+        let steps = spec.steps_or (objects.value_at Key.Steps ms) inner in
         IfOk result (λ bs. bs.items ≡ nest.flat_block n steps) }
 {
     match value_at(Key::Steps, members) {

@@ -6,11 +6,7 @@ mod nested;
 mod object;
 mod parts;
 mod print;
-#[cfg(test)]
-mod set_tests;
 mod steps;
-#[cfg(test)]
-mod tests;
 
 pub use laws::numbering_law;
 pub use print::print_routes;

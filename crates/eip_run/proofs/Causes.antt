@@ -9,12 +9,12 @@ use Rattle.eip_text.specs.Causes.{Rose, Rises}
 use Rattle.eip_uri.specs.Inlets.{inlet_of}
 use Rattle.eip_route.specs.declared.route.Route.{Route}
 use Rattle.eip_route.specs.declared.route.RouteSet.{RouteSet}
-use Rattle.eip_route_table.specs.Sites.{Site, Stops, cause_failures}
+use Rattle.eip_route_faults.specs.Sites.{Site, Stops, cause_failures}
 use Rattle.eip_route_json.specs.Reading.{Finds}
-use Rattle.eip_route_table.specs.Sites as sites_are
-use Rattle.eip_route_table.specs.declared.fault.Cause.{Cause}
-use Rattle.eip_route_table.specs.declared.fault.Cause.TheVariants as cause_is
-use Rattle.eip_route_table.specs.declared.fault.RouteFault.{RouteFault}
+use Rattle.eip_route_faults.specs.Sites as sites_are
+use Rattle.eip_route_grammar.specs.declared.fault.Cause.{Cause}
+use Rattle.eip_route_grammar.specs.declared.fault.Cause.TheVariants as cause_is
+use Rattle.eip_route_grammar.specs.declared.fault.RouteFault.{RouteFault}
 use Rattle.eip_command.specs.Words.{command_of, path_in}
 use Rattle.eip_command.specs.declared.words.Path.{Path}
 use Rattle.eip_command.specs.declared.words.Command.{Command}
@@ -43,7 +43,7 @@ use Rattle.eip_plan.specs.Plan.{plan_of}
 use Rattle.eip_plan.specs.Simple.{AsksSimply}
 use Rattle.eip_plan.proofs.Items.{no-groups}
 use Rattle.eip_plan.proofs.Laws.{plan-simple}
-use Rattle.eip_books.proofs.StopCalls.{position-some}
+use Rattle.eip_table_laws.proofs.StopCalls.{position-some}
 use Rattle.eip_core.specs.Doors.{Doors, doors_of, inlet_named, inlet_at, lane_names, inlet_names}
 use Rattle.eip_core.specs.Outside.{acts_by, inlet_acts_in, inlet_acts}
 use Rattle.eip_run.specs.declared.report.Outcome.{Outcome}

@@ -6,9 +6,9 @@ use Rattle.eip_route.specs.Built.{is_built}
 use Rattle.eip_route.specs.Valid.{IsValid}
 use Rattle.eip_route.specs.declared.route.Names.{Names}
 use Rattle.eip_route.specs.declared.route.RouteSet.{RouteSet}
-use Rattle.eip_route_table.specs.Sites.{first_fault, Starves}
-use Rattle.eip_route_table.specs.declared.fault.Cause.TheVariants as cause
-use Rattle.eip_route_table.specs.declared.fault.RouteFault.{RouteFault}
+use Rattle.eip_route_faults.specs.Sites.{first_fault, Starves}
+use Rattle.eip_route_grammar.specs.declared.fault.Cause.TheVariants as cause
+use Rattle.eip_route_grammar.specs.declared.fault.RouteFault.{RouteFault}
 use Rattle.eip_route_json.specs.Reading.{set_of, tree_set, Finds}
 use Rattle.eip_route_json.proofs.Validity.{read_valid}
 use Rattle.eip_endpoint.specs.declared.files.FileRead.{FileRead}

@@ -1,12 +1,12 @@
 -- Faults of a list of places, by its front and what stands behind.
 use Rattle.std.proofs.Common.{◌≡◌, ◌⊎◌, ℕ, Bool, true, false, List, [], ◌∷◌, ◌++◌, Option, Some, None, Result, Ok, Err, refl, sym, ap, subst, ◌∙◌, inl, inr, codes}
 use Rattle.eip_route.specs.declared.route.RouteSet.{RouteSet}
-use Rattle.eip_route_table.specs.Sites.{Site, cause_at, or_later, first_fault, Stops}
-use Rattle.eip_route_table.proofs.Walking.{starves_before}
+use Rattle.eip_route_faults.specs.Sites.{Site, cause_at, or_later, first_fault, Stops}
+use Rattle.eip_route_faults.proofs.Walking.{starves_before}
 use Rattle.eip_route_json.specs.Reading.{Finds}
-use Rattle.eip_route_table.specs.declared.fault.Cause.{Cause}
-use Rattle.eip_route_table.specs.declared.fault.Cause.TheVariants as cause
-use Rattle.eip_route_table.specs.declared.fault.RouteFault.{RouteFault}
+use Rattle.eip_route_grammar.specs.declared.fault.Cause.{Cause}
+use Rattle.eip_route_grammar.specs.declared.fault.Cause.TheVariants as cause
+use Rattle.eip_route_grammar.specs.declared.fault.RouteFault.{RouteFault}
 use Rattle.eip_run.specs.declared.prepare.Refusal.{Refusal}
 use Rattle.eip_run.specs.declared.prepare.Refusal.TheVariants as refusal
 use Rattle.eip_route.specs.declared.route.Names.{Names}

@@ -2,7 +2,7 @@
 use Rattle.std.specs.Prelude.{ℕ, ◌≢◌, List, Option, codes}
 use Rattle.eip_route.specs.declared.route.RouteSet.{RouteSet}
 use Rattle.eip_command.specs.Causes.{fault_line}
-use Rattle.eip_route_table.specs.declared.fault.RouteFault.{RouteFault}
+use Rattle.eip_route_grammar.specs.declared.fault.RouteFault.{RouteFault}
 use Rattle.eip_route_print.specs.Canonical.{canonical_text}
 use Rattle.eip_ledger.specs.declared.place.Stop.{Stop}
 use Rattle.eip_ledger.specs.declared.place.Stop.TheVariants as stop

@@ -2,9 +2,9 @@
 use Rattle.std.specs.Prelude.{ℕ, ◌≡◌, ◌≢◌, ◌++◌, ◌⊎◌, List, [], codes, Option, Some, None, Result, IsErrOf}
 use Rattle.eip_text.specs.Causes.{Rises}
 use Rattle.eip_route.specs.declared.route.RouteSet.{RouteSet}
-use Rattle.eip_route_table.specs.Sites.{Site, first_fault, Stops, cause_failures}
+use Rattle.eip_route_faults.specs.Sites.{Site, first_fault, Stops, cause_failures}
 use Rattle.eip_route_json.specs.Reading.{Finds}
-use Rattle.eip_route_table.specs.declared.fault.RouteFault.{RouteFault}
+use Rattle.eip_route_grammar.specs.declared.fault.RouteFault.{RouteFault}
 use Rattle.eip_route_print.specs.Canonical.{canonical_text}
 use Rattle.eip_command.specs.Words.{command_of, path_in}
 use Rattle.eip_command.specs.Causes.{fault_line}

@@ -3,9 +3,9 @@ use Rattle.std.specs.Prelude.{ℕ, Bool, true, false, List, [], ◌∷◌, ◌++
 use Rattle.eip_route.specs.Built.{is_built}
 use Rattle.eip_route.specs.declared.route.Names.{Names}
 use Rattle.eip_route.specs.declared.route.RouteSet.{RouteSet}
-use Rattle.eip_route_table.specs.Sites.{Site, wrong}
-use Rattle.eip_route_table.specs.declared.fault.Cause.{Cause}
-use Rattle.eip_route_table.specs.declared.fault.Cause.TheVariants as cause
+use Rattle.eip_route_faults.specs.Sites.{Site, wrong}
+use Rattle.eip_route_grammar.specs.declared.fault.Cause.{Cause}
+use Rattle.eip_route_grammar.specs.declared.fault.Cause.TheVariants as cause
 use Rattle.eip_route_json.specs.Reading.{byte_sites, set_of}
 use Rattle.eip_command.specs.declared.words.Command.{Command}
 use Rattle.eip_command.specs.declared.words.Command.TheVariants.{Drain, Check}

@@ -7,6 +7,3 @@ pub mod report;
 pub mod run;
 
 pub use report::{Outcome, Report};
-
-#[cfg(test)]
-mod tests;

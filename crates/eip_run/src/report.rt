@@ -2,7 +2,7 @@ ghost use Rattle.std.specs.Prelude.{◌≡◌};
 ghost use Rattle.eip_run.specs.Outcomes.{stop_status, status_of, unwritten};
 
 use eip_ledger::{Journal, Stop};
-use eip_route_table::RouteFault;
+use eip_route_grammar::RouteFault;
 
 /// What a command came to.
 #[derive(Drop)]

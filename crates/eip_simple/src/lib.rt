@@ -7,8 +7,6 @@ mod orders;
 pub mod predicates;
 mod sides;
 mod templates;
-#[cfg(test)]
-mod tests;
 pub mod values;
 pub mod view;
 

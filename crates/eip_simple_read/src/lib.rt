@@ -11,8 +11,6 @@ pub mod predicates;
 pub mod printing;
 mod sides;
 pub mod templates;
-#[cfg(test)]
-mod tests;
 pub mod tree;
 
 pub use fault::SimpleFault;

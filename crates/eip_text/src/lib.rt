@@ -25,6 +25,3 @@ pub use series::Series;
 pub use split::split_by;
 pub use text::{Text, TextFault};
 pub use tree::Tree;
-
-#[cfg(test)]
-mod tests;

@@ -7,8 +7,6 @@ mod options;
 mod print;
 mod read;
 mod scheme;
-#[cfg(test)]
-mod tests;
 pub mod uri;
 
 pub use fault::UriFault;

@@ -1,6 +1,6 @@
 use Rattle.std.proofs.Common.{◌∙◌, ap, refl, sym, add-one}
 use Rattle.eip_meaning.specs.Meaning.{finished}
-use Rattle.eip_cursor.proofs.Trying.{run-goes, run-faults, run-asks, asks-first}
+use Rattle.eip_steps.proofs.Trying.{run-goes, run-faults, run-asks, asks-first}
 use Rattle.eip_cursor.proofs.run.run.Goals as goal
 
 pub returns-in-Faults-clause-rest : goal.returns-in-Faults-clause-rest

@@ -1,7 +1,7 @@
 use Rattle.std.proofs.Common.{◌∙◌, ap, refl, sym, add-one}
 use Rattle.std.proofs.lemmas.Option.{slice_get_read}
 use Rattle.eip_meaning.specs.Meaning.{finished}
-use Rattle.eip_cursor.proofs.Trying.{answered-goes}
+use Rattle.eip_steps.proofs.Trying.{answered-goes}
 use Rattle.eip_cursor.proofs.run.step_answered.Goals as goal
 
 pub returns-in_ok-reached-in-None-clause-rest : goal.returns-in_ok-reached-in-None-clause-rest

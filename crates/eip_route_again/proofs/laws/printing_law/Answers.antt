@@ -1,4 +1,4 @@
-use Rattle.eip_route_json.proofs.filed.Whole.{file_fits}
+use Rattle.eip_route_validity.proofs.filed.Whole.{file_fits}
 use Rattle.eip_route_again.proofs.Faultless.{faultless_again}
 use Rattle.eip_route_again.proofs.ReadAgain.{read_again}
 use Rattle.eip_route_again.proofs.Sets.{nested_again}

@@ -1,7 +1,7 @@
 use Rattle.std.proofs.Common.{None, Some}
 use Rattle.eip_text.specs.Json.{json}
 use Rattle.eip_route_file.proofs.Filed.{file_walks, file_wrong, file_rises, file_starves}
-use Rattle.eip_route_table.proofs.Walking.{starves_walked, walk_ended}
+use Rattle.eip_route_faults.proofs.Walking.{starves_walked, walk_ended}
 use Rattle.eip_route_file.proofs.file.find_fault.Goals as goal
 
 pub returns-in-None : goal.returns-in-None

@@ -1,6 +1,6 @@
 use Rattle.eip_text.specs.Json.{items_json}
 use Rattle.eip_route_file.proofs.Filed.{file_many, file_list, items_starve}
-use Rattle.eip_route_table.proofs.Walking.{walk_ended}
+use Rattle.eip_route_faults.proofs.Walking.{walk_ended}
 use Rattle.eip_route_file.proofs.file.find_in_file.Goals as goal
 
 pub returns-in_ok-fault-in-Some : goal.returns-in_ok-fault-in-Some

@@ -1,5 +1,5 @@
 use Rattle.eip_route_file.proofs.Filed.{file_item, file_later, list_starves}
-use Rattle.eip_route_table.proofs.Walking.{starves_walked, walk_ended}
+use Rattle.eip_route_faults.proofs.Walking.{starves_walked, walk_ended}
 use Rattle.eip_route_file.proofs.file.find_in_list.Goals as goal
 
 pub returns-in-Some : goal.returns-in-Some

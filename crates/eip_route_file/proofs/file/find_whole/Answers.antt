@@ -1,7 +1,7 @@
 use Rattle.std.proofs.Common.{None, Some, refl}
 use Rattle.eip_text.specs.Json.{json, items_json}
 use Rattle.eip_route_file.proofs.Filed.{whole_wrong, whole_walks, whole_starves}
-use Rattle.eip_route_table.proofs.Walking.{walk_ended}
+use Rattle.eip_route_faults.proofs.Walking.{walk_ended}
 use Rattle.eip_route_file.proofs.file.find_whole.Goals as goal
 
 pub returns-in_ok-fault-in-None : goal.returns-in_ok-fault-in-None

@@ -1,8 +1,8 @@
 use Rattle.std.proofs.Common.{Err, ap, ◌∙◌}
 use Rattle.std.proofs.lemmas.Result.{err_from_is_err_and}
-use Rattle.eip_route_table.proofs.Walking.{starves_walked}
-use Rattle.eip_route_json.proofs.filed.Whole.{file_fits}
-use Rattle.eip_route_json.proofs.ValidSets.{fits_valid}
+use Rattle.eip_route_faults.proofs.Walking.{starves_walked}
+use Rattle.eip_route_validity.proofs.filed.Whole.{file_fits}
+use Rattle.eip_route_validity.proofs.ValidSets.{fits_valid}
 use Rattle.eip_route_json.proofs.Walked.{walk_reads, reading_ended}
 use Rattle.eip_route_json.proofs.read.read_tree.Goals as goal
 

@@ -1,8 +1,8 @@
 use Rattle.std.proofs.Common.{◌≡◌, drop}
 use Rattle.eip_text.specs.Json.{items_json}
 use Rattle.eip_route.specs.Nest.{flat_clauses}
-use Rattle.eip_route_json.specs.Sets.{clauses_of}
-use Rattle.eip_route_json.proofs.Appended.{with_clauses}
+use Rattle.eip_route_values.specs.Sets.{clauses_of}
+use Rattle.eip_route_blocks.proofs.Appended.{with_clauses}
 use Rattle.eip_route_json.proofs.sets.build_clauses.Given as goal
 
 abbrev pub invariant-loop-item : goal.invariant-loop-item

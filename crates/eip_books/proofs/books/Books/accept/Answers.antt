@@ -1,12 +1,12 @@
 use Rattle.std.proofs.Common.{arith, ◌≡◌, ◌+◌, ap, ◌∙◌, length, length-append}
 use Rattle.std.proofs.lemmas.List.{length-reverse}
-use Rattle.eip_books.proofs.Bounds.{within-limit, live-within}
+use Rattle.eip_table_laws.proofs.Bounds.{within-limit, live-within}
 use Rattle.eip_books.specs.Facts.{tables_of}
-use Rattle.eip_books.proofs.SourceCalls.{source-within, out-pulled}
-use Rattle.eip_books.specs.Moves.{new_row}
-use Rattle.eip_books.proofs.SourceEvents.{stands-accept}
-use Rattle.eip_books.specs.State.{row_outside}
-use Rattle.eip_books.proofs.ListedNumbers.{push-none}
+use Rattle.eip_table_laws.proofs.SourceCalls.{source-within, out-pulled}
+use Rattle.eip_tables.specs.Moves.{new_row}
+use Rattle.eip_table_laws.proofs.SourceEvents.{stands-accept}
+use Rattle.eip_tables.specs.State.{row_outside}
+use Rattle.eip_table_laws.proofs.ListedNumbers.{push-none}
 use Rattle.eip_books.proofs.books.Books.accept.Goals as goal
 
 pub set-requires : goal.set-requires

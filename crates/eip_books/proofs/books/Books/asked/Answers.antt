@@ -1,10 +1,10 @@
 use Rattle.std.proofs.Common.{◌-◌, ap, sym, ◌∙◌}
 use Rattle.eip_ledger.specs.declared.place.Place.TheVariants.{Ready}
-use Rattle.eip_books.specs.Asking.{is_outside_kind}
+use Rattle.eip_tables.specs.Asking.{is_outside_kind}
 use Rattle.eip_books.specs.Facts.{tables_of}
-use Rattle.eip_books.proofs.OwnCalls.{row-within}
-use Rattle.eip_books.proofs.LookCalls.{known-request}
-use Rattle.eip_books.proofs.InnerCalls.{asks-simply, kind-outside, kind-known}
+use Rattle.eip_table_laws.proofs.OwnCalls.{row-within}
+use Rattle.eip_table_laws.proofs.LookCalls.{known-request}
+use Rattle.eip_table_laws.proofs.InnerCalls.{asks-simply, kind-outside, kind-known}
 use Rattle.eip_books.proofs.books.Books.asked.Goals as goal
 
 pub get-requires-clause-above : goal.get-requires-clause-above

@@ -2,14 +2,14 @@ use Rattle.std.proofs.Common.{arith, ◌≡◌, ◌-◌, ap, ◌∙◌}
 use Rattle.eip_ledger.specs.declared.place.Place.TheVariants.{Ready}
 use Rattle.std.proofs.Common.{false}
 use Rattle.eip_frames.specs.declared.request.Request.TheVariants as request
-use Rattle.eip_books.specs.Moves.{finished, finished_asked, finished_by, end_asked}
+use Rattle.eip_tables.specs.Moves.{finished, finished_asked, finished_by, end_asked}
 use Rattle.eip_books.specs.Facts.{tables_of}
-use Rattle.eip_books.proofs.Bounds.{within-limit}
-use Rattle.eip_books.proofs.OwnCalls.{row-within, ready-some, stands-finish, live-above}
-use Rattle.eip_books.proofs.LookCalls.{known-state, known-request}
-use Rattle.eip_books.specs.State.{row_outside}
-use Rattle.eip_books.proofs.ListedNumbers.{leave-at}
-use Rattle.eip_books.proofs.HandCalls.{finished-not-outside}
+use Rattle.eip_table_laws.proofs.Bounds.{within-limit}
+use Rattle.eip_table_laws.proofs.OwnCalls.{row-within, ready-some, stands-finish, live-above}
+use Rattle.eip_table_laws.proofs.LookCalls.{known-state, known-request}
+use Rattle.eip_tables.specs.State.{row_outside}
+use Rattle.eip_table_laws.proofs.ListedNumbers.{leave-at}
+use Rattle.eip_table_laws.proofs.HandCalls.{finished-not-outside}
 use Rattle.eip_books.proofs.books.Books.finish.Goals as goal
 
 pub finish_asked-requires-clause-above : goal.finish_asked-requires-clause-above

@@ -1,12 +1,12 @@
 use Rattle.std.proofs.Common.{arith, ◌-◌}
 use Rattle.eip_ledger.specs.declared.place.Place.TheVariants.{InHand}
 use Rattle.eip_books.specs.Facts.{tables_of}
-use Rattle.eip_books.specs.State.{row_outside}
-use Rattle.eip_books.specs.Moves.{closed}
-use Rattle.eip_books.specs.declared.row.Stage.TheVariants as stage
-use Rattle.eip_books.proofs.OwnCalls.{row-within, placed-some}
-use Rattle.eip_books.proofs.RowNumbers.{numbers-stay}
-use Rattle.eip_books.proofs.HandCalls.{stands-give-up, taken-above, held-live, held-not-outside}
+use Rattle.eip_tables.specs.State.{row_outside}
+use Rattle.eip_tables.specs.Moves.{closed}
+use Rattle.eip_tables.specs.declared.row.Stage.TheVariants as stage
+use Rattle.eip_table_laws.proofs.OwnCalls.{row-within, placed-some}
+use Rattle.eip_table_laws.proofs.RowNumbers.{numbers-stay}
+use Rattle.eip_table_laws.proofs.HandCalls.{stands-give-up, taken-above, held-live, held-not-outside}
 use Rattle.eip_books.proofs.books.Books.give_up.Goals as goal
 
 pub invariant_of-self : goal.invariant_of-self

@@ -1,6 +1,6 @@
 use Rattle.std.proofs.Common.{arith, ◌∙◌, sym}
 use Rattle.eip_plan.specs.Plan.{plan_of}
-use Rattle.eip_books.proofs.StopCalls.{idle-some, idle-least, idle-none, source-small}
+use Rattle.eip_table_laws.proofs.StopCalls.{idle-some, idle-least, idle-none, source-small}
 use Rattle.eip_books.proofs.books.Books.idle_source.Goals as goal
 
 pub overflow_cast-result : goal.overflow_cast-result

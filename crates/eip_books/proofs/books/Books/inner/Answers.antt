@@ -1,5 +1,5 @@
 use Rattle.std.proofs.Common.{◌∙◌, sym}
-use Rattle.eip_books.proofs.InnerCalls.{kind-line, kind-end}
+use Rattle.eip_table_laws.proofs.InnerCalls.{kind-line, kind-end}
 use Rattle.eip_books.proofs.books.Books.inner.Goals as goal
 
 pub note-requires-clause-line : goal.note-requires-clause-line

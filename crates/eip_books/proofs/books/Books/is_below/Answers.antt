@@ -1,7 +1,7 @@
 use Rattle.std.proofs.Common.{arith, ◌+◌, ◌∙◌}
 use Rattle.std.proofs.lemmas.Bool.{lt-ltb, ltb-true}
 use Rattle.eip_books.specs.Facts.{tables_of}
-use Rattle.eip_books.proofs.Bounds.{within-limit, hands-are}
+use Rattle.eip_table_laws.proofs.Bounds.{within-limit, hands-are}
 use Rattle.eip_books.proofs.books.Books.is_below.Goals as goal
 
 pub overflow_add-result : goal.overflow_add-result

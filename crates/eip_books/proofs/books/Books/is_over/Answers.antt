@@ -1,6 +1,6 @@
 use Rattle.std.proofs.Common.{refl}
 use Rattle.eip_books.specs.Facts.{tables_of}
-use Rattle.eip_books.proofs.StopCalls.{over-is, not-zero}
+use Rattle.eip_table_laws.proofs.StopCalls.{over-is, not-zero}
 use Rattle.eip_books.proofs.books.Books.is_over.Goals as goal
 
 pub returns-then-self-eq0 : goal.returns-then-self-eq0

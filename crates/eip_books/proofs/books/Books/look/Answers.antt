@@ -1,12 +1,12 @@
 use Rattle.std.proofs.Common.{arith, refl, subst, ⊎_elim, ◌≡◌, ◌-◌, ap}
 use Rattle.eip_ledger.specs.declared.place.Place.TheVariants.{Ready}
-use Rattle.eip_books.specs.Moves.{begun}
-use Rattle.eip_books.specs.State.{known_of}
-use Rattle.eip_books.specs.Look.{HasCursor}
+use Rattle.eip_tables.specs.Moves.{begun}
+use Rattle.eip_tables.specs.State.{known_of}
+use Rattle.eip_tables.specs.Look.{HasCursor}
 use Rattle.eip_books.specs.Facts.{tables_of}
-use Rattle.eip_books.proofs.OwnCalls.{row-within}
-use Rattle.eip_books.proofs.LookCalls.{born-within, answer-within, answered-cursor, new-looked, answer-looked, known-now, known-asking, one-of-both, on-ok, answer-there}
-use Rattle.eip_books.proofs.LookOutside.{looked-outside, known-outside-already}
+use Rattle.eip_table_laws.proofs.OwnCalls.{row-within}
+use Rattle.eip_table_laws.proofs.LookCalls.{born-within, answer-within, answered-cursor, new-looked, answer-looked, known-now, known-asking, one-of-both, on-ok, answer-there}
+use Rattle.eip_table_laws.proofs.LookOutside.{looked-outside, known-outside-already}
 use Rattle.eip_books.proofs.books.Books.look.Goals as goal
 
 pub get-row-requires-clause-above : goal.get-row-requires-clause-above

@@ -1,5 +1,5 @@
 use Rattle.std.proofs.Common.{arith}
-use Rattle.eip_books.proofs.Empty.{first-tables}
+use Rattle.eip_table_laws.proofs.Empty.{first-tables}
 use Rattle.eip_books.proofs.books.Books.new.Goals as goal
 
 pub invariant_of-result : goal.invariant_of-result

@@ -3,12 +3,12 @@ use Rattle.std.proofs.lemmas.List.{length-reverse}
 use Rattle.eip_ledger.specs.declared.place.Place.TheVariants.{Ready}
 use Rattle.eip_frames.specs.declared.request.Request.TheVariants as request
 use Rattle.eip_books.specs.Facts.{tables_of}
-use Rattle.eip_books.proofs.Bounds.{within-limit}
-use Rattle.eip_books.proofs.OwnCalls.{row-within, ready-some, stands-note}
-use Rattle.eip_books.proofs.LookCalls.{known-state, known-request}
-use Rattle.eip_books.specs.State.{row_outside}
-use Rattle.eip_books.specs.Moves.{answered}
-use Rattle.eip_books.proofs.ListedNumbers.{leave-at}
+use Rattle.eip_table_laws.proofs.Bounds.{within-limit}
+use Rattle.eip_table_laws.proofs.OwnCalls.{row-within, ready-some, stands-note}
+use Rattle.eip_table_laws.proofs.LookCalls.{known-state, known-request}
+use Rattle.eip_tables.specs.State.{row_outside}
+use Rattle.eip_tables.specs.Moves.{answered}
+use Rattle.eip_table_laws.proofs.ListedNumbers.{leave-at}
 use Rattle.eip_books.proofs.books.Books.note.Goals as goal
 
 pub answer-request-requires-clause-above : goal.answer-request-requires-clause-above

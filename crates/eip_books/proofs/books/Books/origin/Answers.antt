@@ -1,6 +1,6 @@
 use Rattle.std.proofs.Common.{arith, ◌<◌, ◌∙◌}
 use Rattle.eip_books.specs.Facts.{tables_of}
-use Rattle.eip_books.proofs.OriginCalls.{origin-zero, origin-beyond, origin-is}
+use Rattle.eip_table_laws.proofs.OriginCalls.{origin-zero, origin-beyond, origin-is}
 use Rattle.eip_books.proofs.books.Books.origin.Goals as goal
 
 pub returns-then-number-eq0 : goal.returns-then-number-eq0

@@ -1,7 +1,7 @@
 use Rattle.std.proofs.Common.{arith}
 use Rattle.eip_plan.specs.Plan.{plan_of}
 use Rattle.eip_books.specs.Facts.{tables_of}
-use Rattle.eip_books.proofs.StopCalls.{place-zero, unborn-beyond, shown-is}
+use Rattle.eip_table_laws.proofs.StopCalls.{place-zero, unborn-beyond, shown-is}
 use Rattle.eip_books.proofs.books.Books.place.Goals as goal
 
 pub returns-then-number-eq0 : goal.returns-then-number-eq0

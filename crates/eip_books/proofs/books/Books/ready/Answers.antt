@@ -1,7 +1,7 @@
 use Rattle.std.proofs.Common.{◌∙◌, ap}
 use Rattle.eip_history.specs.Rules.{first}
 use Rattle.eip_books.specs.Facts.{tables_of}
-use Rattle.eip_books.proofs.Bounds.{ready-are}
+use Rattle.eip_table_laws.proofs.Bounds.{ready-are}
 use Rattle.eip_books.proofs.books.Books.ready.Goals as goal
 
 pub returns : goal.returns

@@ -1,7 +1,7 @@
 use Rattle.std.proofs.Common.{arith}
-use Rattle.eip_books.proofs.Bounds.{within-limit}
+use Rattle.eip_table_laws.proofs.Bounds.{within-limit}
 use Rattle.eip_books.specs.Facts.{tables_of}
-use Rattle.eip_books.proofs.SourceCalls.{stands-refuse, source-within, out-pulled}
+use Rattle.eip_table_laws.proofs.SourceCalls.{stands-refuse, source-within, out-pulled}
 use Rattle.eip_books.proofs.books.Books.refuse.Goals as goal
 
 pub set-requires : goal.set-requires

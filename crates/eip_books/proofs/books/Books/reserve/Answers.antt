@@ -1,6 +1,6 @@
 use Rattle.std.proofs.Common.{arith}
 use Rattle.eip_books.specs.Facts.{tables_of}
-use Rattle.eip_books.proofs.Bounds.{within-limit}
+use Rattle.eip_table_laws.proofs.Bounds.{within-limit}
 use Rattle.eip_books.proofs.books.Books.reserve.Goals as goal
 
 pub overflow_add-hands : goal.overflow_add-hands

@@ -1,6 +1,6 @@
 use Rattle.std.proofs.Common.{arith}
 use Rattle.eip_books.specs.Facts.{tables_of}
-use Rattle.eip_books.proofs.SourceCalls.{stands-fault, source-within, out-pulled}
+use Rattle.eip_table_laws.proofs.SourceCalls.{stands-fault, source-within, out-pulled}
 use Rattle.eip_books.proofs.books.Books.source_fault.Goals as goal
 
 pub set-requires : goal.set-requires

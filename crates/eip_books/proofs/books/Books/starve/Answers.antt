@@ -1,11 +1,11 @@
 use Rattle.std.proofs.Common.{arith, refl}
 use Rattle.eip_ledger.specs.declared.place.Place.TheVariants.{Ready}
 use Rattle.eip_books.specs.Facts.{tables_of}
-use Rattle.eip_books.proofs.OwnCalls.{row-within, ready-some, stands-starve, live-above}
-use Rattle.eip_books.specs.State.{row_outside}
-use Rattle.eip_books.specs.Moves.{closed}
-use Rattle.eip_books.specs.declared.row.Stage.TheVariants as stage
-use Rattle.eip_books.proofs.ListedNumbers.{leave-at}
+use Rattle.eip_table_laws.proofs.OwnCalls.{row-within, ready-some, stands-starve, live-above}
+use Rattle.eip_tables.specs.State.{row_outside}
+use Rattle.eip_tables.specs.Moves.{closed}
+use Rattle.eip_tables.specs.declared.row.Stage.TheVariants as stage
+use Rattle.eip_table_laws.proofs.ListedNumbers.{leave-at}
 use Rattle.eip_books.proofs.books.Books.starve.Goals as goal
 
 pub close-requires-clause-above : goal.close-requires-clause-above

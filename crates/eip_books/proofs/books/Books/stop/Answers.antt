@@ -1,7 +1,7 @@
 use Rattle.std.proofs.Common.{arith, ◌∙◌, ap, ◌==◌, ◌&&◌, ◌+◌}
 use Rattle.eip_books.specs.Facts.{tables_of}
-use Rattle.eip_books.proofs.Bounds.{within-limit}
-use Rattle.eip_books.proofs.StopCalls.{stop-is}
+use Rattle.eip_table_laws.proofs.Bounds.{within-limit}
+use Rattle.eip_table_laws.proofs.StopCalls.{stop-is}
 use Rattle.eip_books.proofs.books.Books.stop.Goals as goal
 
 pub overflow_add-self-inside : goal.overflow_add-self-inside

@@ -1,12 +1,12 @@
 use Rattle.std.proofs.Common.{arith, ◌≡◌, ◌∙◌, refl}
 use Rattle.eip_ledger.specs.declared.place.Place.TheVariants.{Ready}
 use Rattle.eip_books.specs.Facts.{tables_of}
-use Rattle.eip_books.specs.Moves.{held}
-use Rattle.eip_books.specs.State.{row_outside}
-use Rattle.eip_books.proofs.Bounds.{within-limit}
-use Rattle.eip_books.proofs.OwnCalls.{row-within}
-use Rattle.eip_books.proofs.ListedNumbers.{leave-at}
-use Rattle.eip_books.proofs.HandCalls.{known-outside, may-take, taken-place, taken-asks, stands-take}
+use Rattle.eip_tables.specs.Moves.{held}
+use Rattle.eip_tables.specs.State.{row_outside}
+use Rattle.eip_table_laws.proofs.Bounds.{within-limit}
+use Rattle.eip_table_laws.proofs.OwnCalls.{row-within}
+use Rattle.eip_table_laws.proofs.ListedNumbers.{leave-at}
+use Rattle.eip_table_laws.proofs.HandCalls.{known-outside, may-take, taken-place, taken-asks, stands-take}
 use Rattle.eip_books.proofs.books.Books.take.Goals as goal
 
 pub invariant_of-self : goal.invariant_of-self

@@ -1,6 +1,6 @@
 use Rattle.std.proofs.Common.{◌∙◌}
 use Rattle.eip_books.specs.Facts.{tables_of}
-use Rattle.eip_books.proofs.Bounds.{rows-are}
+use Rattle.eip_table_laws.proofs.Bounds.{rows-are}
 use Rattle.eip_books.proofs.books.Books.total.Goals as goal
 
 pub returns : goal.returns

@@ -1,13 +1,13 @@
 use Rattle.std.proofs.Common.{false, ◌∙◌, ap, filter}
 use Rattle.eip_history.specs.Rules.{first}
 use Rattle.eip_books.specs.Facts.{tables_of}
-use Rattle.eip_books.specs.State.{row_outside, outside_at, is_wanted}
-use Rattle.eip_books.specs.Rows.{row_ready}
-use Rattle.eip_books.specs.Numbers.{row_numbers}
-use Rattle.eip_books.specs.Outside.{unlooked_numbers}
-use Rattle.eip_books.proofs.Bounds.{ready-are}
-use Rattle.eip_books.proofs.ListedNumbers.{numbers-within}
-use Rattle.eip_books.proofs.HandCalls.{unlooked-are}
+use Rattle.eip_tables.specs.State.{row_outside, outside_at, is_wanted}
+use Rattle.eip_tables.specs.Rows.{row_ready}
+use Rattle.eip_tables.specs.Numbers.{row_numbers}
+use Rattle.eip_tables.specs.Outside.{unlooked_numbers}
+use Rattle.eip_table_laws.proofs.Bounds.{ready-are}
+use Rattle.eip_table_laws.proofs.ListedNumbers.{numbers-within}
+use Rattle.eip_table_laws.proofs.HandCalls.{unlooked-are}
 use Rattle.eip_books.proofs.books.Books.unlooked.Goals as goal
 
 pub first_wanted-requires : goal.first_wanted-requires

@@ -1,6 +1,0 @@
-use Rattle.std.proofs.Common.{◌≡◌, map, take}
-use Rattle.eip_books.specs.Rows.{first_row}
-use Rattle.eip_books.proofs.sources.Sources.new.Given as goal
-
-abbrev pub invariant-loop-route : goal.invariant-loop-route
-invariant-loop-route l = l.states.items ≡ map first_row (take l.route-index l.route-items)

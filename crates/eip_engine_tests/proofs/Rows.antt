@@ -1,0 +1,21 @@
+-- The set of the tests can be run.
+use Rattle.std.proofs.Common.{zero, suc, [], ◌∷◌, codes, refl}
+use Rattle.eip_plan.specs.Plan.{plan_of}
+use Rattle.eip_core.specs.Doors.{HasInlets, HasLanes, TellsNone, CanRun}
+use Rattle.eip_engine_tests.specs.Rows.{logging}
+
+has-inlets : HasInlets logging (codes "stream" ∷ [])
+unfolding plan_of
+has-inlets zero source = refl
+has-inlets (suc t) source = absurd (let g = source.1 in cc g)
+
+has-lanes : HasLanes logging []
+has-lanes zero = tt
+has-lanes (suc block) = tt
+
+tells-none : TellsNone logging
+tells-none zero = refl
+tells-none (suc t) = refl
+
+pub logging-runs : CanRun logging [] (codes "stream" ∷ [])
+logging-runs = record { has_inlets = has-inlets; has_lanes = has-lanes; tells_none = tells-none }

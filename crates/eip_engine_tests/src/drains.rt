@@ -1,0 +1,97 @@
+ghost use Rattle.std.specs.Prelude.{◌≡◌, IfOk, [], ◌∷◌, map, codes};
+ghost use Rattle.eip_engine_tests.specs.Rows.{logging};
+
+use crate::support::{item, two_of_stream};
+use eip_core::Registry;
+use eip_core::drain::drain_alone;
+use eip_endpoint::{Inlet, Lane, MemorySource};
+use eip_exchange::End;
+use eip_hub::Hub;
+use eip_ledger::{Place, Stop};
+use eip_route::{Block, Handler, Names, Route, RouteSet, Step};
+use eip_text::{NoMemory, Series, Text};
+use eip_uri::Uri;
+use std::alloc::Global;
+use std::test::Fail;
+
+/// One route from `stream:in`, whose one step is a log.
+fn logging(alloc: Global) -> Result<RouteSet, NoMemory>
+    ensures { IfOk result (λ s. s ≡ logging) }
+{
+    let log = Step::To(Uri::Log(Text::of_str(alloc, "out")?));
+    let steps = Series::of(vec![in alloc; log]?);
+    let blocks = Series::of(vec![in alloc; Block { steps }]?);
+    let route = Route {
+        id: Text::of_str(alloc, "route1")?,
+        from: Uri::StreamIn,
+        block: 0,
+    };
+    let routes = Series::of(vec![in alloc; route]?);
+    Ok(RouteSet {
+        names: Names::none(alloc),
+        routes,
+        blocks,
+        handler: Handler::plain(),
+        clauses: Series::of(Vec::new(alloc)),
+    })
+}
+
+/// A source of the lines `a` and `b`, as the inlet of standard input.
+fn one_inlet(alloc: Global) -> Result<Vec<Inlet>, NoMemory>
+    ensures { IfOk result (λ v. map (λ i. i.name) v.items ≡ codes "stream" ∷ []) }
+{
+    let lines = two_of_stream(alloc, item(alloc, "1", "a")?, item(alloc, "2", "b")?)?;
+    let source = MemorySource::new(alloc, lines, Vec::new(alloc));
+    let object = Box::new(alloc, source)?;
+    let name = Text::of_str(alloc, "stream")?;
+    Ok(vec![in alloc; Inlet { name, object }]?)
+}
+
+fn is_completed(place: Option<Place>) -> bool {
+    match place {
+        Some(Place::Ended(End::Completed)) => true,
+        _ => false,
+    }
+}
+
+fn is_ready(place: Option<Place>) -> bool {
+    match place {
+        Some(Place::Ready) => true,
+        _ => false,
+    }
+}
+
+/// The stop of a drain of the two lines through the one route.
+fn drained(alloc: Global, hub: &mut Hub) -> Result<Stop, NoMemory>
+    requires set { hub.old.set ≡ logging }
+    requires past { hub.old.journal.past ≡ [] }
+{
+    let mut inlets = one_inlet(alloc)?;
+    let mut lanes: Vec<Lane> = Vec::new(alloc);
+    let stop = drain_alone(hub, &mut lanes, &mut inlets, &Registry::new());
+    Ok(stop)
+}
+
+/// The stop of the drain, and whether exchange 1 is completed then and exchange 2 is ready.
+fn left(alloc: Global, hub: &mut Hub) -> Result<(Stop, bool, bool), NoMemory>
+    requires set { hub.old.set ≡ logging }
+    requires past { hub.old.journal.past ≡ [] }
+{
+    let stop = drained(alloc, hub)?;
+    let first = is_completed(hub.place(alloc, 1)?);
+    let second = is_ready(hub.place(alloc, 2)?);
+    Ok((stop, first, second))
+}
+
+/// What a drain of at most four turns leaves.
+fn left_in_four_turns(alloc: Global) -> Result<(Stop, bool, bool), NoMemory> {
+    let mut hub = Hub::new(alloc, logging(alloc)?, 0, 4)?;
+    left(alloc, &mut hub)
+}
+
+#[test]
+fn a_drain_that_spends_its_turns_leaves_who_is_ready(rt: HostRuntime) -> Result<(), Fail> {
+    let left = left_in_four_turns(rt.alloc())?;
+    assert!(rt; left == (Stop::Spent, true, true));
+    Ok(())
+}

@@ -1,0 +1,3 @@
+pub mod KnownLaws
+pub mod LineLaws
+pub mod SourceLaws

@@ -1,0 +1,5 @@
+pub mod Lists
+pub mod Quiet
+pub mod Sited
+pub mod Starved
+pub mod Walking

@@ -1,6 +1,0 @@
-use Rattle.std.proofs.Common.{◌≡◌, drop}
-use Rattle.eip_route_table.specs.Sites.{clashes}
-use Rattle.eip_route_table.proofs.keyed.clashes.Given as goal
-
-abbrev pub invariant-loop-other : goal.invariant-loop-other
-invariant-loop-other l = clashes l.row l.seen ≡ clashes l.row (drop l.other-index l.seen)

@@ -1,8 +1,0 @@
-use Rattle.eip_route_table.proofs.Sited.{word_none, word_some}
-use Rattle.eip_route_table.proofs.walk.find_in_word.Goals as goal
-
-pub returns-in_ok-found-in-None : goal.returns-in_ok-found-in-None
-returns-in_ok-found-in-None g c = word_none _ _ _ _ _ _ _ c.in-None.is c.in_ok-found-in-None.ensures
-
-pub returns-in_ok-found-in-Some : goal.returns-in_ok-found-in-Some
-returns-in_ok-found-in-Some g c = word_some _ _ _ c.in-Some.rule _ _ _ _ _ _ c.in-Some.is c.in_ok-found-in-Some.ensures

@@ -1,0 +1,144 @@
+use crate::support::{ALL, Given, Handed, is_told};
+use eip_text::NoMemory;
+use std::alloc::Global;
+use std::test::*;
+
+mod key_rows;
+mod kind_rows;
+mod limit_rows;
+mod limits;
+mod order_rows;
+mod printed_rows;
+mod printed_step_rows;
+mod uri_rows;
+mod value_rows;
+
+use key_rows::{DOUBLED_KEYS, MISSING_KEYS, NOT_ONE_KEY, SECOND_KEYS, UNKNOWN_KEYS};
+use kind_rows::WRONG_KINDS;
+use order_rows::{LATER_FAULTS, SEVERAL_FAULTS, WHOLE_OBJECTS};
+use printed_rows::{BLOCKS, CLAUSES, ENDPOINTS, HANDLERS, ROUTES};
+use printed_step_rows::{EXPRESSIONS, GROUPS, PARTS, PREDICATES, STEPS};
+use uri_rows::{BAD_URIS, UNREGISTERED, WRONG_SIDES};
+use value_rows::{BAD_SIMPLE, BAD_VALUES, FIRST_PATTERN_REFUSED, SECOND_PATTERN_REFUSED};
+
+/// Whether a row's file is told as it wants.
+fn is_so(alloc: Global, row: &str, given: Given) -> Result<bool, NoMemory> {
+    match row.split_once(" => ") {
+        Some((file, wanted)) => is_told(alloc, file.as_bytes(), given, wanted),
+        None => Ok(false),
+    }
+}
+
+/// The first row that isn't so, or the empty text.
+fn wrong(alloc: Global, rows: &str, given: Given) -> Result<&str, NoMemory> {
+    for row in rows.lines() {
+        if !is_so(alloc, row, given)? {
+            return Ok(row);
+        }
+    }
+    Ok("")
+}
+
+/// Whether the canonical text of a row is told as it stands.
+fn is_kept(alloc: Global, row: &str) -> Result<bool, NoMemory> {
+    match row.split_once(" => ") {
+        Some((_, text)) => is_told(alloc, text.as_bytes(), ALL, text),
+        None => Ok(false),
+    }
+}
+
+/// The first row whose canonical text isn't kept, or the empty text.
+fn changed(alloc: Global, rows: &str) -> Result<&str, NoMemory> {
+    for row in rows.lines() {
+        if !is_kept(alloc, row)? {
+            return Ok(row);
+        }
+    }
+    Ok("")
+}
+
+#[test]
+fn keys_that_are_unknown_missing_or_too_many_are_told(rt: HostRuntime) -> Result<(), Fail> {
+    let tables = [
+        UNKNOWN_KEYS,
+        NOT_ONE_KEY,
+        MISSING_KEYS,
+        DOUBLED_KEYS,
+        SECOND_KEYS,
+    ];
+    for rows in tables {
+        assert_eq!(rt; wrong(rt.alloc(), rows, ALL)?, "");
+    }
+    Ok(())
+}
+
+#[test]
+fn values_that_may_not_stand_there_are_told(rt: HostRuntime) -> Result<(), Fail> {
+    let tables = [WRONG_KINDS, BAD_VALUES, BAD_SIMPLE, BAD_URIS, WRONG_SIDES];
+    for rows in tables {
+        assert_eq!(rt; wrong(rt.alloc(), rows, ALL)?, "");
+    }
+    Ok(())
+}
+
+#[test]
+fn nothing_is_registered_where_nothing_is_handed_in(rt: HostRuntime) -> Result<(), Fail> {
+    let nothing = Given {
+        handed: Handed::Nothing,
+        refused: 0,
+    };
+    assert_eq!(rt; wrong(rt.alloc(), UNREGISTERED, nothing)?, "");
+    Ok(())
+}
+
+#[test]
+fn a_refused_pattern_stands_before_what_comes_behind_it(rt: HostRuntime) -> Result<(), Fail> {
+    let tables = [(FIRST_PATTERN_REFUSED, 1), (SECOND_PATTERN_REFUSED, 2)];
+    for (rows, refused) in tables {
+        let given = Given {
+            handed: Handed::Everything,
+            refused,
+        };
+        assert_eq!(rt; wrong(rt.alloc(), rows, given)?, "");
+    }
+    Ok(())
+}
+
+#[test]
+fn the_first_of_the_faults_of_objects_and_items_is_told(rt: HostRuntime) -> Result<(), Fail> {
+    let tables = [WHOLE_OBJECTS, SEVERAL_FAULTS, LATER_FAULTS];
+    for rows in tables {
+        assert_eq!(rt; wrong(rt.alloc(), rows, ALL)?, "");
+    }
+    Ok(())
+}
+
+/// The tables of files that read.
+const READ: [&str; 10] = [
+    ROUTES,
+    ENDPOINTS,
+    HANDLERS,
+    CLAUSES,
+    BLOCKS,
+    EXPRESSIONS,
+    STEPS,
+    PREDICATES,
+    PARTS,
+    GROUPS,
+];
+
+#[test]
+fn files_print_in_one_form(rt: HostRuntime) -> Result<(), Fail> {
+    for rows in READ {
+        assert_eq!(rt; wrong(rt.alloc(), rows, ALL)?, "");
+    }
+    Ok(())
+}
+
+#[test]
+fn canonical_text_is_read_and_printed_as_it_stands(rt: HostRuntime) -> Result<(), Fail> {
+    for rows in READ {
+        assert_eq!(rt; changed(rt.alloc(), rows)?, "");
+    }
+    Ok(())
+}

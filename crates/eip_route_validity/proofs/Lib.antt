@@ -1,0 +1,11 @@
+pub mod fitting
+pub mod filed
+pub mod NothingFound
+pub mod GoodParts
+pub mod GoodSteps
+pub mod NumbersInOrder
+pub mod PlacedOnce
+pub mod NumbersInRange
+pub mod NotTooDeep
+pub mod ConsumersApart
+pub mod ValidSets

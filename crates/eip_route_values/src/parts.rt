@@ -1,0 +1,300 @@
+#![tactic(auto, using(eip_text::proofs::Levels::json_levels))]
+
+ghost use Rattle.std.specs.Prelude.{◌≡◌, [], IfOk};
+ghost use Rattle.eip_text.specs.Json.{json, members_json};
+ghost use Rattle.eip_route.specs.Nest.{with_block};
+ghost use Rattle.eip_route_grammar.specs.Objects as objects;
+ghost use Rattle.eip_route_grammar.specs.Texts.{strategy_of};
+ghost use Rattle.eip_route_values.specs.Leaves as leaves;
+ghost use Rattle.eip_route_values.specs.Parts as spec;
+
+use crate::leaves::{
+    constant_of, count_at, expression_of, flag_at, members_at, small_count_at, text_at, text_of,
+};
+use eip_exchange::{How, Strategy};
+use eip_route::{Aggregate, Check, Expr, Fan};
+use eip_route_grammar::keys::Key;
+use eip_route_grammar::known::Known;
+use eip_route_grammar::objects::{is_fixed, parameters_of, value_at};
+use eip_route_grammar::texts::unhashed;
+use eip_simple_read::{Predicate, SimpleFault, Template, read_template};
+use eip_text::cuts::behind;
+use eip_text::{NoMemory, Series, Text, Tree};
+use eip_uri::{Uri, UriFault};
+use std::alloc::Global;
+
+fn empty_template(alloc: Global) -> Template
+    ensures { result ≡ record { parts = [] } }
+{
+    Template {
+        parts: Series::of(Vec::new(alloc)),
+    }
+}
+
+/// The template that a text spells.
+pub fn template(alloc: Global, text: &str) -> Result<Template, NoMemory>
+    ensures { IfOk result (λ t. t ≡ spec.template text.now) }
+{
+    let text = Text::of_str(alloc, text)?;
+    match read_template(alloc, &text) {
+        Ok(template) => Ok(template),
+        Err(fault) => match fault {
+            SimpleFault::NoMemory => Err(NoMemory),
+            SimpleFault::BadSimple(_) => Ok(empty_template(alloc)),
+            SimpleFault::UnknownFunction(_) => Ok(empty_template(alloc)),
+            SimpleFault::BadPattern(_) => Ok(empty_template(alloc)),
+            SimpleFault::PatternTooLarge(_) => Ok(empty_template(alloc)),
+        },
+    }
+}
+
+/// The predicate that a text spells. It was read before; so it is known, and want of memory is
+/// answered where it isn't, which does not happen.
+pub fn predicate(known: &mut Known, text: &str) -> Result<Predicate, NoMemory>
+    ensures { IfOk result (λ p. p ≡ spec.predicate text.now) }
+{
+    match known.take(text) {
+        None => Err(NoMemory),
+        Some(predicate) => Ok(predicate),
+    }
+}
+
+/// The endpoint of a URI and its parameters.
+pub fn endpoint(alloc: Global, text: &str, parameters: &[(Text, Text)]) -> Result<Uri, NoMemory>
+    ensures { IfOk result (λ u. u ≡ spec.endpoint text.now parameters.now) }
+{
+    let text = Text::of_str(alloc, text)?;
+    match Uri::read(alloc, &text, parameters) {
+        Ok(uri) => Ok(uri),
+        Err(fault) => match &fault {
+            UriFault::NoMemory => Err(NoMemory),
+            UriFault::UnknownScheme => Ok(Uri::StreamIn),
+            UriFault::BadUri(_) => Ok(Uri::StreamIn),
+            UriFault::UnknownOption(_) => Ok(Uri::StreamIn),
+            UriFault::BadOption(_) => Ok(Uri::StreamIn),
+            UriFault::DoubleOption(_) => Ok(Uri::StreamIn),
+        },
+    }
+}
+
+/// The endpoint of an object with `uri` and `parameters`.
+pub fn endpoint_in(alloc: Global, members: &[(Text, Tree)]) -> Result<Uri, NoMemory>
+    ensures { IfOk result (λ u. u ≡ spec.endpoint_in (members_json members.now)) }
+{
+    let parameters = parameters_of(alloc, members)?;
+    endpoint(alloc, text_at(Key::Uri, members), parameters.as_slice())
+}
+
+fn plain_expr_in(alloc: Global, members: &[(Text, Tree)]) -> Result<Expr, NoMemory>
+    ensures { IfOk result (λ e. e ≡ spec.plain_expr_in (members_json members.now)) }
+{
+    if let Some(tree) = value_at(Key::Simple, members) {
+        return Ok(Expr::Simple(template(alloc, expression_of(tree))?));
+    }
+    if let Some(tree) = value_at(Key::Constant, members) {
+        return Ok(Expr::Constant(constant_of(alloc, tree)?));
+    }
+    if let Some(tree) = value_at(Key::Header, members) {
+        return Ok(Expr::Header(Text::of_str(alloc, text_of(tree))?));
+    }
+    let name = Text::of_str(alloc, text_at(Key::ExchangeProperty, members))?;
+    Ok(Expr::Property(name))
+}
+
+/// The expression of an object (Camel manual, *Languages*).
+pub fn expr_in(alloc: Global, members: &[(Text, Tree)]) -> Result<Expr, NoMemory>
+    ensures { IfOk result (λ e. e ≡ spec.expr_in (members_json members.now)) }
+{
+    match members_at(Key::Expression, members) {
+        None => plain_expr_in(alloc, members),
+        Some(inner) => plain_expr_in(alloc, inner),
+    }
+}
+
+fn expr_at(alloc: Global, key: Key, members: &[(Text, Tree)]) -> Result<Expr, NoMemory>
+    ensures { IfOk result (λ e. e
+        ≡ spec.expr_of (leaves.members_at key (members_json members.now))) }
+{
+    match members_at(key, members) {
+        None => Ok(Expr::Property(Text::of_str(alloc, "")?)),
+        Some(inner) => expr_in(alloc, inner),
+    }
+}
+
+fn plain_check_in(
+    alloc: Global,
+    known: &mut Known,
+    members: &[(Text, Tree)],
+) -> Result<Check, NoMemory>
+    ensures { IfOk result (λ c. c ≡ spec.plain_check_in (members_json members.now)) }
+{
+    if let Some(tree) = value_at(Key::Simple, members) {
+        return Ok(Check::Simple(predicate(known, expression_of(tree))?));
+    }
+    if let Some(tree) = value_at(Key::Constant, members) {
+        return Ok(Check::Fixed(is_fixed(tree)));
+    }
+    let name = Text::of_str(alloc, unhashed(text_at(Key::Ref, members)))?;
+    Ok(Check::Stored(name))
+}
+
+/// What an object asks of a message (Camel manual, *Predicate*).
+pub fn check_in(
+    alloc: Global,
+    known: &mut Known,
+    members: &[(Text, Tree)],
+) -> Result<Check, NoMemory>
+    ensures { IfOk result (λ c. c ≡ spec.check_in (members_json members.now)) }
+{
+    match members_at(Key::Expression, members) {
+        None => plain_check_in(alloc, known, members),
+        Some(inner) => plain_check_in(alloc, known, inner),
+    }
+}
+
+/// The strategy of a name (Camel manual, *Aggregate EIP*, *AggregationStrategy*).
+#[tactic(auto, unfolding(eip_route_grammar::specs::Texts::strategy_of))]
+fn strategy(alloc: Global, name: &str) -> Result<Option<Strategy>, NoMemory>
+    ensures { IfOk result (λ s. s ≡ strategy_of name.now) }
+{
+    if name == "original" {
+        return Ok(Some(Strategy::Original));
+    }
+    if name == "latest" {
+        return Ok(Some(Strategy::Latest));
+    }
+    if name == "joined" {
+        return Ok(Some(Strategy::Joined(Text::of_str(alloc, ",")?)));
+    }
+    if name == "grouped" {
+        return Ok(Some(Strategy::Grouped));
+    }
+    if name == "sum" {
+        return Ok(Some(Strategy::Sum));
+    }
+    match behind(name, "joined:") {
+        None => Ok(None),
+        Some(text) => Ok(Some(Strategy::Joined(Text::of_str(alloc, text)?))),
+    }
+}
+
+fn strategy_at(alloc: Global, members: &[(Text, Tree)]) -> Result<Option<Strategy>, NoMemory>
+    ensures { IfOk result (λ s. s
+        ≡ spec.strategy_given (objects.value_at Key.AggregationStrategy (members_json members.now))) }
+{
+    match value_at(Key::AggregationStrategy, members) {
+        None => Ok(None),
+        Some(tree) => strategy(alloc, unhashed(text_of(tree))),
+    }
+}
+
+/// How the parts of an object's fan-out run and become one message.
+pub fn fan_in(alloc: Global, members: &[(Text, Tree)]) -> Result<Fan, NoMemory>
+    ensures { IfOk result (λ f. f ≡ spec.fan_in (members_json members.now)) }
+{
+    Ok(Fan {
+        strategy: strategy_at(alloc, members)?,
+        parallel: flag_at(false, Key::ParallelProcessing, members),
+        stop: flag_at(false, Key::StopOnException, members),
+        share: false,
+    })
+}
+
+fn token_of(tree: &Tree) -> &str
+    ensures { result.now ≡ spec.token_of (json tree.now) }
+{
+    match tree {
+        Tree::Word(text) => text.as_str(),
+        Tree::Object(members) => text_at(Key::Token, members.items()),
+        Tree::Null => "",
+        Tree::Flag(_) => "",
+        Tree::Whole(_) => "",
+        Tree::Float => "",
+        Tree::List(_) => "",
+    }
+}
+
+/// How a split cuts the body: by `tokenize`, else into the elements of a JSON array.
+pub fn how_in(alloc: Global, members: &[(Text, Tree)]) -> Result<How, NoMemory>
+    ensures { IfOk result (λ h. h
+        ≡ spec.how_given (objects.value_at Key.Tokenize (members_json members.now))) }
+{
+    match value_at(Key::Tokenize, members) {
+        None => Ok(How::JsonArray),
+        Some(tree) => Ok(How::Token(Text::of_str(alloc, token_of(tree))?)),
+    }
+}
+
+/// What stands between the endpoints of a recipient list.
+pub fn delimiter_in(alloc: Global, members: &[(Text, Tree)]) -> Result<Text, NoMemory>
+    ensures { IfOk result (λ d. d
+        ≡ spec.delimiter_given (objects.value_at Key.Delimiter (members_json members.now))) }
+{
+    match value_at(Key::Delimiter, members) {
+        None => Text::of_str(alloc, ","),
+        Some(tree) => Text::of_str(alloc, text_of(tree)),
+    }
+}
+
+/// The name of the repository that an idempotent consumer gives.
+pub fn repository_in(alloc: Global, members: &[(Text, Tree)]) -> Result<Option<Text>, NoMemory>
+    ensures { IfOk result (λ r. r
+        ≡ spec.repository_given (objects.value_at Key.IdempotentRepository (members_json members.now))) }
+{
+    match value_at(Key::IdempotentRepository, members) {
+        None => Ok(None),
+        Some(tree) => Ok(Some(Text::of_str(alloc, unhashed(text_of(tree)))?)),
+    }
+}
+
+fn completion_given(
+    known: &mut Known,
+    members: &[(Text, Tree)],
+) -> Result<Option<Predicate>, NoMemory>
+    ensures { IfOk result (λ p. p
+        ≡ spec.completion_given (objects.value_at Key.Simple (members_json members.now))) }
+{
+    match value_at(Key::Simple, members) {
+        None => Ok(None),
+        Some(tree) => Ok(Some(predicate(known, expression_of(tree))?)),
+    }
+}
+
+fn completion_in(known: &mut Known, members: &[(Text, Tree)]) -> Result<Option<Predicate>, NoMemory>
+    ensures { IfOk result (λ p. p
+        ≡ spec.completion_of (leaves.members_at Key.CompletionPredicate (members_json members.now))) }
+{
+    match members_at(Key::CompletionPredicate, members) {
+        None => Ok(None),
+        Some(inner) => completion_given(known, inner),
+    }
+}
+
+fn group_strategy(alloc: Global, members: &[(Text, Tree)]) -> Result<Strategy, NoMemory>
+    ensures { IfOk result (λ s. s ≡ (spec.gathering_in (members_json members.now)).strategy) }
+{
+    match strategy_at(alloc, members)? {
+        None => Ok(Strategy::Latest),
+        Some(strategy) => Ok(strategy),
+    }
+}
+
+/// The setting of an aggregate whose block has this number.
+pub fn aggregate_in(
+    alloc: Global,
+    block: u32,
+    known: &mut Known,
+    members: &[(Text, Tree)],
+) -> Result<Aggregate, NoMemory>
+    ensures { IfOk result (λ a. a ≡ with_block (spec.gathering_in (members_json members.now)) block) }
+{
+    Ok(Aggregate {
+        key: expr_at(alloc, Key::CorrelationExpression, members)?,
+        strategy: group_strategy(alloc, members)?,
+        predicate: completion_in(known, members)?,
+        size: small_count_at(Key::CompletionSize, members),
+        timeout: count_at(Key::CompletionTimeout, members),
+        force: flag_at(false, Key::ForceCompletionOnStop, members),
+        block,
+    })
+}

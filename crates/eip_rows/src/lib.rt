@@ -1,0 +1,8 @@
+// The rows of all exchanges, by number, and a look at one: its cursor is given what it has not been given yet.
+#![tactic(auto)]
+
+pub mod look;
+pub mod rows;
+
+pub use look::first_look;
+pub use rows::Rows;

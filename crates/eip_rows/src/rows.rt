@@ -1,0 +1,178 @@
+ghost use Rattle.std.specs.Prelude.{◌≡◌, ◌+◌, ◌<◌, ◌≤◌, ◌-◌, ◌++◌, ◌∷◌, [], OnOk, length, slice_set, slice_get, Some, All, filter};
+ghost use Rattle.eip_tables.specs.declared.row.Row.{Row as ARow};
+ghost use Rattle.std.specs.Prelude.{OnErr};
+ghost use Rattle.eip_tables.specs.Moves.{begun, answered, held, closed, finished, finished_asked, ended_by};
+ghost use Rattle.eip_tables.specs.State.{outside_at, is_wanted};
+ghost use Rattle.eip_tables.specs.Numbers.{IsNumberOf};
+ghost use Rattle.eip_history.specs.Rules.{first};
+ghost use Rattle.eip_tables.specs.Look.{HasCursor, LookedAt};
+
+use crate::look::look_at;
+use eip_exchange::End;
+use eip_frames::{Answer, Request};
+use eip_progress::Cursor;
+use eip_route::RouteSet;
+use eip_tables::row::{self, Row, Stage};
+use eip_tables::wanted::first_wanted;
+use eip_text::NoMemory;
+use std::alloc::Global;
+use std::marker::Model;
+
+/// The rows of all exchanges, by number from 1, with room that is reserved before rows are added.
+#[derive(Drop)]
+pub struct Rows {
+    rows: Vec<Row>,
+}
+
+impl Model for Rows {
+    ghost use Rattle.std.specs.Prelude.{vec_capacity, vec_len, ◌-◌};
+    ghost use Rattle.eip_tables.specs.Numbers.{TableView};
+    ghost use Rattle.eip_tables.specs.declared.row.Row.{Row as TheRow};
+
+    ghost Value = { TableView TheRow };
+
+    ghost view = { λ r. record { items = r.rows.items; spare = vec_capacity r.rows - vec_len r.rows } };
+}
+
+impl Rows {
+    /// No rows, without memory.
+    pub fn new(alloc: Global) -> Rows
+        ensures { result.items ≡ [] }
+    {
+        Rows {
+            rows: Vec::new(alloc),
+        }
+    }
+
+    /// How many exchanges there are.
+    pub fn len(&self) -> usize
+        ensures { result ≡ length self.now.items }
+    {
+        self.rows.len()
+    }
+
+    /// Room for `count` more rows.
+    pub fn reserve(&mut self, count: usize) -> Result<(), NoMemory>
+        ensures items { self.new.items ≡ self.old.items }
+        ensures ok { OnOk result (count ≤ self.new.spare) }
+        ensures spare { self.old.spare ≤ self.new.spare }
+    {
+        Ok(self.rows.reserve(count)?)
+    }
+
+    /// The row of a newborn goes behind the others, into room that was reserved.
+    pub fn put_last(&mut self, row: Row)
+        requires { 0 < self.old.spare }
+        ensures items { self.new.items ≡ self.old.items ++ row ∷ [] }
+        ensures spare { self.old.spare ≤ self.new.spare + 1 }
+    {
+        let _ = self.rows.push(row);
+    }
+
+    /// The row of an exchange.
+    pub fn get(&self, number: u64) -> &Row
+        requires above { 0 < number }
+        requires within { number ≤ length self.now.items }
+        ensures { slice_get self.now.items (number - 1) ≡ Some result.now }
+    {
+        &self.rows[(number - 1) as usize]
+    }
+
+    /// The exchange has this first cursor, and asks this.
+    pub fn begin(&mut self, number: u64, cursor: Cursor, request: Request)
+        requires above { 0 < number }
+        requires within { number ≤ length self.old.items }
+        ensures items { (r : ARow) → slice_get self.old.items (number - 1) ≡ Some r → self.new.items ≡ slice_set self.old.items (number - 1) (begun cursor request r) }
+        ensures spare { self.old.spare ≤ self.new.spare }
+    {
+        row::begin(&mut self.rows[(number - 1) as usize], cursor, request);
+    }
+
+    /// Gives the exchange's cursor an answer, behind which it goes on. On `NoMemory` the rows are as before.
+    pub fn look(
+        &mut self,
+        number: u64,
+        alloc: Global,
+        set: &RouteSet,
+        answer: &Answer,
+    ) -> Result<(), NoMemory>
+        requires above { 0 < number }
+        requires within { number ≤ length self.old.items }
+        requires cursor { (r : ARow) → slice_get self.old.items (number - 1) ≡ Some r → HasCursor set.now answer.now r }
+        ensures ok { OnOk result ((r : ARow) → slice_get self.old.items (number - 1) ≡ Some r → (new : ARow) × (self.new.items ≡ slice_set self.old.items (number - 1) new) × LookedAt set.now answer.now r new) }
+        ensures err { OnErr result (self.new.items ≡ self.old.items) }
+        ensures spare { self.old.spare ≤ self.new.spare }
+    {
+        look_at(&mut self.rows[(number - 1) as usize], alloc, set, answer)
+    }
+
+    /// What the exchange asks is answered by this journal entry; it is handed out.
+    pub fn answer(&mut self, number: u64, entry: usize) -> Option<Request>
+        requires above { 0 < number }
+        requires within { number ≤ length self.old.items }
+        ensures items { (r : ARow) → slice_get self.old.items (number - 1) ≡ Some r → self.new.items ≡ slice_set self.old.items (number - 1) (answered entry r) }
+        ensures request { (r : ARow) → slice_get self.old.items (number - 1) ≡ Some r → result ≡ r.request }
+        ensures spare { self.old.spare ≤ self.new.spare }
+    {
+        row::answer(&mut self.rows[(number - 1) as usize], entry)
+    }
+
+    /// The worker has the exchange in hand; what it asks is handed out.
+    pub fn hold(&mut self, number: u64, worker: u32) -> Option<Request>
+        requires above { 0 < number }
+        requires within { number ≤ length self.old.items }
+        ensures items { (r : ARow) → slice_get self.old.items (number - 1) ≡ Some r → self.new.items ≡ slice_set self.old.items (number - 1) (held worker r) }
+        ensures request { (r : ARow) → slice_get self.old.items (number - 1) ≡ Some r → result ≡ r.request }
+        ensures spare { self.old.spare ≤ self.new.spare }
+    {
+        row::hold(&mut self.rows[(number - 1) as usize], worker)
+    }
+
+    /// The exchange ends so.
+    pub fn close(&mut self, number: u64, stage: Stage)
+        requires above { 0 < number }
+        requires within { number ≤ length self.old.items }
+        ensures items { (r : ARow) → slice_get self.old.items (number - 1) ≡ Some r → self.new.items ≡ slice_set self.old.items (number - 1) (closed stage r) }
+        ensures spare { self.old.spare ≤ self.new.spare }
+    {
+        row::close(&mut self.rows[(number - 1) as usize], stage);
+    }
+
+    /// The exchange ends by the end that it asks for.
+    pub fn finish_asked(&mut self, number: u64)
+        requires above { 0 < number }
+        requires within { number ≤ length self.old.items }
+        ensures items { (r : ARow) → slice_get self.old.items (number - 1) ≡ Some r → self.new.items ≡ slice_set self.old.items (number - 1) (finished_asked r) }
+        ensures spare { self.old.spare ≤ self.new.spare }
+    {
+        row::finish_asked(&mut self.rows[(number - 1) as usize]);
+    }
+
+    /// The exchange ends by this end.
+    pub fn finish(&mut self, number: u64, end: End)
+        requires above { 0 < number }
+        requires within { number ≤ length self.old.items }
+        ensures items { (r : ARow) → slice_get self.old.items (number - 1) ≡ Some r → self.new.items ≡ slice_set self.old.items (number - 1) (finished end r) }
+        ensures spare { self.old.spare ≤ self.new.spare }
+    {
+        row::finish(&mut self.rows[(number - 1) as usize], end);
+    }
+
+    /// The exchange ends by this end, as its source took it.
+    pub fn end_by(&mut self, number: u64, end: End, answer: &Answer)
+        requires above { 0 < number }
+        requires within { number ≤ length self.old.items }
+        ensures items { (r : ARow) → slice_get self.old.items (number - 1) ≡ Some r → self.new.items ≡ slice_set self.old.items (number - 1) (ended_by end answer.now r) }
+        ensures spare { self.old.spare ≤ self.new.spare }
+    {
+        row::end_by(&mut self.rows[(number - 1) as usize], end, answer);
+    }
+
+    /// The first of these numbers whose exchange is known to ask somebody outside, or is not, as it is wanted.
+    pub fn first_wanted(&self, numbers: &[u64], outside: bool) -> Option<u64>
+        requires { All (IsNumberOf self.now.items) numbers.now }
+        ensures { result ≡ first (filter (λ x. is_wanted outside (outside_at self.now.items x)) numbers.now) }
+    {
+        first_wanted(self.rows.as_slice(), numbers, outside)
+    }
+}

@@ -1,0 +1,183 @@
+use crate::lines::Lines;
+use eip_core::Registry;
+use eip_endpoint::{Inlet, Lane, MemoryFiles, MemoryLane, MemorySink};
+use eip_run::Report;
+use eip_run::run::run;
+use eip_simple_read::CratePatterns;
+use eip_text::{NoMemory, Series, Text};
+use std::alloc::Global;
+
+/// The words of the commands on the file `r.json`.
+pub const DRAIN: [&str; 2] = ["drain", "r.json"];
+
+pub const CHECK: [&str; 2] = ["check", "r.json"];
+
+/// The number, from 1, of the call of each object that fails; none for 0.
+#[derive(Clone, Copy)]
+pub struct Failing {
+    pub reading: u64,
+    pub pull: u64,
+    pub write: u64,
+}
+
+/// No call fails.
+pub const SOUND: Failing = Failing {
+    reading: 0,
+    pull: 0,
+    write: 0,
+};
+
+/// What is handed to a command.
+#[derive(Drop)]
+pub struct Given {
+    pub words: Vec<Text>,
+    pub files: MemoryFiles,
+    pub lanes: Vec<Lane>,
+    pub inlets: Vec<Inlet>,
+    pub out: MemorySink,
+}
+
+/// These texts.
+pub fn texts(alloc: Global, words: &[&str]) -> Result<Vec<Text>, NoMemory> {
+    let mut texts = Vec::new(alloc);
+    for word in words {
+        texts.push(Text::of_str(alloc, word)?)?;
+    }
+    Ok(texts)
+}
+
+/// So many times this text.
+pub fn repeated(alloc: Global, text: &str, times: usize) -> Result<String, NoMemory> {
+    let mut out = String::new(alloc);
+    for _ in 0..times {
+        out.push_str(text)?;
+    }
+    Ok(out)
+}
+
+/// These texts in one.
+pub fn joined(alloc: Global, texts: &[&str]) -> Result<String, NoMemory> {
+    let mut out = String::new(alloc);
+    for text in texts {
+        out.push_str(text)?;
+    }
+    Ok(out)
+}
+
+/// A route file of one route from standard input with these steps.
+pub fn route_of(alloc: Global, steps: &str) -> Result<String, NoMemory> {
+    let front = "[{\"from\":{\"uri\":\"stream:in\",\"steps\":";
+    joined(alloc, &[front, steps, "}}]"])
+}
+
+/// The file `r.json` with these bytes.
+fn file_of(alloc: Global, bytes: &str, failing: u64) -> Result<MemoryFiles, NoMemory> {
+    let folder = Text::of_str(alloc, ".")?;
+    let name = Text::of_str(alloc, "r.json")?;
+    let mut copy = Vec::new(alloc);
+    copy.extend_from_slice(bytes.as_bytes())?;
+    let content = vec![in alloc; (folder, name, Series::of(copy))]?;
+    Ok(MemoryFiles::new(alloc, content, vec![in alloc; failing]?))
+}
+
+/// A lane of this name that does all that is asked.
+fn lane(alloc: Global, name: &str) -> Result<Lane, NoMemory> {
+    let name = Text::of_str(alloc, name)?;
+    let object = Box::new(alloc, MemoryLane::new(alloc, Vec::new(alloc)))?;
+    Ok(Lane { name, object })
+}
+
+/// The lanes `a`, `b` and `x`.
+fn lanes(alloc: Global) -> Result<Vec<Lane>, NoMemory> {
+    let mut lanes = Vec::new(alloc);
+    for name in ["lane:a", "lane:b", "lane:x"] {
+        lanes.push(lane(alloc, name)?)?;
+    }
+    Ok(lanes)
+}
+
+/// These lines as the inlet of standard input.
+fn stream(alloc: Global, lines: Vec<Text>, failing: u64) -> Result<Vec<Inlet>, NoMemory> {
+    let object = Box::new(alloc, Lines::new(alloc, lines, failing))?;
+    let name = Text::of_str(alloc, "stream")?;
+    Ok(vec![in alloc; Inlet { name, object }]?)
+}
+
+/// What is handed to a command of these words, where `r.json` has these routes and standard input these lines.
+pub fn given_with(
+    alloc: Global,
+    words: &[&str],
+    routes: &str,
+    lines: &[&str],
+    failing: Failing,
+) -> Result<Given, NoMemory> {
+    let inlets = stream(alloc, texts(alloc, lines)?, failing.pull)?;
+    let lanes = lanes(alloc)?;
+    let failing_writes = vec![in alloc; failing.write]?;
+    Ok(Given {
+        words: texts(alloc, words)?,
+        files: file_of(alloc, routes, failing.reading)?,
+        lanes,
+        inlets,
+        out: MemorySink::new(alloc, failing_writes),
+    })
+}
+
+/// The report of a command.
+pub fn reported(alloc: Global, given: &mut Given) -> Report {
+    let mut patterns = CratePatterns::new(Vec::new(alloc));
+    run(
+        alloc,
+        &given.words,
+        &mut given.files,
+        &mut patterns,
+        &mut given.lanes,
+        &mut given.inlets,
+        &Registry::new(),
+        &mut given.out,
+    )
+}
+
+/// Whether a command comes to this status and writes this.
+fn came(alloc: Global, given: &mut Given, status: u8, text: &str) -> bool {
+    reported(alloc, given).status == status && given.out.bytes() == text.as_bytes()
+}
+
+/// Whether the command of these words, where `r.json` has these routes and standard input these lines, comes to this
+/// status and writes this.
+pub fn comes_to(
+    alloc: Global,
+    words: &[&str],
+    routes: &str,
+    lines: &[&str],
+    status: u8,
+    text: &str,
+) -> Result<bool, NoMemory> {
+    let mut given = given_with(alloc, words, routes, lines, SOUND)?;
+    Ok(came(alloc, &mut given, status, text))
+}
+
+/// The same where these calls fail.
+pub fn comes_at_fault_to(
+    alloc: Global,
+    routes: &str,
+    failing: Failing,
+    status: u8,
+    text: &str,
+) -> Result<bool, NoMemory> {
+    let mut given = given_with(alloc, &DRAIN, routes, &["a", "b"], failing)?;
+    Ok(came(alloc, &mut given, status, text))
+}
+
+/// Whether a line that comes through these steps is drained, with this log and this book.
+pub fn is_stepped(
+    alloc: Global,
+    steps: &str,
+    body: &str,
+    front: &str,
+    totals: &str,
+) -> Result<bool, NoMemory> {
+    let routes = route_of(alloc, steps)?;
+    let text = joined(alloc, &[front, totals])?;
+    comes_to(alloc, &DRAIN, routes.as_str(), &[body], 0, text.as_str())
+}

@@ -1,0 +1,423 @@
+ghost use Rattle.std.specs.Prelude.{◌≡◌, true, IsErrOf, None};
+ghost use Rattle.eip_frames.specs.Fits.{may_exist};
+
+use crate::given::{
+    CHECK, DRAIN, Failing, SOUND, comes_at_fault_to, comes_to, given_with, is_stepped, repeated,
+    reported, route_of,
+};
+use eip_endpoint::{Call, Endpoint, Lane, MemoryLane, Outcome, SendFault};
+use eip_exchange::Message;
+use eip_frames::{Answer, Target};
+use eip_ledger::{Entry, Kind};
+use eip_text::{NoMemory, Text, decimal};
+use std::alloc::Global;
+use std::sync::{Arc, Mutex};
+use std::test::Fail;
+
+/// Steps to a log and to two lanes.
+const STEPS: &str =
+    "[{\"from\":{\"uri\":\"stream:in\",\"steps\":[{\"setBody\":{\"constant\":\"hi\"}},{\"to\":\"log:out\"},{\"to\":\"lane:a\"},{\"to\":\"lane:b\"}]}}]";
+
+/// A step to a log.
+const LOGGED: &str =
+    "[{\"from\":{\"uri\":\"stream:in\",\"steps\":[{\"setBody\":{\"constant\":\"hi\"}},{\"to\":\"log:out\"}]}}]";
+
+/// No steps.
+const NO_STEPS: &str = "[{\"from\":{\"steps\":[],\"uri\":\"stream:in\"}}]";
+
+/// A step to a lane that is not handed in.
+const OTHER_LANE: &str = "[{\"from\":{\"uri\":\"stream:in\",\"steps\":[{\"to\":\"lane:c\"}]}}]";
+
+#[test]
+fn each_line_is_sent_and_the_book_stands_behind_the_log(rt: HostRuntime) -> Result<(), Fail> {
+    let text =
+        "log 1 out: hi\nlog 2 out: hi\nexchange 1 source route1 completed\nexchange 2 source route1 completed\naccepted 2 refused 0\ntotal 2 completed 2 handled 0 failed 0 waiting 0\ndrained\n";
+    let told = comes_to(rt.alloc(), &DRAIN, STEPS, &["a", "b"], 0, text)?;
+    assert!(rt; told);
+    Ok(())
+}
+
+#[test]
+fn empty_input_is_drained(rt: HostRuntime) -> Result<(), Fail> {
+    let text = "accepted 0 refused 0\ntotal 0 completed 0 handled 0 failed 0 waiting 0\ndrained\n";
+    let told = comes_to(rt.alloc(), &DRAIN, STEPS, &[], 0, text)?;
+    assert!(rt; told);
+    Ok(())
+}
+
+#[test]
+fn a_route_without_steps_completes_each_line(rt: HostRuntime) -> Result<(), Fail> {
+    let text =
+        "exchange 1 source route1 completed\nexchange 2 source route1 completed\naccepted 2 refused 0\ntotal 2 completed 2 handled 0 failed 0 waiting 0\ndrained\n";
+    let told = comes_to(rt.alloc(), &DRAIN, NO_STEPS, &["a", "b"], 0, text)?;
+    assert!(rt; told);
+    Ok(())
+}
+
+/// Whether a drain of this path, where `r.json` has these routes, is refused with this text.
+fn is_refused(alloc: Global, path: &str, routes: &str, text: &str) -> Result<bool, NoMemory> {
+    comes_to(alloc, &["drain", path], routes, &[], 1, text)
+}
+
+#[test]
+fn a_missing_route_file_is_told(rt: HostRuntime) -> Result<(), Fail> {
+    let told = is_refused(rt.alloc(), "s.json", STEPS, "error routes $ NoFile\n")?;
+    assert!(rt; told);
+    Ok(())
+}
+
+#[test]
+fn a_lane_that_is_not_handed_in_is_refused(rt: HostRuntime) -> Result<(), Fail> {
+    let text = "error routes $[0].from.steps[0].to NotRegistered lane:c\n";
+    let told = is_refused(rt.alloc(), "r.json", OTHER_LANE, text)?;
+    assert!(rt; told);
+    Ok(())
+}
+
+#[test]
+fn other_words_are_refused(rt: HostRuntime) -> Result<(), Fail> {
+    let told = is_refused(rt.alloc(), "r.json/", STEPS, "error words\n")?;
+    assert!(rt; told);
+    Ok(())
+}
+
+#[test]
+fn a_file_that_is_no_json_is_told(rt: HostRuntime) -> Result<(), Fail> {
+    let told = is_refused(rt.alloc(), "r.json", "[{", "error routes $ NotJson\n")?;
+    assert!(rt; told);
+    Ok(())
+}
+
+/// A letter for a kind of entry: `p` a pull, `a` an exchange accepted, `n` a line noted, `f` an exchange finished, `e` the
+/// end of a source.
+fn letter(kind: &Kind) -> u8 {
+    match kind {
+        Kind::Pull(_) => b'p',
+        Kind::Accept { .. } => b'a',
+        Kind::Answer { answer, .. } => match answer {
+            Answer::Noted => b'n',
+            Answer::Finished => b'f',
+            _ => b'?',
+        },
+        Kind::SourceEnd(_) => b'e',
+        _ => b'?',
+    }
+}
+
+/// Whether the kinds of these entries have these letters.
+fn are_kinds(entries: &[Entry], letters: &[u8]) -> bool {
+    entries.len() == letters.len()
+        && entries
+            .iter()
+            .zip(letters)
+            .all(|(entry, known)| letter(&entry.kind) == *known)
+}
+
+/// Whether a drain of two lines to a log, whose sink fails at its first write, comes to status 2, writes nothing, and has
+/// a journal of these kinds of entries.
+fn is_left_by_a_failing_sink(alloc: Global, letters: &[u8]) -> Result<bool, NoMemory> {
+    let failing = Failing { write: 1, ..SOUND };
+    let mut given = given_with(alloc, &DRAIN, LOGGED, &["a", "b"], failing)?;
+    let report = reported(alloc, &mut given);
+    Ok(
+        report.status == 2
+            && given.out.bytes().is_empty()
+            && are_kinds(report.journal.entries(), letters),
+    )
+}
+
+#[test]
+fn a_sink_that_fails_is_the_outcome_of_a_drained_run_and_leaves_its_journal(
+    rt: HostRuntime,
+) -> Result<(), Fail> {
+    let told = is_left_by_a_failing_sink(rt.alloc(), b"panfpanfpe")?;
+    assert!(rt; told);
+    Ok(())
+}
+
+/// A step to the lane `x`, and a log.
+const SENT: &str =
+    "[{\"from\":{\"uri\":\"stream:in\",\"steps\":[{\"to\":\"lane:x\"},{\"to\":\"log:o\"}]}}]";
+
+/// A lane that a test shares with a run, so that its calls can be looked at behind the run. It tells none to the run.
+#[derive(Drop)]
+struct SharedLane {
+    lane: Arc<Mutex<MemoryLane>>,
+    faults: u64,
+}
+
+impl SharedLane {
+    /// What the shared lane answers; a lane that somebody else holds has failed.
+    fn answer(&mut self, target: &Target, message: &Message) -> Result<(), SendFault>
+        ensures exists { IsErrOf result SendFault.Exists → may_exist target.now ≡ true }
+        ensures faults { self.new.faults ≡ self.old.faults }
+    {
+        match self.lane.try_lock() {
+            Some(mut lane) => lane.send(target, message),
+            None => Err(SendFault::Failed),
+        }
+    }
+}
+
+impl Endpoint for SharedLane {
+    ghost calls = { λ _. None };
+
+    ghost lane_faults = { λ l. l.faults };
+
+    fn send(&mut self, target: &Target, message: &Message) -> Result<(), SendFault> {
+        let answer = self.answer(target, message);
+        if answer == Err(SendFault::Failed) {
+            self.faults = self.faults.saturating_add(1);
+        }
+        answer
+    }
+}
+
+/// Whether a lane's calls came out as done and then as failed.
+fn are_done_and_failed(calls: &[Call]) -> bool {
+    match calls {
+        [first, second] => { first.outcome == Outcome::Done && second.outcome == Outcome::Failed }
+        _ => false,
+    }
+}
+
+/// The lane `x`, which fails its second call.
+fn second_failing(alloc: Global) -> Result<Arc<Mutex<MemoryLane>>, NoMemory> {
+    let lane = MemoryLane::new(alloc, vec![in alloc; 2]?);
+    Ok(Arc::new(alloc, Mutex::new(lane))?)
+}
+
+/// This lane alone, as the lane `x`.
+fn lane_x(alloc: Global, lane: Arc<Mutex<MemoryLane>>) -> Result<Vec<Lane>, NoMemory> {
+    let object = Box::new(alloc, SharedLane { lane, faults: 0 })?;
+    let name = Text::of_str(alloc, "lane:x")?;
+    Ok(vec![in alloc; Lane { name, object }]?)
+}
+
+/// Whether two lines through the lane `x`, which fails its second call, and then a log come to this text, and the lane's
+/// calls came out as done and then as failed.
+fn is_sent_and_failed(alloc: Global, text: &str) -> Result<[bool; 2], NoMemory> {
+    let shared = second_failing(alloc)?;
+    let lanes = lane_x(alloc, shared.clone()?)?;
+    let mut given = given_with(alloc, &DRAIN, SENT, &["a", "b"], SOUND)?;
+    given.lanes = lanes;
+    let status = reported(alloc, &mut given).status;
+    let told = shared
+        .try_lock()
+        .is_some_and(|lane| are_done_and_failed(lane.calls()));
+    Ok([status == 0 && given.out.bytes() == text.as_bytes(), told])
+}
+
+#[test]
+fn a_lane_that_fails_fails_its_exchange_alone(rt: HostRuntime) -> Result<(), Fail> {
+    let text =
+        "log 1 o: a\nexchange 1 source route1 completed\nexchange 2 source route1 failed SendFailed \"lane:x\"\naccepted 2 refused 0\ntotal 2 completed 1 handled 0 failed 1 waiting 0\ndrained\n";
+    let told = is_sent_and_failed(rt.alloc(), text)?;
+    assert!(rt; told == [true; 2]);
+    Ok(())
+}
+
+#[test]
+fn a_source_that_fails_ends_the_run(rt: HostRuntime) -> Result<(), Fail> {
+    let failing = Failing { pull: 2, ..SOUND };
+    let text =
+        "log 1 o: a\nexchange 1 source route1 completed\naccepted 1 refused 0\ntotal 1 completed 1 handled 0 failed 0 waiting 0\nsource fault route1\n";
+    let told = comes_at_fault_to(rt.alloc(), SENT, failing, 2, text)?;
+    assert!(rt; told);
+    Ok(())
+}
+
+#[test]
+fn files_that_fail_end_the_command(rt: HostRuntime) -> Result<(), Fail> {
+    let failing = Failing {
+        reading: 1,
+        ..SOUND
+    };
+    let told = comes_at_fault_to(rt.alloc(), SENT, failing, 2, "error files\n")?;
+    assert!(rt; told);
+    Ok(())
+}
+
+#[test]
+fn a_file_of_more_than_its_bytes_is_told(rt: HostRuntime) -> Result<(), Fail> {
+    let routes = repeated(rt.alloc(), " ", 1_048_577)?;
+    let told = is_refused(
+        rt.alloc(),
+        "r.json",
+        routes.as_str(),
+        "error routes $ TooLong\n",
+    )?;
+    assert!(rt; told);
+    Ok(())
+}
+
+/// What stands in the book of one exchange behind its line, by how many completed and failed.
+pub const COMPLETED: &str =
+    "accepted 1 refused 0\ntotal 1 completed 1 handled 0 failed 0 waiting 0\ndrained\n";
+
+pub const FAILED: &str =
+    "accepted 1 refused 0\ntotal 1 completed 0 handled 0 failed 1 waiting 0\ndrained\n";
+
+/// Steps, a line, what is printed before the totals, and the totals.
+const STEPPED: [(&str, &str, &str, &str); 9] = [
+    (
+        "[{\"setHeader\":{\"name\":\"n\",\"constant\":9}},{\"log\":\"${header.N}\"}]",
+        "x",
+        "log 1 route1: 9\nexchange 1 source route1 completed\n",
+        COMPLETED,
+    ),
+    (
+        "[{\"setHeader\":{\"name\":\"n\",\"constant\":true}},{\"remove-header\":\"N\"},{\"log\":\"<${header.n}>\"}]",
+        "x",
+        "log 1 route1: <>\nexchange 1 source route1 completed\n",
+        COMPLETED,
+    ),
+    (
+        "[{\"setProperty\":{\"name\":\"p\",\"simple\":\"${body}!\"}},{\"setBody\":{\"exchangeProperty\":\"p\"}},{\"to\":\"log:o\"}]",
+        "x",
+        "log 1 o: x!\nexchange 1 source route1 completed\n",
+        COMPLETED,
+    ),
+    (
+        "[{\"log\":{\"message\":\"${exchangeId} ${routeId} ${body}\",\"logName\":\"named\"}}]",
+        "x",
+        "log 1 named: 1 route1 x\nexchange 1 source route1 completed\n",
+        COMPLETED,
+    ),
+    (
+        "[{\"setBody\":{\"constant\":\"a\\tb\\n\\\"\"}},{\"to\":\"log:o\"}]",
+        "x",
+        "log 1 o: a\\x09b\\n\"\nexchange 1 source route1 completed\n",
+        COMPLETED,
+    ),
+    (
+        "[{\"throwException\":{\"exceptionType\":\"acme.Bad\",\"message\":\"no ${body}\"}},{\"to\":\"log:o\"}]",
+        "a",
+        "exchange 1 source route1 failed Bad \"no a\"\n",
+        FAILED,
+    ),
+    (
+        "[{\"throwException\":{\"exceptionType\":\"Bad\",\"message\":\"say \\\"${body}\\\"\"}}]",
+        "a",
+        "exchange 1 source route1 failed Bad \"say \\\"a\\\"\"\n",
+        FAILED,
+    ),
+    (
+        "[{\"setBody\":{\"header\":\"none\"}},{\"log\":\"<${body}>\"}]",
+        "a",
+        "log 1 route1: <>\nexchange 1 source route1 completed\n",
+        COMPLETED,
+    ),
+    (
+        "[{\"setBody\":{\"simple\":\"${exception.message}\"}},{\"log\":\"<${body}>\"}]",
+        "a",
+        "log 1 route1: <>\nexchange 1 source route1 completed\n",
+        COMPLETED,
+    ),
+];
+
+#[test]
+fn simple_steps_do_what_they_mean(rt: HostRuntime) -> Result<(), Fail> {
+    for (steps, body, front, totals) in STEPPED {
+        let told = is_stepped(rt.alloc(), steps, body, front, totals)?;
+        assert!(rt; told, "of {steps}");
+    }
+    Ok(())
+}
+
+/// Whether a line of so many bytes, doubled by a step, comes to this book.
+fn is_doubled(alloc: Global, length: usize, front: &str, totals: &str) -> Result<bool, NoMemory> {
+    let body = repeated(alloc, "x", length)?;
+    let steps = "[{\"setBody\":{\"simple\":\"${body}${body}\"}}]";
+    is_stepped(alloc, steps, body.as_str(), front, totals)
+}
+
+#[test]
+fn a_body_of_more_than_its_bytes_fails(rt: HostRuntime) -> Result<(), Fail> {
+    let line = "exchange 1 source route1 completed\n";
+    let longest = is_doubled(rt.alloc(), 32_768, line, COMPLETED)?;
+    assert!(rt; longest);
+    let line = "exchange 1 source route1 failed TooLong \"\"\n";
+    let longer = is_doubled(rt.alloc(), 32_769, line, FAILED)?;
+    assert!(rt; longer);
+    Ok(())
+}
+
+/// Steps that set the headers `h1` to `hN`.
+fn headers_to(alloc: Global, count: u64) -> Result<String, NoMemory> {
+    let mut steps = String::from_str(alloc, "[")?;
+    for number in 1..count {
+        steps.push_str("{\"setHeader\":{\"name\":\"h")?;
+        steps.push_str(decimal(alloc, number)?.as_str())?;
+        steps.push_str("\",\"constant\":1}},")?;
+    }
+    steps.push_str("{\"setHeader\":{\"name\":\"h")?;
+    steps.push_str(decimal(alloc, count)?.as_str())?;
+    steps.push_str("\",\"constant\":1}}]")?;
+    Ok(steps)
+}
+
+#[test]
+fn the_sixty_fifth_header_fails(rt: HostRuntime) -> Result<(), Fail> {
+    let alloc = rt.alloc();
+    let steps = headers_to(alloc, 64)?;
+    let line = "exchange 1 source route1 completed\n";
+    let most = is_stepped(alloc, steps.as_str(), "x", line, COMPLETED)?;
+    assert!(rt; most);
+    let steps = headers_to(alloc, 65)?;
+    let line = "exchange 1 source route1 failed TooManyHeaders \"h65\"\n";
+    let more = is_stepped(alloc, steps.as_str(), "x", line, FAILED)?;
+    assert!(rt; more);
+    Ok(())
+}
+
+/// Steps that no drain runs, and what is told.
+const REFUSED: [(&str, &str); 2] = [
+    (
+        "[{\"filter\":{\"simple\":\"${body} == 'x'\",\"steps\":[{\"shout\":\"y\"}]}}]",
+        "error routes $[0].from.steps[0].filter.steps[0] UnknownStep shout\n",
+    ),
+    (
+        "[{\"filter\":{\"simple\":\"${body} == 'x'\",\"steps\":[]}}]",
+        "error routes $ NotBuilt\n",
+    ),
+];
+
+#[test]
+fn routes_that_are_wrong_or_not_run_are_refused(rt: HostRuntime) -> Result<(), Fail> {
+    for (steps, text) in REFUSED {
+        let routes = route_of(rt.alloc(), steps)?;
+        let told = is_refused(rt.alloc(), "r.json", routes.as_str(), text)?;
+        assert!(rt; told, "of {steps}");
+    }
+    Ok(())
+}
+
+/// Whether a check of these routes comes to this status and text.
+fn is_checked(alloc: Global, routes: &str, status: u8, text: &str) -> Result<bool, NoMemory> {
+    comes_to(alloc, &CHECK, routes, &[], status, text)
+}
+
+/// Route files and what their check prints.
+const CHECKED: [(&str, u8, &str); 3] = [
+    (
+        "[{\"route\":{\"id\":\"r\",\"from\":{\"uri\":\"stream:in\"},\"steps\":[{\"set-body\":{\"constant\":\"x\"}},{\"recipient-list\":{\"simple\":\"${headers.to}\"}}]}}]",
+        0,
+        "[{\"route\":{\"from\":{\"steps\":[{\"setBody\":{\"constant\":\"x\"}},{\"recipientList\":{\"simple\":\"${header.to}\"}}],\"uri\":\"stream:in\"},\"id\":\"r\"}}]\n",
+    ),
+    (
+        "[{\"route\":{\"id\":\"r\",\"from\":{\"uri\":\"stream:in\"},\"steps\":[{\"setBody\":{\"constant\":\"x\"}},{\"recipientList\":{\"simple\":\"${header.to}\"}}]}}]",
+        0,
+        "[{\"route\":{\"from\":{\"steps\":[{\"setBody\":{\"constant\":\"x\"}},{\"recipientList\":{\"simple\":\"${header.to}\"}}],\"uri\":\"stream:in\"},\"id\":\"r\"}}]\n",
+    ),
+    ("{}", 1, "error routes $ WrongKind\n"),
+];
+
+#[test]
+fn a_check_prints_the_canonical_text_or_the_first_fault(rt: HostRuntime) -> Result<(), Fail> {
+    for (routes, status, text) in CHECKED {
+        let told = is_checked(rt.alloc(), routes, status, text)?;
+        assert!(rt; told, "of {routes}");
+    }
+    Ok(())
+}

@@ -1,0 +1,36 @@
+-- The tables before the first entry.
+use Rattle.std.proofs.Common.{◌≡◌, ℕ, zero, suc, false, List, [], length, None, refl, sym}
+use Rattle.std.proofs.lemmas.List.{append-nil}
+use Rattle.eip_route.specs.declared.route.RouteSet.{RouteSet}
+use Rattle.eip_history.specs.Own.{turns, source_state, numbers_below}
+use Rattle.eip_history.specs.Births.{story}
+use Rattle.eip_history.specs.Place.{pulls_out}
+use Rattle.eip_history.specs.Rules.{IsLegal, served}
+use Rattle.eip_history.specs.Stop.{first_fault}
+use Rattle.eip_plan.specs.Plan.{plan_of}
+use Rattle.eip_tables.specs.declared.row.SourceState.{SourceState}
+use Rattle.eip_tables.specs.Rows.{SourcesStand}
+use Rattle.eip_tables.specs.Stands.{Stands}
+
+nobody-below : (n : ℕ) → length (numbers_below (λ t. false) n) ≡ 0
+nobody-below n = none n
+  where
+    none : (n : ℕ) → length (numbers_below (λ t. false) n) ≡ 0
+    none zero = refl
+    none (suc n) = rw append-nil (none n)
+
+pub first-tables : (set : RouteSet) (workers limit : ℕ) (sources : List SourceState) → SourcesStand (plan_of set) [] sources
+    → Stands set workers limit [] (record { rows = []; ready = []; sources = sources; turns = 0; fault = None; notes = []; taken = 0; pulled = 0; live = 0 })
+unfolding IsLegal story turns first_fault served pulls_out source_state
+first-tables set workers limit sources h = record {
+  legal = tt;
+  rows = tt;
+  ready = refl;
+  sources = h;
+  turns = refl;
+  fault = refl;
+  notes = refl;
+  taken = refl;
+  pulled = sym (nobody-below (plan_of set).routes);
+  live = refl;
+}

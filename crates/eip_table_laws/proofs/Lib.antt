@@ -1,0 +1,16 @@
+pub mod RowNumbers
+pub mod RowPlaces
+pub mod RowSteps
+pub mod SourceEvents
+pub mod OwnEvents
+pub mod SourceCalls
+pub mod OwnCalls
+pub mod LookCalls
+pub mod InnerCalls
+pub mod StopCalls
+pub mod Bounds
+pub mod Empty
+pub mod ListedNumbers
+pub mod HandCalls
+pub mod LookOutside
+pub mod OriginCalls

@@ -1,0 +1,3 @@
+pub mod PutIn
+pub mod FirstSources
+pub mod FirstWanted

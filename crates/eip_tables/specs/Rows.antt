@@ -1,0 +1,163 @@
+-- How a row stands for an exchange, by the exchange's own entries and its cursor.
+use Rattle.std.specs.Prelude.{ℕ, ◌≡◌, ◌<◌, Bool, true, false, cond, List, [], ◌∷◌, ◌++◌, Option, Some, None, is_some, reverse, slice_get, length}
+use Rattle.std.specs.List.{list_all}
+use Rattle.eip_exchange.specs.declared.birth.Birth.{Birth}
+use Rattle.eip_exchange.specs.declared.message.Message.{Message}
+use Rattle.eip_exchange.specs.declared.end.End.{End}
+use Rattle.eip_exchange.specs.declared.end.End.TheVariants as end
+use Rattle.eip_exchange.specs.Ends.{out_of_memory, commit_failed}
+use Rattle.eip_uri.specs.Inlets.{inlet_of}
+use Rattle.eip_route.specs.declared.route.Route.{Route}
+use Rattle.eip_route.specs.declared.route.RouteSet.{RouteSet}
+use Rattle.eip_frames.specs.declared.request.At.{At}
+use Rattle.eip_frames.specs.declared.request.Request.{Request}
+use Rattle.eip_frames.specs.declared.answer.Answer.{Answer as Reply}
+use Rattle.eip_frames.specs.Fate.{AsksNext, Ends}
+use Rattle.eip_frames.specs.Fits.{is_outside}
+use Rattle.eip_ledger.specs.declared.entry.Entry.{Entry}
+use Rattle.eip_ledger.specs.declared.entry.Kind.TheVariants.{Accept, Answer}
+use Rattle.eip_meaning.specs.Meaning.{mean, item_of}
+use Rattle.eip_progress.specs.declared.cursor.Cursor.{Cursor}
+use Rattle.eip_progress.specs.Rest.{rest, IsFirst, AnswerFits}
+use Rattle.eip_history.specs.Plan.{Plan}
+use Rattle.eip_history.specs.Own.{Past, own, answers, starved, taker, last_answer, source_state}
+use Rattle.eip_history.specs.Own as own_of
+use Rattle.eip_history.specs.Births.{fate, item_birth}
+use Rattle.eip_history.specs.Place.{pause_of, Runs, end_of}
+use Rattle.eip_history.specs.Rules.{IsSource}
+use Rattle.eip_plan.specs.Plan.{plan_of}
+use Rattle.eip_tables.specs.Closing.{Closing}
+use Rattle.eip_tables.specs.Closing as closing
+use Rattle.eip_tables.specs.State.{State, state_of}
+use Rattle.eip_tables.specs.State as state
+use Rattle.eip_tables.specs.declared.row.Row.{Row}
+use Rattle.eip_tables.specs.declared.row.SourceState.{SourceState}
+use Rattle.eip_tables.specs.declared.row.SourceState.TheVariants as source
+
+-- the entry with an index from 0, the oldest first
+unfoldable pub entry_at : Past → ℕ → Option Entry
+entry_at past i = slice_get (reverse past) i
+
+-- the exchange was born of the item that this entry accepted
+pub record IsBornAt (s : Plan) (past : Past) (i : ℕ) (b : Birth) : Type 0 where
+  pub worker : ℕ
+  pub source : ℕ
+  pub item : List ℕ
+  pub message : Message
+  pub entry : entry_at past i ≡ Some (record { worker = worker; kind = Accept source item message })
+  pub birth : b ≡ item_birth s b.number source item message
+
+-- the end that a closing stands for
+abbrev pub closed_end : Birth → Closing → End
+closed_end b closing.Completed = end.Completed
+closed_end b closing.Handled = end.Handled
+closed_end b (closing.Failed f) = end.Failed f
+closed_end b closing.Starved = out_of_memory
+closed_end b closing.NotCommitted = commit_failed (item_of b.origin)
+
+-- the cursor stands for the exchange's answers so far and those of the list behind them
+pub record Follows (set : RouteSet) (past : Past) (b : Birth) (c : Cursor) (more : List Reply) (t : Option ℕ) : Type 0 where
+  pub later : IsFirst c → ⊥
+  pub fed : starved (own b.number past) ≡ false
+  pub taken : taker (own b.number past) ≡ t
+  pub runs : pause_of (last_answer (own b.number past)) ≡ Runs
+  pub rests : (A : List Reply) → rest set c (more ++ A) ≡ mean set b (answers (own b.number past) ++ A)
+
+-- it asks this request
+pub record IsAsking (set : RouteSet) (past : Past) (b : Birth) (c : Cursor) (q : Request) (t : Option ℕ) : Type 0 where
+  pub follows : Follows set past b c [] t
+  pub at : At
+  pub asks : rest set c [] ≡ AsksNext q at
+
+-- it has the answer of this entry, which does not end it
+pub record HasAnswer (set : RouteSet) (past : Past) (b : Birth) (c : Cursor) (i : ℕ) : Type 0 where
+  pub worker : ℕ
+  pub answer : Reply
+  pub entry : entry_at past i ≡ Some (record { worker = worker; kind = Answer b.number answer })
+  pub follows : Follows set past b c (answer ∷ []) None
+  pub fitting : AnswerFits (rest set c []) answer
+  pub lives : end_of (fate (plan_of set) past b) ≡ None
+
+-- it has ended so
+pub record HasEnded (set : RouteSet) (past : Past) (b : Birth) (c : Closing) : Type 0 where
+  pub taken : taker (own b.number past) ≡ None
+  pub message : Message
+  pub ends : fate (plan_of set) past b ≡ Ends (closed_end b c) message
+
+abbrev pub StateStands : RouteSet → Past → Birth → State → Type 0
+StateStands set past b state.New = own b.number past ≡ []
+StateStands set past b (state.Asks c q) = IsAsking set past b c q None
+StateStands set past b (state.Held c w) = (q : Request) × IsAsking set past b c q (Some w) × (is_outside q ≡ true)
+StateStands set past b (state.Answered c i) = HasAnswer set past b c i
+StateStands set past b (state.Ended c) = HasEnded set past b c
+StateStands set past b state.Broken = ⊥
+
+pub record RowStands (set : RouteSet) (past : Past) (b : Birth) (r : Row) : Type 0 where
+  pub born : IsBornAt (plan_of set) past r.born b
+  pub stands : StateStands set past b (state_of r)
+
+-- the rows by the place of their exchange
+abbrev pub state_ready : State → Bool
+state_ready state.New = true
+state_ready (state.Asks c q) = true
+state_ready (state.Held c w) = false
+state_ready (state.Answered c i) = true
+state_ready _ = false
+
+abbrev pub state_held : State → Bool
+state_held (state.Held c w) = true
+state_held _ = false
+
+abbrev pub state_live : State → Bool
+state_live (state.Ended c) = false
+state_live _ = true
+
+abbrev pub row_ready : Row → Bool
+row_ready r = state_ready (state_of r)
+
+abbrev pub row_held : Row → Bool
+row_held r = state_held (state_of r)
+
+abbrev pub row_live : Row → Bool
+row_live r = state_live (state_of r)
+
+-- where a source stands, as the books keep it
+abbrev pub kept_state : own_of.SourceState → SourceState
+kept_state own_of.Idle = source.Idle
+kept_state (own_of.Out w) = source.Out w
+kept_state own_of.Done = source.Done
+
+abbrev pub source_row : Plan → Past → ℕ → SourceState
+source_row s past r = cond (s.is_source r) (kept_state (source_state r past)) source.Unused
+
+-- the states of all routes' sources, by the index of the route
+pub record SourcesStand (s : Plan) (past : Past) (rows : List SourceState) : Type 0 where
+  pub many : length rows ≡ s.routes
+  pub each : (r : ℕ) → r < s.routes → slice_get rows r ≡ Some (source_row s past r)
+
+-- a source that may be pulled
+abbrev pub is_idle : SourceState → Bool
+is_idle source.Idle = true
+is_idle _ = false
+
+-- a route that has no source, or one that is finished
+abbrev pub is_done_row : SourceState → Bool
+is_done_row source.Unused = true
+is_done_row source.Done = true
+is_done_row _ = false
+
+-- every source is finished
+abbrev pub are_done : List SourceState → Bool
+are_done rows = list_all is_done_row rows
+
+abbrev pub first_state : Bool → SourceState
+first_state true = source.Idle
+first_state false = source.Unused
+
+-- where the source of a route stands before the first entry
+abbrev pub first_row : Route → SourceState
+first_row r = first_state (is_some (inlet_of r.from))
+
+-- the route has a source, which may be pulled but for the limit
+abbrev pub IsIdleSource : Plan → Past → ℕ → Type 0
+IsIdleSource s past t = IsSource s t × (source_state t past ≡ own_of.Idle)

@@ -1,0 +1,48 @@
+ghost use Rattle.std.specs.Prelude.{◌≡◌, ℕ, Some};
+ghost use Rattle.eip_frames.specs.declared.request.Request.{Request as ARequest};
+ghost use Rattle.eip_tables.specs.Asking.{asked_kind};
+
+use eip_frames::{Request, is_outside};
+
+/// What kind of answer an exchange waits for.
+#[derive(Clone, Copy, Debug, PartialEq, Eq)]
+pub enum Asked {
+    /// A line of the log is to be written.
+    Line,
+    /// It is to end.
+    End,
+    /// Somebody outside is to answer.
+    Outside,
+    /// No such answer is given yet.
+    Unknown,
+}
+
+/// What came of a look at an exchange: its answer was made, or it waits for somebody outside.
+#[derive(Clone, Copy, Debug, PartialEq, Eq)]
+pub enum Inner {
+    Did,
+    Outside,
+}
+
+fn kind_of(request: &Request) -> Asked
+    ensures { result ≡ asked_kind request.now }
+{
+    if is_outside(request) {
+        return Asked::Outside;
+    }
+    match request {
+        Request::Log { .. } => Asked::Line,
+        Request::Finish { .. } => Asked::End,
+        _ => Asked::Unknown,
+    }
+}
+
+/// The kind of a request, where there is one.
+pub fn asked_of(request: &Option<Request>) -> Asked
+    ensures { (q : ARequest) → request.now ≡ Some q → result ≡ asked_kind q }
+{
+    match request {
+        Some(request) => kind_of(request),
+        None => Asked::Unknown,
+    }
+}

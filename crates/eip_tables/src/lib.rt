@@ -1,0 +1,20 @@
+// The tables that stand for a history: rows, rising numbers, sources, and what a row shows. They know no call of the books.
+#![tactic(auto)]
+
+pub mod asking;
+pub mod notes;
+pub mod origin;
+pub mod places;
+pub mod rising;
+pub mod row;
+pub mod sources;
+pub mod stop;
+pub mod table;
+pub mod wanted;
+
+pub use asking::{Asked, Inner};
+pub use origin::OriginView;
+pub use rising::RisingNumbers;
+pub use row::{Row, SourceState, Stage};
+pub use sources::Sources;
+pub use table::Table;

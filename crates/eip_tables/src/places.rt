@@ -1,0 +1,63 @@
+ghost use Rattle.std.specs.Prelude.{◌≡◌, IfOk, Some, slice_get, codes, [], List, ℕ};
+ghost use Rattle.eip_exchange.specs.Ends.{fault};
+ghost use Rattle.eip_tables.specs.Places.{item_at, failed_place, shown};
+
+use crate::row::{Row, Stage};
+use eip_exchange::{End, Fault};
+use eip_ledger::{Entry, Kind, Place};
+use eip_text::{NoMemory, Text};
+use std::alloc::Global;
+
+/// The item that the entry with this index accepted.
+fn item_of(alloc: Global, entries: &[Entry], born: usize) -> Result<Text, NoMemory>
+    ensures { IfOk result (λ t. t ≡ item_at (slice_get entries.now born)) }
+{
+    let Some(entry) = entries.get(born) else {
+        return Text::of_str(alloc, "");
+    };
+    match &entry.kind {
+        Kind::Accept { item, .. } => item.copy(),
+        _ => Text::of_str(alloc, ""),
+    }
+}
+
+/// The place of an exchange that failed with this fault.
+fn failed(fault: &Option<Fault>) -> Result<Place, NoMemory>
+    ensures { IfOk result (λ p. p ≡ failed_place fault.now) }
+{
+    match fault {
+        Some(fault) => Ok(Place::Ended(End::Failed(fault.copy()?))),
+        None => Ok(Place::Ready),
+    }
+}
+
+/// A fault by its kind and text.
+fn fault_of(alloc: Global, kind: &str, text: Text) -> Result<Fault, NoMemory>
+    ensures { IfOk result (λ f. f ≡ fault kind.now text) }
+{
+    let kind = Text::of_str(alloc, kind)?;
+    Ok(Fault { kind, text })
+}
+
+/// The place of an exchange, by its row.
+pub fn place_of(alloc: Global, row: &Row, entries: &[Entry]) -> Result<Place, NoMemory>
+    ensures { IfOk result (λ p. p ≡ shown entries.now row.now) }
+{
+    match row.stage {
+        Stage::Held(worker) => Ok(Place::InHand(worker)),
+        Stage::Completed => Ok(Place::Ended(End::Completed)),
+        Stage::Handled => Ok(Place::Ended(End::Handled)),
+        Stage::Failed => failed(&row.fault),
+        Stage::Starved => {
+            let text = Text::of_str(alloc, "")?;
+            let fault = fault_of(alloc, "OutOfMemory", text)?;
+            Ok(Place::Ended(End::Failed(fault)))
+        }
+        Stage::NotCommitted => {
+            let item = item_of(alloc, entries, row.born)?;
+            let fault = fault_of(alloc, "CommitFailed", item)?;
+            Ok(Place::Ended(End::Failed(fault)))
+        }
+        Stage::New | Stage::Asks | Stage::Answered(_) => Ok(Place::Ready),
+    }
+}

@@ -1,0 +1,97 @@
+ghost use Rattle.std.specs.Prelude.{◌≡◌, ◌+◌, ◌<◌, ◌≤◌, ◌-◌, ◌++◌, ◌∷◌, [], OnOk, length};
+ghost use Rattle.eip_history.specs.Tables.{without, put_in};
+ghost use Rattle.eip_history.specs.Rules.{first};
+ghost use Rattle.eip_tables.specs.Numbers.{place_in};
+
+use eip_text::NoMemory;
+use std::alloc::Global;
+use std::marker::Model;
+
+/// Numbers in rising order, with room that is reserved before they are added.
+#[derive(Drop)]
+pub struct RisingNumbers {
+    numbers: Vec<u64>,
+}
+
+impl Model for RisingNumbers {
+    ghost use Rattle.std.specs.Prelude.{vec_capacity, vec_len, ◌-◌};
+    ghost use Rattle.eip_tables.specs.Numbers.{NumbersView};
+
+    ghost Value = { NumbersView };
+
+    ghost view = { λ r. record { numbers = r.numbers.items; spare = vec_capacity r.numbers - vec_len r.numbers } };
+}
+
+impl RisingNumbers {
+    /// No numbers, without memory.
+    pub fn new(alloc: Global) -> RisingNumbers
+        ensures { result.numbers ≡ [] }
+    {
+        RisingNumbers {
+            numbers: Vec::new(alloc),
+        }
+    }
+
+    /// The first one.
+    pub fn least(&self) -> Option<u64>
+        ensures { result ≡ first self.now.numbers }
+    {
+        self.numbers.first().copied()
+    }
+
+    /// The numbers, the least first.
+    pub fn numbers(&self) -> &[u64]
+        ensures { result.now ≡ self.now.numbers }
+    {
+        self.numbers.as_slice()
+    }
+
+    /// Room for `count` more numbers.
+    pub fn reserve(&mut self, count: usize) -> Result<(), NoMemory>
+        ensures numbers { self.new.numbers ≡ self.old.numbers }
+        ensures ok { OnOk result (count ≤ self.new.spare) }
+        ensures spare { self.old.spare ≤ self.new.spare }
+    {
+        Ok(self.numbers.reserve(count)?)
+    }
+
+    /// A number above all others goes behind them, into room that was reserved.
+    pub fn put_last(&mut self, number: u64)
+        requires { 0 < self.old.spare }
+        ensures numbers { self.new.numbers ≡ self.old.numbers ++ number ∷ [] }
+        ensures spare { self.old.spare ≤ self.new.spare + 1 }
+    {
+        let _ = self.numbers.push(number);
+    }
+
+    /// A number goes before the first greater one, into room that was reserved.
+    pub fn put_in(&mut self, number: u64)
+        requires { 0 < self.old.spare }
+        ensures numbers { self.new.numbers ≡ put_in number self.old.numbers }
+        ensures spare { self.old.spare ≤ self.new.spare + 1 }
+    {
+        let at = place_of(self.numbers.as_slice(), number);
+        let _ = self.numbers.insert(at, number);
+    }
+
+    /// The number goes, where it is there.
+    pub fn remove(&mut self, number: u64)
+        ensures numbers { self.new.numbers ≡ without number self.old.numbers }
+        ensures spare { self.old.spare ≤ self.new.spare }
+    {
+        self.numbers.retain(|n| *n != number);
+    }
+}
+
+/// Where a number goes: before the first greater one.
+fn place_of(numbers: &[u64], number: u64) -> usize
+    ensures within { result ≤ length numbers.now }
+    ensures place { place_in number numbers.now ≡ result }
+{
+    for (at, other) in numbers.iter().enumerate() {
+        if number < *other {
+            return at;
+        }
+    }
+    numbers.len()
+}
