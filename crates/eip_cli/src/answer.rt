@@ -1,14 +1,15 @@
-ghost use Rattle.std.specs.Prelude.{◌≡◌, ◌∷◌, [], None, codes, IfOk, IfErr, IfSome, OnErr};
+ghost use Rattle.std.specs.Prelude.{◌≡◌, [], None, IfOk, IfErr, IfSome, OnErr};
 ghost use Rattle.std.specs.Process.{exit_status};
 ghost use Rattle.std.specs.Result.{IsOkAnd};
 ghost use Rattle.eip_host.specs.Outputs.{Said};
 ghost use Rattle.eip_host.specs.Words.{question_in, text_of};
-ghost use Rattle.eip_cli.specs.Answers.{Given, WasRun, Commanded, TellsFault, stream_over};
+ghost use Rattle.eip_run.specs.Given.{outside};
+ghost use Rattle.eip_cli.specs.Answers.{WasRun, Commanded, TellsFault, stream_over};
 
 use eip_core::Registry;
-use eip_endpoint::{Files, Inlet, Lane, Sink, Source};
+use eip_endpoint::{Endpoint, Files, Inlet, Lane, Sink, Source};
 use eip_host::{question_of, say};
-use eip_run::run::run;
+use eip_run::run;
 use eip_simple_read::Patterns;
 use eip_text::{NoMemory, Text, TextFault};
 use std::alloc::Global;
@@ -22,15 +23,18 @@ const NO_MEMORY: u8 = 5;
 
 /// Runs a command over a source as the inlet `stream` and no lane, and answers the status of its outcome. Where memory is wanting
 /// for that, nothing is done.
-fn carry_out<F: Files, P: Patterns, O: Sink>(
+fn carry_out<F: Files, P: Patterns, S: Source, O: Sink>(
     alloc: Global,
     words: &[Text],
-    source: Result<Box<dyn Source>, NoMemory>,
+    source: Result<S, NoMemory>,
     files: &mut F,
     patterns: &mut P,
     out: &mut O,
 ) -> Result<u8, NoMemory>
-    ensures ran { IfOk result (λ status. IsOkAnd source (λ s. WasRun (record { words = words.now; files = F.files files.old; files_before = F.files_faults files.old; files_after = F.files_faults files.new; patterns_before = P.pattern_faults patterns.old; patterns_after = P.pattern_faults patterns.new }) (stream_over ⟦<dyn Source as Source>⟧ s ∷ []) (O.bytes out.old) (O.bytes out.new) (O.sink_faults out.old) (O.sink_faults out.new) status)) }
+    ensures ran { IfOk result (λ status. IsOkAnd source (λ s. WasRun words.now
+        (outside F.Files O.Sink files.old (P.pattern_faults patterns.old) [] [] out.old)
+        (outside F.Files O.Sink files.new (P.pattern_faults patterns.new) [] [] out.new)
+        (stream_over S.Source s) status)) }
     ensures files { OnErr result (F.files_faults files.new ≡ F.files_faults files.old) }
     ensures patterns { OnErr result (P.pattern_faults patterns.new ≡ P.pattern_faults patterns.old) }
     ensures out { OnErr result (out.new ≡ out.old) }
@@ -40,7 +44,7 @@ fn carry_out<F: Files, P: Patterns, O: Sink>(
         name: Text::of_str(alloc, "stream")?,
         object: source?,
     })?;
-    let mut lanes: Vec<Lane> = Vec::new(alloc);
+    let mut lanes: Vec<Lane<Box<dyn Endpoint>>> = Vec::new(alloc);
     let registry = Registry::new();
     let report = run(
         alloc,
@@ -56,16 +60,19 @@ fn carry_out<F: Files, P: Patterns, O: Sink>(
 }
 
 /// Answers words: what they ask of the program itself is told, and others are run as a command.
-fn answer_words<F: Files, P: Patterns, O: Sink>(
+fn answer_words<F: Files, P: Patterns, S: Source, O: Sink>(
     alloc: Global,
     words: &[Text],
-    source: Result<Box<dyn Source>, NoMemory>,
+    source: Result<S, NoMemory>,
     files: &mut F,
     patterns: &mut P,
     out: &mut O,
 ) -> u8
     ensures question { IfSome (question_in words.now) (λ q. Said (text_of q) 0 (O.bytes out.old) (O.bytes out.new) (O.sink_faults out.old) (O.sink_faults out.new) result) }
-    ensures command { question_in words.now ≡ None → Commanded (record { words = words.now; files = F.files files.old; files_before = F.files_faults files.old; files_after = F.files_faults files.new; patterns_before = P.pattern_faults patterns.old; patterns_after = P.pattern_faults patterns.new }) source (stream_over ⟦<dyn Source as Source>⟧) (O.bytes out.old) (O.bytes out.new) (O.sink_faults out.old) (O.sink_faults out.new) result }
+    ensures command { question_in words.now ≡ None → Commanded S.Source words.now source
+        (outside F.Files O.Sink files.old (P.pattern_faults patterns.old) [] [] out.old)
+        (outside F.Files O.Sink files.new (P.pattern_faults patterns.new) [] [] out.new)
+        result }
 {
     if let Some(question) = question_of(words) {
         return say(out, question.text(), 0);
@@ -90,17 +97,22 @@ fn tell_fault<O: Sink>(fault: TextFault, out: &mut O) -> u8
 /// are told. Other words are run as a command, with the files and the patterns that are handed in and with the source
 /// as the inlet `stream`. Where the host gave no words since one of them is not UTF-8, that is told as words that are
 /// refused; where memory was wanting, that is told.
-pub fn answer<F: Files, P: Patterns, O: Sink>(
+pub fn answer<F: Files, P: Patterns, S: Source, O: Sink>(
     alloc: Global,
     words: Result<Vec<Text>, TextFault>,
-    source: Result<Box<dyn Source>, NoMemory>,
+    source: Result<S, NoMemory>,
     files: &mut F,
     patterns: &mut P,
     out: &mut O,
 ) -> ExitCode
-    ensures no_words { IfErr words (λ fault. TellsFault fault (O.bytes out.old) (O.bytes out.new) (O.sink_faults out.old) (O.sink_faults out.new) (exit_status result)) }
-    ensures question { IfOk words (λ w. IfSome (question_in w.items) (λ q. Said (text_of q) 0 (O.bytes out.old) (O.bytes out.new) (O.sink_faults out.old) (O.sink_faults out.new) (exit_status result))) }
-    ensures command { IfOk words (λ w. question_in w.items ≡ None → Commanded (record { words = w.items; files = F.files files.old; files_before = F.files_faults files.old; files_after = F.files_faults files.new; patterns_before = P.pattern_faults patterns.old; patterns_after = P.pattern_faults patterns.new }) source (stream_over ⟦<dyn Source as Source>⟧) (O.bytes out.old) (O.bytes out.new) (O.sink_faults out.old) (O.sink_faults out.new) (exit_status result)) }
+    ensures no_words { IfErr words (λ fault. TellsFault fault
+        (O.bytes out.old) (O.bytes out.new) (O.sink_faults out.old) (O.sink_faults out.new) (exit_status result)) }
+    ensures question { IfOk words (λ w. IfSome (question_in w.items) (λ q. Said (text_of q) 0
+        (O.bytes out.old) (O.bytes out.new) (O.sink_faults out.old) (O.sink_faults out.new) (exit_status result))) }
+    ensures command { IfOk words (λ w. question_in w.items ≡ None → Commanded S.Source w.items source
+        (outside F.Files O.Sink files.old (P.pattern_faults patterns.old) [] [] out.old)
+        (outside F.Files O.Sink files.new (P.pattern_faults patterns.new) [] [] out.new)
+        (exit_status result)) }
 {
     let words = match words {
         Ok(words) => words,

@@ -6,10 +6,8 @@ ghost use Rattle.std.specs.Prelude.{◌≡◌, []};
 mod answer;
 
 use answer::answer;
-use eip_endpoint::Source;
 use eip_host::{HostFileSystem, HostFiles, LineSource, Output, words_of};
 use eip_simple_read::CratePatterns;
-use eip_text::NoMemory;
 use std::alloc::Global;
 use std::env;
 use std::process::ExitCode;
@@ -23,18 +21,11 @@ fn patterns(alloc: Global) -> CratePatterns
 
 fn main(rt: HostRuntime) -> ExitCode {
     let alloc = rt.alloc();
-    let source = match LineSource::new(alloc, rt.stdin()) {
-        Ok(lines) => match Box::new(alloc, lines) {
-            Ok(lines) => Ok(lines as Box<dyn Source>),
-            Err(_) => Err(NoMemory),
-        },
-        Err(NoMemory) => Err(NoMemory),
-    };
     let mut files = HostFiles::new(alloc, HostFileSystem { runtime: &rt });
     answer(
         alloc,
         words_of(alloc, env::args(&rt)),
-        source,
+        LineSource::new(alloc, rt.stdin()),
         &mut files,
         &mut patterns(alloc),
         &mut Output::new(rt.stdout()),

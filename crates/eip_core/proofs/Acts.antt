@@ -14,7 +14,7 @@ use Rattle.eip_endpoint.specs.Lanes.{LaneView, LanesGrew}
 use Rattle.eip_exchange.specs.declared.message.Message.{Message}
 use Rattle.eip_ledger.specs.declared.entry.Refused.{Refused as Cause}
 use Rattle.eip_endpoint.specs.declared.source.Pulled.TheVariants.{Item, Refused, End}
-use Rattle.eip_endpoint.specs.Inlets.{InletView, Act, Gave, Failed, InletsGrew}
+use Rattle.eip_endpoint.specs.Inlets.{InletView, Act, Gave, Failed, InletsGrew, inlet_names}
 use Rattle.eip_endpoint.proofs.LaneLaws.{LanesGrew-none}
 use Rattle.eip_endpoint.proofs.InletLaws.{InletsGrew-none}
 use Rattle.eip_history.specs.Plan.{Plan}
@@ -30,9 +30,9 @@ use Rattle.eip_plan.proofs.Laws.{plan-laws, plan-simple}
 use Rattle.eip_books.specs.View.{BooksView, plan, IsLegalRun, Adds, AddsNone}
 use Rattle.eip_tables.specs.declared.asking.Inner.TheVariants.{Did}
 use Rattle.eip_tables.specs.Places.{inner_of}
-use Rattle.eip_core.specs.Doors.{Doors, inlet_names, inlet_at, uri_at}
+use Rattle.eip_core.specs.Doors.{Doors, inlet_at, uri_at}
 use Rattle.eip_core.specs.Outside.{acts_by, acts_of, refusal_of, inlet_acts_in, lane_calls_in, calls_asked, calls_for}
-use Rattle.eip_core.specs.Drain.{Drains, Acts, Progresses, doors}
+use Rattle.eip_core.specs.Drain.{Acts, Chosen, Drains, Progresses, Rests, doors}
 use Rattle.eip_core.proofs.Actors.{actor-ready, actor-source, actor-out, unfinished-first, first-pullable}
 use Rattle.eip_core.proofs.Progress.{progress-one, progress-trans}
 use Rattle.eip_core.proofs.Quiet.{none-startable, next-source}
@@ -42,12 +42,6 @@ use Rattle.eip_core.proofs.Compose.{drains-refl, drains-add, drains-none}
 -- what holds of the set, the limit and the past stands behind a call that made no entry
 pub along : {u v : BooksView} (P : RouteSet → ℕ → ℕ → Past → Type 0) → AddsNone u v → P u.set u.journal.workers u.journal.turns u.journal.past → P v.set v.journal.workers v.journal.turns v.journal.past
 along P a h = rw (a.same.set, a.same.workers, a.same.turns, a.past) h
-
--- a run that goes on, with no hand out
-pub record Rests (v : BooksView) : Type 0 where
-  pub legal : IsLegalRun v
-  pub home : hands (plan v) v.journal.past ≡ 0
-  pub waits : stop_of (plan v) v.journal.turns v.journal.past ≡ None
 
 pub rests-none : {u v : BooksView} → AddsNone u v → Rests u → Rests v
 rests-none a r = record {
@@ -75,6 +69,10 @@ pub record Pulled (u v : BooksView) (t : ℕ) : Type 0 where
   pub least : (r : ℕ) → r < t → May (plan u) u.journal.turns u.journal.past 0 (Pull r) → ⊥
   pub adds : Adds u v 0 (Pull t)
   pub legal : IsLegalRun v
+
+pub pulled : {u v : BooksView} {t : ℕ} → Rests u → first (ready_numbers (plan u) u.journal.past) ≡ None → May (plan u) u.journal.turns u.journal.past 0 (Pull t)
+    → ((r : ℕ) → r < t → May (plan u) u.journal.turns u.journal.past 0 (Pull r) → ⊥) → Adds u v 0 (Pull t) → IsLegalRun v → Pulled u v t
+pulled rests nobody may least adds legal = record { rests = rests; nobody = nobody; may = may; least = least; adds = adds; legal = legal }
 
 -- behind a Pull the plan is the same and the past has one entry more
 pulled-past : {u v : BooksView} {t : ℕ} (P : Plan → ℕ → ℕ → Past → Type 0) → Pulled u v t → P (plan v) v.journal.workers v.journal.turns v.journal.past
@@ -128,14 +126,13 @@ pub record EndsPull (t : ℕ) (k : Kind) (acts : List Act) : Type 0 where
   pub stays : (x : ℕ) → k ≢ Return x
 
 -- the drain behind a pull and what came of it
-pub drains-pulled : {u v w : BooksView} {t : ℕ} (k : Kind) (acts : List Act) (l : List LaneView) (i j : List InletView) (names : List (List ℕ)) → Pulled u v t → Adds v w 0 k
-    → EndsPull t k acts → inlet_names i ≡ names
-    → InletsGrew 0 (acts_by (inlet_at names (slice_get v.set.routes t)) (uri_at (slice_get v.set.routes t)) acts) i j → Drains u w l l i j
-drains-pulled {u} {v} {w} {t} k acts l i j names p a ends same grew =
+pub drains-pulled : {u v w : BooksView} {t : ℕ} (k : Kind) (acts : List Act) (l : List LaneView) (i j : List InletView) → Pulled u v t → Adds v w 0 k
+    → EndsPull t k acts
+    → InletsGrew 0 (acts_by (inlet_at (inlet_names i) (slice_get v.set.routes t)) (uri_at (slice_get v.set.routes t)) acts) i j → Drains u w l l i j
+drains-pulled {u} {v} {w} {t} k acts l i j p a ends grew =
     drains-add (drains-pull l i p) a
     (subst (λ js. LanesGrew 0 js l l) (sym (ends.calls (plan v) (doors v l i) v.journal.past)) (LanesGrew-none 0 l))
-    (subst (λ js. InletsGrew 0 js i j) (sym (ends.acts_are (doors v l i)))
-    (subst (λ ns. InletsGrew 0 (acts_by (inlet_at ns (slice_get v.set.routes t)) (uri_at (slice_get v.set.routes t)) acts) i j) (sym same) grew))
+    (subst (λ js. InletsGrew 0 js i j) (sym (ends.acts_are (doors v l i))) grew)
     (subst (λ (b : Actor). IsTrue (is_of b k)) (sym (second-actor p)) ends.of_source)
 
 -- a pull and what came of it is an act
@@ -205,22 +202,12 @@ ends-source_fault t = record {
   stays = λ x h. cc h;
 }
 
--- the names of inlets, seen or not
-pub seen-names : {L : Type 0} (f : L → InletView) (name : L → List ℕ) (ls : List L) → ((x : L) → (f x).name ≡ name x) → inlet_names (map f ls) ≡ map name ls
-seen-names f name [] h = refl
-seen-names f name (x ∷ ls) h = rw (h x, seen-names f name ls h) refl
-
 -- a pull that found no memory is no act
 pub no-acts : (o : Option ℕ) (u : List ℕ) → acts_by o u [] ≡ []
 no-acts None u = refl
 no-acts (Some k) u = refl
 
 -- ---- an exchange that is answered by the hub, or starved
-
--- the least Ready exchange of a run that goes on
-pub record Chosen (v : BooksView) (x : ℕ) : Type 0 where
-  pub rests : Rests v
-  pub least : first (ready_numbers (plan v) v.journal.past) ≡ Some x
 
 pub chosen-none : {u v : BooksView} {x : ℕ} → AddsNone u v → Chosen u x → Chosen v x
 chosen-none {u} {v} {x} a c = record { rests = rests-none a c.rests; least = along (λ s w l p. first (ready_numbers (plan_of s) p) ≡ Some x) a c.least }

@@ -3,8 +3,8 @@ use Rattle.std.proofs.Common.{◌≡◌, IsTrue, List, [], ◌∷◌, ◌++◌, 
 use Rattle.std.proofs.lemmas.List.{append-nil}
 use Rattle.eip_ledger.specs.declared.entry.Kind.{Kind}
 use Rattle.eip_ledger.specs.declared.entry.Entry.{Entry}
-use Rattle.eip_endpoint.specs.Lanes.{LaneView, LaneCall, LanesGrew}
-use Rattle.eip_endpoint.specs.Inlets.{InletView, InletAct, InletsGrew}
+use Rattle.eip_endpoint.specs.Lanes.{LaneView, LaneCall, LanesGrew, lane_names}
+use Rattle.eip_endpoint.specs.Inlets.{InletView, InletAct, InletsGrew, inlet_names}
 use Rattle.eip_endpoint.proofs.LaneLaws.{LanesGrew-none, LanesGrew-trans, LanesGrew-names}
 use Rattle.eip_endpoint.proofs.InletLaws.{InletsGrew-none, InletsGrew-trans, InletsGrew-names}
 use Rattle.eip_history.specs.Plan.{Plan}
@@ -13,9 +13,9 @@ use Rattle.eip_history.specs.Stop.{IsPlain, is_of, actor}
 use Rattle.eip_history.proofs.Steps.{plain-add}
 use Rattle.eip_plan.specs.Plan.{plan_of}
 use Rattle.eip_books.specs.View.{BooksView, plan, IsSameRun, Adds, AddsNone}
-use Rattle.eip_core.specs.Doors.{Doors, doors_of, lane_names, inlet_names}
+use Rattle.eip_core.specs.Doors.{Doors, doors_of}
 use Rattle.eip_core.specs.Outside.{inlet_acts, inlet_acts_in, lane_calls, lane_calls_in}
-use Rattle.eip_core.specs.Drain.{Drains, doors}
+use Rattle.eip_core.specs.Drain.{Drains, IsPlainBehind, doors}
 
 pub same-refl : (v : BooksView) → IsSameRun v v
 same-refl v = record { set = refl; workers = refl; turns = refl }
@@ -53,6 +53,16 @@ calls-append s d past (e ∷ p) q =
     ∙ (ap (λ xs. lane_calls s d past q ++ (lane_calls s d (q ++ past) p ++ lane_calls_in s d xs e.kind)) (append_assoc p q past)
     ∙ ap (λ xs. lane_calls s d past q ++ xs) (sym (calls-more s d (q ++ past) e p)))))
 
+-- a plain past stays plain behind such entries
+pub plain-behind : (s : Plan) (past behind : Past) → IsPlain s past → IsPlainBehind s past behind → IsPlain s (behind ++ past)
+plain-behind s past [] plain t = plain
+plain-behind s past (e ∷ behind) plain t = plain-add s e (behind ++ past) (plain-behind s past behind plain t.0) t.1 t.2
+
+plain-append : (s : Plan) (past p q : Past) → IsPlainBehind s past q → IsPlainBehind s (q ++ past) p → IsPlainBehind s past (p ++ q)
+plain-append s past [] q before after = before
+plain-append s past (e ∷ p) q before after =
+    (plain-append s past p q before after.0, after.1, subst (λ (r : Past). IsTrue (is_of (actor s r) e.kind)) (sym (append_assoc p q past)) after.2)
+
 -- the doors of a run are the same behind any calls and acts
 pub doors-same : {u v : BooksView} (js : List LaneCall) (ks : List InletAct) (l m : List LaneView) (i j : List InletView) → IsSameRun u v → LanesGrew 0 js l m → InletsGrew 0 ks i j → doors v m j ≡ doors u l i
 doors-same {u} {v} js ks l m i j same lanes inlets =
@@ -65,7 +75,7 @@ drains-refl v l i = record {
   behind = [];
   past = refl;
   same = same-refl v;
-  plain = λ p. p;
+  plain = tt;
   lanes = rw (calls-none (plan v) (doors v l i) v.journal.past) (LanesGrew-none 0 l);
   inlets = rw (acts-none (doors v l i)) (InletsGrew-none 0 i);
 }
@@ -76,7 +86,7 @@ drains-none {u} {v} d a = record {
   behind = d.behind;
   past = a.past ∙ d.past;
   same = same-trans d.same a.same;
-  plain = λ p. rw a.past (d.plain p);
+  plain = d.plain;
   lanes = d.lanes;
   inlets = d.inlets;
 }
@@ -104,7 +114,8 @@ drains-add {u} {v} {w} {l} {m} {n} {i} {j} {k} {kind} d a lanes inlets acts =
       behind = e ∷ d.behind;
       past = a.past ∙ ap (λ q. e ∷ q) d.past;
       same = same-trans d.same a.same;
-      plain = λ q. rw a.past (plain-add (plan u) e v.journal.past (d.plain q) refl (subst (λ x. IsTrue (is_of (actor x v.journal.past) kind)) p acts));
+      plain =
+          (d.plain, refl, subst (λ (q : Past). IsTrue (is_of (actor (plan u) q) kind)) d.past (subst (λ x. IsTrue (is_of (actor x v.journal.past) kind)) p acts));
       lanes = rw (calls-more (plan u) (doors u l i) u.journal.past e d.behind)
           (LanesGrew-trans 0 _ _ l m n d.lanes
           (subst (λ x. LanesGrew 0 (lane_calls_in (plan u) (doors u l i) x kind) m n) d.past
@@ -122,7 +133,9 @@ drains-trans {u} {v} {w} {l} {m} {n} {i} {j} {k} d e =
       behind = e.behind ++ d.behind;
       past = e.past ∙ (ap (λ q. e.behind ++ q) d.past ∙ sym (append_assoc e.behind d.behind u.journal.past));
       same = same-trans d.same e.same;
-      plain = λ q. subst (λ x. IsPlain x w.journal.past) p (e.plain (subst (λ x. IsPlain x v.journal.past) (sym p) (d.plain q)));
+      plain =
+          plain-append (plan u) u.journal.past e.behind d.behind d.plain
+          (subst (λ (q : Past). IsPlainBehind (plan u) q e.behind) d.past (subst (λ (x : Plan). IsPlainBehind x v.journal.past e.behind) p e.plain));
       lanes = rw (calls-append (plan u) (doors u l i) u.journal.past e.behind d.behind)
           (LanesGrew-trans 0 _ _ l m n d.lanes
           (subst (λ x. LanesGrew 0 (lane_calls (plan u) (doors u l i) x e.behind) m n) d.past

@@ -14,8 +14,8 @@ use Rattle.eip_ledger.specs.declared.entry.Kind.TheVariants.{Take, Answer, Starv
 use Rattle.eip_ledger.specs.declared.place.Place.TheVariants as place_is
 use Rattle.eip_endpoint.specs.declared.endpoint.SendFault.{SendFault}
 use Rattle.eip_endpoint.specs.declared.endpoint.SendFault.TheVariants as fault
-use Rattle.eip_endpoint.specs.Lanes.{LaneView, LanesGrew, first_named}
-use Rattle.eip_endpoint.specs.Inlets.{InletView}
+use Rattle.eip_endpoint.specs.Lanes.{LaneView, LanesGrew, first_named, lane_names}
+use Rattle.eip_endpoint.specs.Inlets.{InletView, inlet_names}
 use Rattle.eip_endpoint.proofs.LaneLaws.{LanesGrew-none}
 use Rattle.eip_endpoint.proofs.InletLaws.{InletsGrew-none}
 use Rattle.eip_history.specs.Plan.{Plan}
@@ -34,15 +34,15 @@ use Rattle.eip_plan.specs.Plan.{plan_of}
 use Rattle.eip_plan.proofs.Laws.{plan-laws}
 use Rattle.eip_books.specs.View.{BooksView, plan, IsLegalRun, Adds}
 use Rattle.eip_tables.specs.Outside.{is_among, with_number, IsAsked}
-use Rattle.eip_core.specs.Doors.{Doors, doors_of, lane_names, inlet_names, HasLanes, TellsNone}
+use Rattle.eip_core.specs.Doors.{Doors, doors_of, HasLanes, TellsNone}
 use Rattle.eip_core.specs.Outside.{calls_by, calls_for, calls_asked, calls_sent, lane_calls_in, IsSendable}
-use Rattle.eip_core.specs.Drain.{Drains, Acts, Progresses, doors}
+use Rattle.eip_core.specs.Drain.{Acts, Chosen, Drains, Progresses, Rests, doors}
 use Rattle.eip_core.proofs.Actors.{actor-taken}
 use Rattle.eip_core.proofs.Progress.{progress-one, progress-trans}
 use Rattle.eip_core.proofs.Home.{hand-take, back-answer, back-starve}
 use Rattle.eip_core.proofs.Compose.{drains-refl, drains-add, drains-still}
 use Rattle.eip_core.proofs.Sends.{asked-sendable}
-use Rattle.eip_core.proofs.Acts.{Rests, Chosen, chosen-ready, chosen-acts, added-legal}
+use Rattle.eip_core.proofs.Acts.{chosen-ready, chosen-acts, added-legal}
 
 -- ---- which exchange is taken
 
@@ -213,32 +213,26 @@ pub calls-none : (names : List (List ℕ)) (q : Request) → calls_sent names q 
 calls-none names (request.Send t m) = no-call (first_named (lane_of t) names)
 calls-none names _ = refl
 
--- the names of lanes, seen or not
-pub seen-lanes : {L : Type 0} (f : L → LaneView) (name : L → List ℕ) (ls : List L) → ((x : L) → (f x).name ≡ name x) → lane_names (map f ls) ≡ map name ls
-seen-lanes f name [] h = refl
-seen-lanes f name (x ∷ ls) h = rw (h x, seen-lanes f name ls h) refl
-
 -- what a take gave, where the least Ready exchange is known to wait for somebody outside
-pub taken : (u v : BooksView) (x n : ℕ) (q : Request) → Rests u → first (ready_numbers (plan u) u.journal.past) ≡ Some x → is_among x u.outside ≡ true
+pub taken : {u v : BooksView} {x n : ℕ} {q : Request} → Chosen u x → is_among x u.outside ≡ true
     → place (plan u) u.journal.past n ≡ Some place_is.Ready → ((y : ℕ) → y < n → is_among y u.outside ≡ false) → Adds u v 0 (Take n)
     → place (plan v) v.journal.past n ≡ Some (place_is.InHand 0) → IsAsked (plan v) v.journal.past n q → IsLegalRun v → Taken u v n q
-taken u v x n q rests h known ready least adds held asks legal =
-    let same = taken-number (plan u) u.journal.past x n u.outside h known ready least in
-    record { chosen = record { rests = rests; least = h ∙ ap Some (sym same) }; adds = adds; held = held; asks = asks; legal = legal }
+taken {u} {v} {x} {n} {q} chosen known ready least adds held asks legal =
+    let same = taken-number (plan u) u.journal.past x n u.outside chosen.least known ready least in
+    record { chosen = record { rests = chosen.rests; least = chosen.least ∙ ap Some (sym same) }; adds = adds; held = held; asks = asks; legal = legal }
 
 -- the call that was made is what the entry of its answer says
-pub grew-answered : (set : RouteSet) (names inlets : List (List ℕ)) (q : Request) (a : Reply) (r : Result Unit SendFault) (l m : List LaneView) → IsSendable names q → r ≢ Err fault.NoMemory
-    → a ≡ answer_of r → lane_names l ≡ names → LanesGrew 0 (calls_sent names q r) l m → LanesGrew 0 (calls_for (doors_of set (lane_names l) inlets) q a) l m
-grew-answered set names inlets q a r l m sendable made e same grew =
-    subst (λ ns. LanesGrew 0 (calls_for (doors_of set ns inlets) q a) l m) (sym same)
-    (subst (λ js. LanesGrew 0 js l m) (calls-match set names inlets q a r sendable made e) grew)
+pub grew-answered : (set : RouteSet) (inlets : List (List ℕ)) (q : Request) (a : Reply) (r : Result Unit SendFault) (l m : List LaneView) → IsSendable (lane_names l) q → r ≢ Err fault.NoMemory
+    → a ≡ answer_of r → LanesGrew 0 (calls_sent (lane_names l) q r) l m → LanesGrew 0 (calls_for (doors_of set (lane_names l) inlets) q a) l m
+grew-answered set inlets q a r l m sendable made e grew =
+    subst (λ js. LanesGrew 0 js l m) (calls-match set (lane_names l) inlets q a r sendable made e) grew
 
 -- a call that found no memory left the lanes
 pub grew-none : (names : List (List ℕ)) (q : Request) (l m : List LaneView) → LanesGrew 0 (calls_sent names q (Err fault.NoMemory)) l m → LanesGrew 0 [] l m
 grew-none names q l m grew = subst (λ js. LanesGrew 0 js l m) (calls-none names q) grew
 
 -- the drain behind a call that was made
-pub drains-sent : {u v w : BooksView} {n : ℕ} {q : Request} (names : List (List ℕ)) (a : Reply) (r : Result Unit SendFault) (l m : List LaneView) (i : List InletView) → Taken u v n q → Adds v w 0 (Answer n a)
-    → IsSendable names q → r ≢ Err fault.NoMemory → a ≡ answer_of r → lane_names l ≡ names → LanesGrew 0 (calls_sent names q r) l m → Drains u w l m i i
-drains-sent {u} {v} {w} {n} {q} names a r l m i t adds sendable made e same grew =
-    drains-answered a l m i t adds (grew-answered v.set names (inlet_names i) q a r l m sendable made e same grew)
+pub drains-sent : {u v w : BooksView} {n : ℕ} {q : Request} (a : Reply) (r : Result Unit SendFault) (l m : List LaneView) (i : List InletView) → Taken u v n q → Adds v w 0 (Answer n a)
+    → IsSendable (lane_names l) q → r ≢ Err fault.NoMemory → a ≡ answer_of r → LanesGrew 0 (calls_sent (lane_names l) q r) l m → Drains u w l m i i
+drains-sent {u} {v} {w} {n} {q} a r l m i t adds sendable made e grew =
+    drains-answered a l m i t adds (grew-answered v.set (inlet_names i) q a r l m sendable made e grew)

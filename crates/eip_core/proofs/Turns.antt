@@ -1,8 +1,8 @@
 -- What stands from turn to turn of a drain.
-use Rattle.std.proofs.Common.{[], ◌≡◌, ℕ, ◌-◌, ◌<◌, List, sym, subst, ◌∙◌, arith}
+use Rattle.std.proofs.Common.{[], ◌≡◌, ℕ, ◌-◌, ◌<◌, List, sym, subst, arith}
 use Rattle.eip_route.specs.declared.route.RouteSet.{RouteSet}
-use Rattle.eip_endpoint.specs.Lanes.{LaneView}
-use Rattle.eip_endpoint.specs.Inlets.{InletView}
+use Rattle.eip_endpoint.specs.Lanes.{LaneView, lane_names}
+use Rattle.eip_endpoint.specs.Inlets.{InletView, inlet_names}
 use Rattle.eip_endpoint.proofs.LaneLaws.{LanesGrew-names}
 use Rattle.eip_endpoint.proofs.InletLaws.{InletsGrew-names}
 use Rattle.eip_history.specs.Own.{turns}
@@ -11,17 +11,15 @@ use Rattle.eip_history.specs.Plan.{Plan}
 use Rattle.eip_history.specs.Rules.{IsLegal}
 use Rattle.eip_history.proofs.Limit.{legal-within}
 use Rattle.eip_books.specs.View.{BooksView, plan, IsLegalRun}
-use Rattle.eip_core.specs.Doors.{CanRun, lane_names, inlet_names}
-use Rattle.eip_core.specs.Drain.{Drains}
+use Rattle.eip_core.specs.Doors.{CanRun}
+use Rattle.eip_core.specs.Drain.{CanDrain, Drains}
 
 -- behind a drain the set can still be run: names of lanes and inlets stay
-pub still-runs : {u v : BooksView} {l m : List LaneView} {i j : List InletView} (ls ms is js : List (List ℕ)) → lane_names l ≡ ls → lane_names m ≡ ms → inlet_names i ≡ is → inlet_names j ≡ js
-    → Drains u v l m i j → CanRun u.set ls is → CanRun v.set ms js
-still-runs {u} {v} {l} {m} {i} {j} ls ms is js el em ei ej d can =
-    let lanes : ls ≡ ms = sym el ∙ (LanesGrew-names 0 _ l m d.lanes ∙ em) in
-    let inlets : is ≡ js = sym ei ∙ (InletsGrew-names 0 _ i j d.inlets ∙ ej) in
-    subst (λ (s : RouteSet). CanRun s ms js) (sym d.same.set)
-    (subst (λ (ns : List (List ℕ)). CanRun u.set ns js) lanes (subst (λ (ns : List (List ℕ)). CanRun u.set ls ns) inlets can))
+pub still-runs : {u v : BooksView} {l m : List LaneView} {i j : List InletView} → Drains u v l m i j → CanDrain u l i → CanDrain v m j
+still-runs {u} {v} {l} {m} {i} {j} d can =
+    subst (λ (s : RouteSet). CanRun s (lane_names m) (inlet_names j)) (sym d.same.set)
+    (subst (λ (ns : List (List ℕ)). CanRun u.set ns (inlet_names j)) (LanesGrew-names 0 _ l m d.lanes)
+    (subst (λ (ns : List (List ℕ)). CanRun u.set (lane_names l) ns) (InletsGrew-names 0 _ i j d.inlets) can))
 
 -- a turn more leaves fewer to take
 pub fewer-turns : {u v : BooksView} {l m : List LaneView} {i j : List InletView} → Drains u v l m i j → IsLegalRun v → turns u.journal.past < turns v.journal.past

@@ -1,5 +1,5 @@
 -- By which inlet the source of a route is read, and by which lane a target is sent to.
-use Rattle.std.specs.Prelude.{ℕ, ◌≡◌, false, List, [], ◌∷◌, ◌++◌, Option, Some, None, IsSome, codes, map, slice_get}
+use Rattle.std.specs.Prelude.{ℕ, ◌≡◌, false, List, [], ◌∷◌, ◌++◌, Option, Some, None, IsSome, codes, slice_get}
 use Rattle.eip_uri.specs.Inlets.{inlet_of}
 use Rattle.eip_uri.specs.Printed.{printed}
 use Rattle.eip_uri.specs.declared.uri.Uri.TheVariants as uri
@@ -8,8 +8,7 @@ use Rattle.eip_route.specs.declared.step.Step.TheVariants as step
 use Rattle.eip_route.specs.declared.route.Route.{Route}
 use Rattle.eip_route.specs.declared.route.RouteSet.{RouteSet}
 use Rattle.eip_frames.specs.declared.request.Target.{Target}
-use Rattle.eip_endpoint.specs.Lanes.{LaneView, first_named}
-use Rattle.eip_endpoint.specs.Inlets.{InletView}
+use Rattle.eip_endpoint.specs.Lanes.{first_named}
 use Rattle.eip_meaning.specs.Meaning.{steps_of, is_told_route}
 use Rattle.eip_history.specs.Texts.{lane_of}
 use Rattle.eip_history.specs.Rules.{IsSource}
@@ -34,14 +33,6 @@ inlet_at names None = None
 abbrev pub uri_at : Option Route → List ℕ
 uri_at (Some r) = printed r.from
 uri_at None = []
-
--- the names of lanes
-abbrev pub lane_names : List LaneView → List (List ℕ)
-lane_names vs = map (λ v. v.name) vs
-
--- the names of inlets
-abbrev pub inlet_names : List InletView → List (List ℕ)
-inlet_names vs = map (λ v. v.name) vs
 
 -- the doors of a set among lanes and inlets of these names: the first of a name counts
 abbrev pub doors_of : RouteSet → List (List ℕ) → List (List ℕ) → Doors

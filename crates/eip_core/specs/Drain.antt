@@ -1,16 +1,17 @@
 -- What a drain on one thread leaves.
-use Rattle.std.specs.Prelude.{◌≡◌, ◌<◌, ◌≤◌, ◌⊎◌, ◌++◌, List, Some}
+use Rattle.std.specs.Prelude.{ℕ, ◌≡◌, ◌<◌, ◌≤◌, ◌⊎◌, ◌++◌, IsTrue, List, [], ◌∷◌, Some, None}
 use Rattle.eip_ledger.specs.declared.place.Stop.{Stop}
 use Rattle.eip_ledger.specs.declared.place.Stop.TheVariants.{NoMemory}
-use Rattle.eip_endpoint.specs.Lanes.{LaneView, LanesGrew}
-use Rattle.eip_endpoint.specs.Inlets.{InletView, InletsGrew}
+use Rattle.eip_endpoint.specs.Lanes.{LaneView, LanesGrew, lane_names}
+use Rattle.eip_endpoint.specs.Inlets.{InletView, InletsGrew, inlet_names}
 use Rattle.eip_history.specs.Plan.{Plan}
 use Rattle.eip_history.specs.Own.{Past, turns}
-use Rattle.eip_history.specs.Place.{hands}
-use Rattle.eip_history.specs.Stop.{stop_of, IsPlain}
+use Rattle.eip_history.specs.Place.{hands, ready_numbers}
+use Rattle.eip_history.specs.Rules.{first}
+use Rattle.eip_history.specs.Stop.{stop_of, actor, is_of}
 use Rattle.eip_history.specs.Work.{work}
-use Rattle.eip_books.specs.View.{BooksView, plan, IsSameRun}
-use Rattle.eip_core.specs.Doors.{Doors, doors_of, lane_names, inlet_names}
+use Rattle.eip_books.specs.View.{BooksView, plan, IsLegalRun, IsSameRun}
+use Rattle.eip_core.specs.Doors.{CanRun, Doors, doors_of}
 use Rattle.eip_core.specs.Outside.{inlet_acts, lane_calls}
 
 -- the stop of the journal, or want of memory
@@ -21,12 +22,32 @@ IsStop v stop = (stop ≡ NoMemory) ⊎ (stop_of (plan v) v.journal.turns v.jour
 abbrev pub doors : BooksView → List LaneView → List InletView → Doors
 doors v ls is = doors_of v.set (lane_names ls) (inlet_names is)
 
+-- the set of a run can be run over these lanes and inlets
+abbrev pub CanDrain : BooksView → List LaneView → List InletView → Type 0
+CanDrain v ls is = CanRun v.set (lane_names ls) (inlet_names is)
+
+-- a run that goes on, with no hand out
+pub record Rests (v : BooksView) : Type 0 where
+  pub legal : IsLegalRun v
+  pub home : hands (plan v) v.journal.past ≡ 0
+  pub waits : stop_of (plan v) v.journal.turns v.journal.past ≡ None
+
+-- the least Ready exchange of a run that goes on
+pub record Chosen (v : BooksView) (x : ℕ) : Type 0 where
+  pub rests : Rests v
+  pub least : first (ready_numbers (plan v) v.journal.past) ≡ Some x
+
+-- each of the entries behind a past is worker 0's and of the actor whose turn it was
+abbrev pub IsPlainBehind : Plan → Past → Past → Type 0
+IsPlainBehind s past [] = Unit {0}
+IsPlainBehind s past (e ∷ behind) = IsPlainBehind s past behind × (e.worker ≡ 0) × IsTrue (is_of (actor s (behind ++ past)) e.kind)
+
 -- entries were made behind the journal, each by the actor whose turn it was; lanes and inlets did what these entries say, in their order
 pub record Drains (old new : BooksView) (lanes_old lanes_new : List LaneView) (inlets_old inlets_new : List InletView) : Type 0 where
   pub behind : Past
   pub past : new.journal.past ≡ behind ++ old.journal.past
   pub same : IsSameRun old new
-  pub plain : IsPlain (plan old) old.journal.past → IsPlain (plan old) new.journal.past
+  pub plain : IsPlainBehind (plan old) old.journal.past behind
   pub lanes : LanesGrew 0 (lane_calls (plan old) (doors old lanes_old inlets_old) old.journal.past behind) lanes_old lanes_new
   pub inlets : InletsGrew 0 (inlet_acts (doors old lanes_old inlets_old) behind) inlets_old inlets_new
 

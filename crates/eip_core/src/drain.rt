@@ -1,36 +1,35 @@
-ghost use Rattle.std.specs.Prelude.{◌≡◌, ◌≤◌, ◌<◌, true, None, Some, OnOk, IfOk, IfSome, IfNone, map};
-ghost use Rattle.eip_endpoint.specs.Lanes.{seen_lane};
-ghost use Rattle.eip_endpoint.specs.Inlets.{seen_inlet};
+ghost use Rattle.std.specs.Prelude.{◌≡◌, ◌≤◌, ◌<◌, true, None, Some, OnOk, IfOk, IfSome, IfNone};
 ghost use Rattle.eip_history.specs.Own.{turns};
 ghost use Rattle.eip_history.specs.Place.{hands, ready_numbers};
-ghost use Rattle.eip_history.specs.Rules.{IsBelow, first};
+ghost use Rattle.eip_history.specs.Rules.{first};
 ghost use Rattle.eip_history.specs.Stop.{stop_of};
 ghost use Rattle.eip_books.specs.View.{plan, IsLegalRun};
 ghost use Rattle.eip_tables.specs.Outside.{is_among};
-ghost use Rattle.eip_core.specs.Doors.{CanRun};
-ghost use Rattle.eip_core.specs.Drain.{IsStop, Drains, Acts};
+ghost use Rattle.eip_core.specs.Drain.{Acts, CanDrain, Chosen, Drains, IsStop, Rests};
 
 use crate::outside::{pull_source, refused, send};
 use crate::registry::Registry;
-use eip_endpoint::{Endpoint, Inlet, Lane, PullFault, Pulled, SendFault, Source};
+use eip_endpoint::{Inlets, Lanes, PullFault, Pulled, SendFault};
 use eip_frames::Answer;
 use eip_hub::{Hub, Inner};
 use eip_ledger::Stop;
 use eip_text::NoMemory;
 
 /// Pulls the first source that has not ended, and enters what came of it.
-fn pull_once(hub: &mut Hub, lanes: &mut [Lane], inlets: &mut [Inlet]) -> Result<(), NoMemory>
-    requires waits { stop_of (plan hub.old) hub.old.journal.turns hub.old.journal.past ≡ None }
-    requires legal { IsLegalRun hub.old }
-    requires home { hands (plan hub.old) hub.old.journal.past ≡ 0 }
+fn pull_once<L: Lanes, I: Inlets>(
+    hub: &mut Hub,
+    lanes: &mut L,
+    inlets: &mut I,
+) -> Result<(), NoMemory>
+    requires rests { Rests hub.old }
     requires nobody { first (ready_numbers (plan hub.old) hub.old.journal.past) ≡ None }
     requires room { 1 ≤ hub.old.room }
-    requires can_run { CanRun hub.old.set (map (λ l. l.name) lanes.old) (map (λ i. i.name) inlets.old) }
+    requires can_run { CanDrain hub.old (L.views lanes.old) (I.views inlets.old) }
     ensures legal { IsLegalRun hub.new }
-    ensures drains { Drains hub.old hub.new (map (seen_lane (λ b. (⟦<dyn Endpoint as Endpoint>⟧ b.vtable).calls b.value) (λ b. (⟦<dyn Endpoint as Endpoint>⟧ b.vtable).lane_faults b.value)) lanes.old) (map (seen_lane (λ b. (⟦<dyn Endpoint as Endpoint>⟧ b.vtable).calls b.value) (λ b. (⟦<dyn Endpoint as Endpoint>⟧ b.vtable).lane_faults b.value)) lanes.new) (map (seen_inlet (λ b. (⟦<dyn Source as Source>⟧ b.vtable).given b.value) (λ b. (⟦<dyn Source as Source>⟧ b.vtable).left b.value) (λ b. (⟦<dyn Source as Source>⟧ b.vtable).commits b.value) (λ b. (⟦<dyn Source as Source>⟧ b.vtable).inlet_faults b.value)) inlets.old) (map (seen_inlet (λ b. (⟦<dyn Source as Source>⟧ b.vtable).given b.value) (λ b. (⟦<dyn Source as Source>⟧ b.vtable).left b.value) (λ b. (⟦<dyn Source as Source>⟧ b.vtable).commits b.value) (λ b. (⟦<dyn Source as Source>⟧ b.vtable).inlet_faults b.value)) inlets.new) }
+    ensures drains { Drains hub.old hub.new (L.views lanes.old) (L.views lanes.new) (I.views inlets.old) (I.views inlets.new) }
     ensures acts { OnOk result (Acts hub.old hub.new) }
 {
-    let _ = lanes.len();
+    let _ = lanes.count();
     let Some(source) = hub.pull(0) else {
         unreachable!()
     };
@@ -46,19 +45,16 @@ fn pull_once(hub: &mut Hub, lanes: &mut [Lane], inlets: &mut [Inlet]) -> Result<
 
 /// Has the request of the least Ready exchange, which is one of the outside, answered by its lane. The exchange is in hand for
 /// the time of the call, which takes no memory from the hub, so the answer of a call that was made is always entered.
-fn serve(hub: &mut Hub, lanes: &mut [Lane], inlets: &mut [Inlet], number: u64)
-    requires waits { stop_of (plan hub.old) hub.old.journal.turns hub.old.journal.past ≡ None }
-    requires legal { IsLegalRun hub.old }
-    requires home { hands (plan hub.old) hub.old.journal.past ≡ 0 }
-    requires least { first (ready_numbers (plan hub.old) hub.old.journal.past) ≡ Some number }
+fn serve<L: Lanes, I: Inlets>(hub: &mut Hub, lanes: &mut L, inlets: &mut I, number: u64)
+    requires chosen { Chosen hub.old number }
     requires known { is_among number hub.old.outside ≡ true }
     requires room { 1 ≤ hub.old.room }
-    requires can_run { CanRun hub.old.set (map (λ l. l.name) lanes.old) (map (λ i. i.name) inlets.old) }
+    requires can_run { CanDrain hub.old (L.views lanes.old) (I.views inlets.old) }
     ensures legal { IsLegalRun hub.new }
-    ensures drains { Drains hub.old hub.new (map (seen_lane (λ b. (⟦<dyn Endpoint as Endpoint>⟧ b.vtable).calls b.value) (λ b. (⟦<dyn Endpoint as Endpoint>⟧ b.vtable).lane_faults b.value)) lanes.old) (map (seen_lane (λ b. (⟦<dyn Endpoint as Endpoint>⟧ b.vtable).calls b.value) (λ b. (⟦<dyn Endpoint as Endpoint>⟧ b.vtable).lane_faults b.value)) lanes.new) (map (seen_inlet (λ b. (⟦<dyn Source as Source>⟧ b.vtable).given b.value) (λ b. (⟦<dyn Source as Source>⟧ b.vtable).left b.value) (λ b. (⟦<dyn Source as Source>⟧ b.vtable).commits b.value) (λ b. (⟦<dyn Source as Source>⟧ b.vtable).inlet_faults b.value)) inlets.old) (map (seen_inlet (λ b. (⟦<dyn Source as Source>⟧ b.vtable).given b.value) (λ b. (⟦<dyn Source as Source>⟧ b.vtable).left b.value) (λ b. (⟦<dyn Source as Source>⟧ b.vtable).commits b.value) (λ b. (⟦<dyn Source as Source>⟧ b.vtable).inlet_faults b.value)) inlets.new) }
+    ensures drains { Drains hub.old hub.new (L.views lanes.old) (L.views lanes.new) (I.views inlets.old) (I.views inlets.new) }
     ensures acts { Acts hub.old hub.new }
 {
-    let _ = inlets.len();
+    let _ = inlets.count();
     let Some(ticket) = hub.take(0) else {
         unreachable!()
     };
@@ -71,15 +67,12 @@ fn serve(hub: &mut Hub, lanes: &mut [Lane], inlets: &mut [Inlet], number: u64)
 }
 
 /// Does what the least Ready exchange asks for, or ends it for want of memory.
-fn run_ready(hub: &mut Hub, lanes: &mut [Lane], inlets: &mut [Inlet], number: u64)
-    requires waits { stop_of (plan hub.old) hub.old.journal.turns hub.old.journal.past ≡ None }
-    requires legal { IsLegalRun hub.old }
-    requires home { hands (plan hub.old) hub.old.journal.past ≡ 0 }
-    requires least { first (ready_numbers (plan hub.old) hub.old.journal.past) ≡ Some number }
-    requires can_run { CanRun hub.old.set (map (λ l. l.name) lanes.old) (map (λ i. i.name) inlets.old) }
+fn run_ready<L: Lanes, I: Inlets>(hub: &mut Hub, lanes: &mut L, inlets: &mut I, number: u64)
+    requires chosen { Chosen hub.old number }
+    requires can_run { CanDrain hub.old (L.views lanes.old) (I.views inlets.old) }
     requires room { 1 ≤ hub.old.room }
     ensures legal { IsLegalRun hub.new }
-    ensures drains { Drains hub.old hub.new (map (seen_lane (λ b. (⟦<dyn Endpoint as Endpoint>⟧ b.vtable).calls b.value) (λ b. (⟦<dyn Endpoint as Endpoint>⟧ b.vtable).lane_faults b.value)) lanes.old) (map (seen_lane (λ b. (⟦<dyn Endpoint as Endpoint>⟧ b.vtable).calls b.value) (λ b. (⟦<dyn Endpoint as Endpoint>⟧ b.vtable).lane_faults b.value)) lanes.new) (map (seen_inlet (λ b. (⟦<dyn Source as Source>⟧ b.vtable).given b.value) (λ b. (⟦<dyn Source as Source>⟧ b.vtable).left b.value) (λ b. (⟦<dyn Source as Source>⟧ b.vtable).commits b.value) (λ b. (⟦<dyn Source as Source>⟧ b.vtable).inlet_faults b.value)) inlets.old) (map (seen_inlet (λ b. (⟦<dyn Source as Source>⟧ b.vtable).given b.value) (λ b. (⟦<dyn Source as Source>⟧ b.vtable).left b.value) (λ b. (⟦<dyn Source as Source>⟧ b.vtable).commits b.value) (λ b. (⟦<dyn Source as Source>⟧ b.vtable).inlet_faults b.value)) inlets.new) }
+    ensures drains { Drains hub.old hub.new (L.views lanes.old) (L.views lanes.new) (I.views inlets.old) (I.views inlets.new) }
     ensures acts { Acts hub.old hub.new }
 {
     match hub.inner(0, number) {
@@ -90,13 +83,11 @@ fn run_ready(hub: &mut Hub, lanes: &mut [Lane], inlets: &mut [Inlet], number: u6
 }
 
 /// One act of the plain schedule: of the least Ready exchange, or else of the first source that has not ended.
-fn act(hub: &mut Hub, lanes: &mut [Lane], inlets: &mut [Inlet]) -> Result<(), NoMemory>
-    requires waits { stop_of (plan hub.old) hub.old.journal.turns hub.old.journal.past ≡ None }
-    requires legal { IsLegalRun hub.old }
-    requires home { hands (plan hub.old) hub.old.journal.past ≡ 0 }
-    requires can_run { CanRun hub.old.set (map (λ l. l.name) lanes.old) (map (λ i. i.name) inlets.old) }
+fn act<L: Lanes, I: Inlets>(hub: &mut Hub, lanes: &mut L, inlets: &mut I) -> Result<(), NoMemory>
+    requires rests { Rests hub.old }
+    requires can_run { CanDrain hub.old (L.views lanes.old) (I.views inlets.old) }
     ensures legal { IsLegalRun hub.new }
-    ensures drains { Drains hub.old hub.new (map (seen_lane (λ b. (⟦<dyn Endpoint as Endpoint>⟧ b.vtable).calls b.value) (λ b. (⟦<dyn Endpoint as Endpoint>⟧ b.vtable).lane_faults b.value)) lanes.old) (map (seen_lane (λ b. (⟦<dyn Endpoint as Endpoint>⟧ b.vtable).calls b.value) (λ b. (⟦<dyn Endpoint as Endpoint>⟧ b.vtable).lane_faults b.value)) lanes.new) (map (seen_inlet (λ b. (⟦<dyn Source as Source>⟧ b.vtable).given b.value) (λ b. (⟦<dyn Source as Source>⟧ b.vtable).left b.value) (λ b. (⟦<dyn Source as Source>⟧ b.vtable).commits b.value) (λ b. (⟦<dyn Source as Source>⟧ b.vtable).inlet_faults b.value)) inlets.old) (map (seen_inlet (λ b. (⟦<dyn Source as Source>⟧ b.vtable).given b.value) (λ b. (⟦<dyn Source as Source>⟧ b.vtable).left b.value) (λ b. (⟦<dyn Source as Source>⟧ b.vtable).commits b.value) (λ b. (⟦<dyn Source as Source>⟧ b.vtable).inlet_faults b.value)) inlets.new) }
+    ensures drains { Drains hub.old hub.new (L.views lanes.old) (L.views lanes.new) (I.views inlets.old) (I.views inlets.new) }
     ensures acts { OnOk result (Acts hub.old hub.new) }
 {
     hub.reserve()?;
@@ -110,15 +101,15 @@ fn act(hub: &mut Hub, lanes: &mut [Lane], inlets: &mut [Inlet]) -> Result<(), No
 }
 
 /// Acts until a turn is taken, or until the run stops, which it answers then.
-fn take_turn(
+fn take_turn<L: Lanes, I: Inlets>(
     hub: &mut Hub,
-    lanes: &mut [Lane],
-    inlets: &mut [Inlet],
+    lanes: &mut L,
+    inlets: &mut I,
 ) -> Result<Option<Stop>, NoMemory>
     requires home { hands (plan hub.old) hub.old.journal.past ≡ 0 }
-    requires can_run { CanRun hub.old.set (map (λ l. l.name) lanes.old) (map (λ i. i.name) inlets.old) }
+    requires can_run { CanDrain hub.old (L.views lanes.old) (I.views inlets.old) }
     ensures legal { IsLegalRun hub.new }
-    ensures drains { Drains hub.old hub.new (map (seen_lane (λ b. (⟦<dyn Endpoint as Endpoint>⟧ b.vtable).calls b.value) (λ b. (⟦<dyn Endpoint as Endpoint>⟧ b.vtable).lane_faults b.value)) lanes.old) (map (seen_lane (λ b. (⟦<dyn Endpoint as Endpoint>⟧ b.vtable).calls b.value) (λ b. (⟦<dyn Endpoint as Endpoint>⟧ b.vtable).lane_faults b.value)) lanes.new) (map (seen_inlet (λ b. (⟦<dyn Source as Source>⟧ b.vtable).given b.value) (λ b. (⟦<dyn Source as Source>⟧ b.vtable).left b.value) (λ b. (⟦<dyn Source as Source>⟧ b.vtable).commits b.value) (λ b. (⟦<dyn Source as Source>⟧ b.vtable).inlet_faults b.value)) inlets.old) (map (seen_inlet (λ b. (⟦<dyn Source as Source>⟧ b.vtable).given b.value) (λ b. (⟦<dyn Source as Source>⟧ b.vtable).left b.value) (λ b. (⟦<dyn Source as Source>⟧ b.vtable).commits b.value) (λ b. (⟦<dyn Source as Source>⟧ b.vtable).inlet_faults b.value)) inlets.new) }
+    ensures drains { Drains hub.old hub.new (L.views lanes.old) (L.views lanes.new) (I.views inlets.old) (I.views inlets.new) }
     ensures home { IfOk result (λ s. IfNone s (hands (plan hub.new) hub.new.journal.past ≡ 0)) }
     ensures turn { IfOk result (λ s. IfNone s (turns hub.old.journal.past < turns hub.new.journal.past)) }
     ensures stop { IfOk result (λ s. IfSome s (λ t. stop_of (plan hub.new) hub.new.journal.turns hub.new.journal.past ≡ Some t)) }
@@ -137,17 +128,17 @@ fn take_turn(
 
 /// Drains the sources of a run through the hub, by the plain schedule of one worker: the least Ready exchange acts, or else
 /// the first source that has not ended is pulled. It always returns: the stop of the journal, or `NoMemory`.
-pub fn drain_alone(
+pub fn drain_alone<L: Lanes, I: Inlets>(
     hub: &mut Hub,
-    lanes: &mut [Lane],
-    inlets: &mut [Inlet],
+    lanes: &mut L,
+    inlets: &mut I,
     _registry: &Registry,
 ) -> Stop
     requires home { hands (plan hub.old) hub.old.journal.past ≡ 0 }
-    requires can_run { CanRun hub.old.set (map (λ l. l.name) lanes.old) (map (λ i. i.name) inlets.old) }
+    requires can_run { CanDrain hub.old (L.views lanes.old) (I.views inlets.old) }
     ensures stop { IsStop hub.new result }
     ensures legal { IsLegalRun hub.new }
-    ensures drains { Drains hub.old hub.new (map (seen_lane (λ b. (⟦<dyn Endpoint as Endpoint>⟧ b.vtable).calls b.value) (λ b. (⟦<dyn Endpoint as Endpoint>⟧ b.vtable).lane_faults b.value)) lanes.old) (map (seen_lane (λ b. (⟦<dyn Endpoint as Endpoint>⟧ b.vtable).calls b.value) (λ b. (⟦<dyn Endpoint as Endpoint>⟧ b.vtable).lane_faults b.value)) lanes.new) (map (seen_inlet (λ b. (⟦<dyn Source as Source>⟧ b.vtable).given b.value) (λ b. (⟦<dyn Source as Source>⟧ b.vtable).left b.value) (λ b. (⟦<dyn Source as Source>⟧ b.vtable).commits b.value) (λ b. (⟦<dyn Source as Source>⟧ b.vtable).inlet_faults b.value)) inlets.old) (map (seen_inlet (λ b. (⟦<dyn Source as Source>⟧ b.vtable).given b.value) (λ b. (⟦<dyn Source as Source>⟧ b.vtable).left b.value) (λ b. (⟦<dyn Source as Source>⟧ b.vtable).commits b.value) (λ b. (⟦<dyn Source as Source>⟧ b.vtable).inlet_faults b.value)) inlets.new) }
+    ensures drains { Drains hub.old hub.new (L.views lanes.old) (L.views lanes.new) (I.views inlets.old) (I.views inlets.new) }
 {
     loop {
         match take_turn(hub, lanes, inlets) {

@@ -6,5 +6,6 @@ pub mod outside;
 pub mod registry;
 pub mod served;
 
+pub use drain::drain_alone;
 pub use registry::Registry;
 pub use served::{is_served, names_of};

@@ -1,17 +1,14 @@
-ghost use Rattle.std.specs.Prelude.{◌≡◌, ◌<◌, IfOk, IfSome, IsSome, IsErrOf, Some, length, map, slice_get, true, bytes_eq, option_map};
+ghost use Rattle.std.specs.Prelude.{◌≡◌, ◌<◌, IfOk, IfSome, IsSome, IsErrOf, Some, length, slice_get, true, bytes_eq, option_map};
 ghost use Rattle.eip_frames.specs.Fits.{fits};
 ghost use Rattle.eip_frames.specs.declared.answer.Answer.TheVariants.{Exists};
 ghost use Rattle.eip_history.specs.Texts.{lane_of};
 ghost use Rattle.eip_endpoint.specs.Pulls.{IsFair};
-ghost use Rattle.eip_endpoint.specs.Lanes.{seen_lane, LanesGrew, first_named};
-ghost use Rattle.eip_endpoint.specs.Inlets.{seen_inlet, InletsGrew, acts_of_pull};
+ghost use Rattle.eip_endpoint.specs.Lanes.{LanesGrew, first_named, lane_names};
+ghost use Rattle.eip_endpoint.specs.Inlets.{InletsGrew, acts_of_pull, inlet_names};
 ghost use Rattle.eip_core.specs.Doors.{inlet_at, uri_at};
 ghost use Rattle.eip_core.specs.Outside.{refusal_of, acts_by, IsSendable, calls_sent, is_rest};
 
-use eip_endpoint::{
-    Endpoint, Inlet, Lane, PullFault, Pulled, Refusal, SendFault, Source, find_inlet, pull_at,
-    send_at,
-};
+use eip_endpoint::{Inlets, Lanes, PullFault, Pulled, Refusal, SendFault, find_inlet};
 use eip_frames::{Request, Target};
 use eip_ledger::Refused;
 use eip_route::RouteSet;
@@ -19,11 +16,15 @@ use eip_text::Text;
 use eip_text::cuts::behind;
 
 /// Pulls from the inlet of a route's source.
-pub fn pull_source(set: &RouteSet, inlets: &mut [Inlet], source: u32) -> Result<Pulled, PullFault>
-    requires { IsSome (inlet_at (map (λ i. i.name) inlets.old) (slice_get set.now.routes source)) }
+pub fn pull_source<I: Inlets>(
+    set: &RouteSet,
+    inlets: &mut I,
+    source: u32,
+) -> Result<Pulled, PullFault>
+    requires { IsSome (inlet_at (inlet_names (I.views inlets.old)) (slice_get set.now.routes source)) }
     ensures grew { InletsGrew 0
-        (acts_by (inlet_at (map (λ i. i.name) inlets.old) (slice_get set.now.routes source)) (uri_at (slice_get set.now.routes source)) (acts_of_pull result))
-        (map (seen_inlet (λ b. (⟦<dyn Source as Source>⟧ b.vtable).given b.value) (λ b. (⟦<dyn Source as Source>⟧ b.vtable).left b.value) (λ b. (⟦<dyn Source as Source>⟧ b.vtable).commits b.value) (λ b. (⟦<dyn Source as Source>⟧ b.vtable).inlet_faults b.value)) inlets.old) (map (seen_inlet (λ b. (⟦<dyn Source as Source>⟧ b.vtable).given b.value) (λ b. (⟦<dyn Source as Source>⟧ b.vtable).left b.value) (λ b. (⟦<dyn Source as Source>⟧ b.vtable).commits b.value) (λ b. (⟦<dyn Source as Source>⟧ b.vtable).inlet_faults b.value)) inlets.new) }
+        (acts_by (inlet_at (inlet_names (I.views inlets.old)) (slice_get set.now.routes source)) (uri_at (slice_get set.now.routes source)) (acts_of_pull result))
+        (I.views inlets.old) (I.views inlets.new) }
     ensures fair { IfOk result IsFair }
 {
     let Some(route) = set.routes.items().get(source as usize) else {
@@ -35,7 +36,7 @@ pub fn pull_source(set: &RouteSet, inlets: &mut [Inlet], source: u32) -> Result<
     let Some(index) = find_inlet(inlets, name.as_bytes()) else {
         unreachable!()
     };
-    pull_at(inlets, index, &route.from)
+    inlets.pull_at(index, &route.from)
 }
 
 /// Whether a lane of this name is the one that a target is sent on.
@@ -60,12 +61,12 @@ pub fn is_rest(rest: Option<&str>, name: &str) -> bool
 }
 
 /// The index of the first lane that a target is sent on.
-fn find_lane_of(lanes: &[Lane], target: &Target) -> Option<usize>
-    ensures first { result ≡ first_named (lane_of target.now) (map (λ l. l.name) lanes.now) }
-    ensures within { IfSome result (λ k. k < length lanes.now) }
+fn find_lane_of<L: Lanes>(lanes: &L, target: &Target) -> Option<usize>
+    ensures first { result ≡ first_named (lane_of target.now) (lane_names (L.views lanes.now)) }
+    ensures within { IfSome result (λ k. k < length (L.views lanes.now)) }
 {
-    for (index, lane) in lanes.iter().enumerate() {
-        if serves(&lane.name, target) {
+    for index in 0..lanes.count() {
+        if serves(lanes.name_at(index), target) {
             return Some(index);
         }
     }
@@ -73,10 +74,10 @@ fn find_lane_of(lanes: &[Lane], target: &Target) -> Option<usize>
 }
 
 /// Makes the call that a Send asks for, on the first lane of the target's name.
-pub fn send(lanes: &mut [Lane], request: &Request) -> Result<(), SendFault>
-    requires { IsSendable (map (λ l. l.name) lanes.old) request.now }
-    ensures grew { LanesGrew 0 (calls_sent (map (λ l. l.name) lanes.old) request.now result)
-        (map (seen_lane (λ b. (⟦<dyn Endpoint as Endpoint>⟧ b.vtable).calls b.value) (λ b. (⟦<dyn Endpoint as Endpoint>⟧ b.vtable).lane_faults b.value)) lanes.old) (map (seen_lane (λ b. (⟦<dyn Endpoint as Endpoint>⟧ b.vtable).calls b.value) (λ b. (⟦<dyn Endpoint as Endpoint>⟧ b.vtable).lane_faults b.value)) lanes.new) }
+pub fn send<L: Lanes>(lanes: &mut L, request: &Request) -> Result<(), SendFault>
+    requires { IsSendable (lane_names (L.views lanes.old)) request.now }
+    ensures grew { LanesGrew 0 (calls_sent (lane_names (L.views lanes.old)) request.now result)
+        (L.views lanes.old) (L.views lanes.new) }
     ensures exists { IsErrOf result SendFault.Exists → fits request.now Exists ≡ true }
 {
     let Request::Send { target, message } = request else {
@@ -85,7 +86,7 @@ pub fn send(lanes: &mut [Lane], request: &Request) -> Result<(), SendFault>
     let Some(index) = find_lane_of(lanes, target) else {
         unreachable!()
     };
-    send_at(lanes, index, target, message)
+    lanes.send_at(index, target, message)
 }
 
 /// The cause of a refusal in the words of the journal.

@@ -122,6 +122,7 @@ pub fn totals(hub: &Hub) -> Summary
     ensures handled { result.handled ≡ handled_count (plan hub.now) hub.now.journal.past }
     ensures failed { result.failed ≡ failed_count (plan hub.now) hub.now.journal.past }
     ensures waiting { result.waiting ≡ waiting_count (plan hub.now) hub.now.journal.past }
+    ensures sum { result.completed + result.handled + result.failed + result.waiting ≡ result.total }
 {
     let entries = hub.journal().entries();
     let ends = count_ends(hub);

@@ -1,10 +1,9 @@
 -- What contracts see of inlets, and how pulls and commits change it.
-use Rattle.std.specs.Prelude.{ℕ, ◌≡◌, ◌+◌, ◌==◌, ◌&&◌, bytes_eq, Bool, cond, List, [], ◌∷◌, ◌++◌, Option, Result, Ok, Err}
-use Rattle.std.specs.declared.alloc.Global.{Global}
-use Rattle.std.specs.declared.dyn_box.DynBox.{DynBox}
+use Rattle.std.specs.Prelude.{ℕ, ◌≡◌, ◌+◌, ◌==◌, ◌&&◌, bytes_eq, Bool, cond, List, [], ◌∷◌, ◌++◌, Option, Result, Ok, Err, map}
 use Rattle.eip_text.specs.Causes.{Rises}
 use Rattle.eip_endpoint.specs.declared.source.Pulled.{Pulled}
 use Rattle.eip_endpoint.specs.declared.source.Commit.{Commit}
+use Rattle.eip_endpoint.specs.declared.source.Source.{Ghosts}
 use Rattle.eip_endpoint.specs.declared.inlets.Inlet.{Inlet}
 use Rattle.eip_endpoint.specs.Content.{extended, preceded}
 use Rattle.eip_exchange.specs.declared.end.End.{End}
@@ -22,12 +21,17 @@ pub record InletView : Type 0 where
   pub faults : ℕ
 
 -- an inlet, by the members of its object
-abbrev pub seen_inlet :
-    {X : Type 0} {F : X → Type 0} →
-    (DynBox X Global F → List ℕ → Option (List Pulled)) → (DynBox X Global F → List ℕ → Option (List Pulled))
-    → (DynBox X Global F → List ℕ → Option (List Commit)) → (DynBox X Global F → ℕ) → Inlet X F → InletView
-seen_inlet given left commits faults i =
-    record { name = i.name; given = given i.object; left = left i.object; commits = commits i.object; faults = faults i.object }
+abbrev pub inlet_view : {S : Type 0} → Ghosts S → Inlet S → InletView
+inlet_view m i =
+    record { name = i.name; given = m.given i.object; left = m.left i.object; commits = m.commits i.object; faults = m.inlet_faults i.object }
+
+-- inlets, by the members of their objects
+abbrev pub inlet_views : {S : Type 0} → Ghosts S → List (Inlet S) → List InletView
+inlet_views m is = map (inlet_view m) is
+
+-- the names of inlets
+abbrev pub inlet_names : List InletView → List (List ℕ)
+inlet_names vs = map (λ v. v.name) vs
 
 -- what an inlet did: it gave something, failed to, or was told of an end
 pub data Act : Type 0 where

@@ -1,10 +1,9 @@
 -- What contracts see of lanes, and how calls change it.
-use Rattle.std.specs.Prelude.{ℕ, ◌≡◌, ◌+◌, ◌==◌, bytes_eq, cond, List, [], ◌∷◌, Option}
-use Rattle.std.specs.declared.alloc.Global.{Global}
-use Rattle.std.specs.declared.dyn_box.DynBox.{DynBox}
+use Rattle.std.specs.Prelude.{ℕ, ◌≡◌, ◌+◌, ◌==◌, bytes_eq, cond, List, [], ◌∷◌, Option, map}
 use Rattle.std.specs.List.{position_from}
 use Rattle.eip_text.specs.Causes.{Rises}
 use Rattle.eip_endpoint.specs.declared.endpoint.Call.{Call}
+use Rattle.eip_endpoint.specs.declared.endpoint.Endpoint.{Ghosts}
 use Rattle.eip_endpoint.specs.declared.lanes.Lane.{Lane}
 use Rattle.eip_endpoint.specs.Content.{extended}
 use Rattle.eip_endpoint.specs.Calls.{failures}
@@ -16,8 +15,16 @@ pub record LaneView : Type 0 where
   pub faults : ℕ
 
 -- a lane, by the members of its object
-abbrev pub seen_lane : {X : Type 0} {F : X → Type 0} → (DynBox X Global F → Option (List Call)) → (DynBox X Global F → ℕ) → Lane X F → LaneView
-seen_lane calls faults l = record { name = l.name; calls = calls l.object; faults = faults l.object }
+abbrev pub lane_view : {E : Type 0} → Ghosts E → Lane E → LaneView
+lane_view m l = record { name = l.name; calls = m.calls l.object; faults = m.lane_faults l.object }
+
+-- lanes, by the members of their objects
+abbrev pub lane_views : {E : Type 0} → Ghosts E → List (Lane E) → List LaneView
+lane_views m ls = map (lane_view m) ls
+
+-- the names of lanes
+abbrev pub lane_names : List LaneView → List (List ℕ)
+lane_names vs = map (λ v. v.name) vs
 
 -- a call of the lane with an index, from 0
 pub record LaneCall : Type 0 where

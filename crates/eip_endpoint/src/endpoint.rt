@@ -57,3 +57,14 @@ pub trait Endpoint: Send + Drop {
         ensures faults { Rises (failures (made target.now message.now result)) (lane_faults self.old) (lane_faults self.new) }
         ensures exists { IsErrOf result SendFault.Exists → may_exist target.now ≡ true };
 }
+
+/// A box of an endpoint is one: a call goes to the object inside.
+impl Endpoint for Box<dyn Endpoint> {
+    ghost calls = { λ b. (Endpoint-box b).calls b.value };
+
+    ghost lane_faults = { λ b. (Endpoint-box b).lane_faults b.value };
+
+    fn send(&mut self, target: &Target, message: &Message) -> Result<(), SendFault> {
+        (**self).send(target, message)
+    }
+}

@@ -1,10 +1,8 @@
-ghost use Rattle.std.specs.Prelude.{◌≡◌, ◌<◌, length, map, List, ℕ, IfOk, IfSome};
-ghost use Rattle.eip_text.specs.Causes.{Rises};
+ghost use Rattle.std.specs.Prelude.{◌≡◌, ◌<◌, length, List, Some, IfOk, IfSome, slice_get};
 ghost use Rattle.eip_uri.specs.Printed.{printed};
-ghost use Rattle.eip_endpoint.specs.Content.{extended, preceded, where_same};
-ghost use Rattle.eip_endpoint.specs.Pulls.{given_by, all_taken, IsFair, pull_failure, committed, commit_failure};
+ghost use Rattle.eip_endpoint.specs.Pulls.{IsFair};
 ghost use Rattle.eip_endpoint.specs.Lanes.{first_named};
-ghost use Rattle.eip_endpoint.specs.Inlets.{seen_inlet, InletsGrew, acts_at, acts_of_pull, acts_of_commit};
+ghost use Rattle.eip_endpoint.specs.Inlets.{InletView, InletsGrew, acts_at, acts_of_pull, acts_of_commit, inlet_names, inlet_views};
 
 use crate::source::{CommitFault, PullFault, Pulled, Source};
 use eip_exchange::End;
@@ -13,66 +11,79 @@ use eip_uri::Uri;
 
 /// A source that is handed in under a name.
 #[derive(Drop)]
-pub struct Inlet {
+pub struct Inlet<S> {
     pub name: Text,
-    pub object: Box<dyn Source>,
+    pub object: S,
 }
 
-/// Pulls from one inlet.
-fn pull_from(inlet: &mut Inlet, from: &Uri) -> Result<Pulled, PullFault>
-    ensures name { inlet.new.name ≡ inlet.old.name }
-    ensures given { (u : List ℕ) → given inlet.new.object u ≡ extended (given inlet.old.object u) (where_same u (printed from.now) (given_by result)) }
-    ensures left { (u : List ℕ) → left inlet.old.object u ≡ preceded (all_taken (where_same u (printed from.now) (given_by result))) (left inlet.new.object u) }
-    ensures commits { (u : List ℕ) → commits inlet.new.object u ≡ commits inlet.old.object u }
-    ensures fair { IfOk result IsFair }
-    ensures faults { Rises (pull_failure result) (inlet_faults inlet.old.object) (inlet_faults inlet.new.object) }
-{
-    inlet.object.pull(from)
+/// Sources under names, in a row: the inlets that a run may pull from.
+pub trait Inlets {
+    /// What contracts see of the inlets: the name of each, what it tells for each URI and its count of faults.
+    ghost views: { Self → List InletView };
+
+    /// How many there are.
+    fn count(&self) -> usize
+        ensures { result ≡ length (views self.now) };
+
+    /// The name of the inlet with this index, from 0.
+    fn name_at(&self, index: usize) -> &Text
+        requires { index < length (views self.now) }
+        ensures { slice_get (inlet_names (views self.now)) index ≡ Some result.now };
+
+    /// Pulls from the inlet with this index, from 0. The other inlets are as before.
+    fn pull_at(&mut self, index: usize, from: &Uri) -> Result<Pulled, PullFault>
+        requires { index < length (views self.old) }
+        ensures grew { InletsGrew 0 (acts_at index (printed from.now) (acts_of_pull result)) (views self.old) (views self.new) }
+        ensures fair { IfOk result IsFair };
+
+    /// Tells the inlet with this index, from 0, how the exchange of an item ended. The other inlets are as before.
+    fn commit_at(
+        &mut self,
+        index: usize,
+        from: &Uri,
+        item: &Text,
+        end: &End,
+    ) -> Result<(), CommitFault>
+        requires { index < length (views self.old) }
+        ensures grew { InletsGrew 0 (acts_at index (printed from.now) (acts_of_commit item.now end.now result)) (views self.old) (views self.new) };
 }
 
-/// Pulls from the inlet with this index, from 0. The other inlets are as before.
-pub fn pull_at(inlets: &mut [Inlet], index: usize, from: &Uri) -> Result<Pulled, PullFault>
-    requires { index < length inlets.old }
-    ensures grew { InletsGrew 0 (acts_at index (printed from.now) (acts_of_pull result)) (map (seen_inlet given left commits inlet_faults) inlets.old) (map (seen_inlet given left commits inlet_faults) inlets.new) }
-    ensures fair { IfOk result IsFair }
-{
-    let inlet = &mut inlets[index];
-    pull_from(inlet, from)
-}
+impl<S: Source> Inlets for Vec<Inlet<S>> {
+    ghost views = { λ v. inlet_views S.Source v.items };
 
-/// Tells one inlet how the exchange of an item ended.
-fn commit_to(inlet: &mut Inlet, from: &Uri, item: &Text, end: &End) -> Result<(), CommitFault>
-    ensures name { inlet.new.name ≡ inlet.old.name }
-    ensures given { (u : List ℕ) → given inlet.new.object u ≡ given inlet.old.object u }
-    ensures left { (u : List ℕ) → left inlet.new.object u ≡ left inlet.old.object u }
-    ensures commits { (u : List ℕ) → commits inlet.new.object u ≡ extended (commits inlet.old.object u) (where_same u (printed from.now) (committed item.now end.now result)) }
-    ensures faults { Rises (commit_failure result) (inlet_faults inlet.old.object) (inlet_faults inlet.new.object) }
-{
-    inlet.object.commit(from, item, end)
-}
+    fn count(&self) -> usize {
+        self.len()
+    }
 
-/// Tells the inlet with this index, from 0, how the exchange of an item ended. The other inlets are as before.
-pub fn commit_at(
-    inlets: &mut [Inlet],
-    index: usize,
-    from: &Uri,
-    item: &Text,
-    end: &End,
-) -> Result<(), CommitFault>
-    requires { index < length inlets.old }
-    ensures grew { InletsGrew 0 (acts_at index (printed from.now) (acts_of_commit item.now end.now result)) (map (seen_inlet given left commits inlet_faults) inlets.old) (map (seen_inlet given left commits inlet_faults) inlets.new) }
-{
-    let inlet = &mut inlets[index];
-    commit_to(inlet, from, item, end)
+    fn name_at(&self, index: usize) -> &Text {
+        let inlets = self.as_slice();
+        &inlets[index].name
+    }
+
+    fn pull_at(&mut self, index: usize, from: &Uri) -> Result<Pulled, PullFault> {
+        let inlet = &mut self[index];
+        inlet.object.pull(from)
+    }
+
+    fn commit_at(
+        &mut self,
+        index: usize,
+        from: &Uri,
+        item: &Text,
+        end: &End,
+    ) -> Result<(), CommitFault> {
+        let inlet = &mut self[index];
+        inlet.object.commit(from, item, end)
+    }
 }
 
 /// The index of the first inlet of a name, from 0; None exactly where no inlet has it.
-pub fn find_inlet(inlets: &[Inlet], name: &[u8]) -> Option<usize>
-    ensures first { result ≡ first_named name.now (map (λ i. i.name) inlets.now) }
-    ensures within { IfSome result (λ k. k < length inlets.now) }
+pub fn find_inlet<I: Inlets>(inlets: &I, name: &[u8]) -> Option<usize>
+    ensures first { result ≡ first_named name.now (inlet_names (I.views inlets.now)) }
+    ensures within { IfSome result (λ k. k < length (I.views inlets.now)) }
 {
-    for (index, inlet) in inlets.iter().enumerate() {
-        if inlet.name.bytes() == name {
+    for index in 0..inlets.count() {
+        if inlets.name_at(index).bytes() == name {
             return Some(index);
         }
     }

@@ -103,3 +103,22 @@ pub trait Source: Send + Drop {
         ensures commits { (u : List ℕ) → commits self.new u ≡ extended (commits self.old u) (where_same u (printed from.now) (committed item.now end.now result)) }
         ensures faults { Rises (commit_failure result) (inlet_faults self.old) (inlet_faults self.new) };
 }
+
+/// A box of a source is one: a call goes to the object inside.
+impl Source for Box<dyn Source> {
+    ghost given = { λ b. (Source-box b).given b.value };
+
+    ghost left = { λ b. (Source-box b).left b.value };
+
+    ghost commits = { λ b. (Source-box b).commits b.value };
+
+    ghost inlet_faults = { λ b. (Source-box b).inlet_faults b.value };
+
+    fn pull(&mut self, from: &Uri) -> Result<Pulled, PullFault> {
+        (**self).pull(from)
+    }
+
+    fn commit(&mut self, from: &Uri, item: &Text, end: &End) -> Result<(), CommitFault> {
+        (**self).commit(from, item, end)
+    }
+}

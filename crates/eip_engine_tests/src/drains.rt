@@ -1,14 +1,14 @@
-ghost use Rattle.std.specs.Prelude.{◌≡◌, IfOk, [], ◌∷◌, map, codes};
+ghost use Rattle.std.specs.Prelude.{◌≡◌, IfOk, [], ◌∷◌, codes};
+ghost use Rattle.eip_endpoint.specs.Inlets.{inlet_names, inlet_views};
 ghost use Rattle.eip_engine_tests.specs.Rows.{logging};
 
-use crate::support::{item, two_of_stream};
-use eip_core::Registry;
-use eip_core::drain::drain_alone;
-use eip_endpoint::{Inlet, Lane, MemorySource};
+use eip_core::{Registry, drain_alone};
+use eip_endpoint::{Inlet, Lane, MemoryLane, MemorySource, Source};
 use eip_exchange::End;
 use eip_hub::Hub;
 use eip_ledger::{Place, Stop};
 use eip_route::{Block, Handler, Names, Route, RouteSet, Step};
+use eip_test_support::{item, two_of_stream};
 use eip_text::{NoMemory, Series, Text};
 use eip_uri::Uri;
 use std::alloc::Global;
@@ -37,12 +37,11 @@ fn logging(alloc: Global) -> Result<RouteSet, NoMemory>
 }
 
 /// A source of the lines `a` and `b`, as the inlet of standard input.
-fn one_inlet(alloc: Global) -> Result<Vec<Inlet>, NoMemory>
-    ensures { IfOk result (λ v. map (λ i. i.name) v.items ≡ codes "stream" ∷ []) }
+fn one_inlet(alloc: Global) -> Result<Vec<Inlet<MemorySource>>, NoMemory>
+    ensures { IfOk result (λ v. inlet_names (inlet_views ⟦<MemorySource as Source>⟧ v.items) ≡ codes "stream" ∷ []) }
 {
     let lines = two_of_stream(alloc, item(alloc, "1", "a")?, item(alloc, "2", "b")?)?;
-    let source = MemorySource::new(alloc, lines, Vec::new(alloc));
-    let object = Box::new(alloc, source)?;
+    let object = MemorySource::new(alloc, lines, Vec::new(alloc));
     let name = Text::of_str(alloc, "stream")?;
     Ok(vec![in alloc; Inlet { name, object }]?)
 }
@@ -67,7 +66,7 @@ fn drained(alloc: Global, hub: &mut Hub) -> Result<Stop, NoMemory>
     requires past { hub.old.journal.past ≡ [] }
 {
     let mut inlets = one_inlet(alloc)?;
-    let mut lanes: Vec<Lane> = Vec::new(alloc);
+    let mut lanes: Vec<Lane<MemoryLane>> = Vec::new(alloc);
     let stop = drain_alone(hub, &mut lanes, &mut inlets, &Registry::new());
     Ok(stop)
 }

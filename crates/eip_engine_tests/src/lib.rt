@@ -1,4 +1,4 @@
-// Tests of the engine: the forms of the outside in memory, the hub, the drain, the texts of the book.
+// Tests of the engine: the hub, the drain, the texts of the book.
 #![tactic(auto)]
 
 #[cfg(test)]
@@ -7,7 +7,5 @@ mod books;
 mod drains;
 #[cfg(test)]
 mod hubs;
-#[cfg(test)]
-mod memory_forms;
 #[cfg(test)]
 mod support;

@@ -14,4 +14,4 @@ pub use end::{End, Ended, Ending, Fault};
 pub use headers::{HeaderFault, Headers};
 pub use message::Message;
 pub use properties::Properties;
-pub use setting::{Clause, How, Policy, Strategy};
+pub use setting::{Clause, How, Key, Policy, Strategy};

@@ -24,6 +24,17 @@ pub enum How {
     JsonArray,
 }
 
+/// What of a message it is put in order by (Camel manual, *Resequence EIP*).
+#[derive(Drop)]
+pub enum Key {
+    /// The body.
+    Body,
+    /// The header with this name; a message without it has the empty text.
+    Header(Text),
+    /// The property with this name; a message without it has the empty text.
+    Property(Text),
+}
+
 /// How a failed step is tried again (Camel manual, *Exception Clause*, redelivery policy). What isn't given comes from
 /// the handler, and there from the defaults.
 #[derive(Clone, Copy, Debug, PartialEq, Eq)]

@@ -1,11 +1,11 @@
-use crate::support::message_of;
 use eip_exchange::{HeaderFault, Headers, Message, Properties};
+use eip_test_support::message_of;
 use eip_text::{NoMemory, Text};
 use std::alloc::Global;
 use std::mem::size_of;
 use std::test::*;
 
-pub fn set_header(
+fn set_header(
     alloc: Global,
     headers: &mut Headers,
     name: &str,
@@ -23,7 +23,7 @@ fn headers_of(alloc: Global, rows: &[(&str, &str)]) -> Result<Headers, HeaderFau
     Ok(headers)
 }
 
-pub fn set_property(
+fn set_property(
     alloc: Global,
     properties: &mut Properties,
     name: &str,

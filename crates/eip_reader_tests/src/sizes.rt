@@ -1,123 +1,11 @@
-// Calls that succeed where memory is ample, at the sizes that values may have. In a row `«N*TEXT»` stands for so many
-// times this text.
-use crate::messages::{set_header, set_property};
-use crate::simple_texts::{matched, template_said};
-use crate::simple_values::{says, value_said};
-use crate::support::{message_of, repeated, written_out};
+// Texts, messages and URIs where memory is ample, at the sizes that values may have. In a row `«N*TEXT»` stands for so
+// many times this text.
 use crate::uris::said;
-use eip_exchange::{HeaderFault, Message};
+use eip_exchange::HeaderFault;
+use eip_test_support::{message_of_size, repeated, written_out};
 use eip_text::{NoMemory, Text, quote, split_by};
 use std::alloc::Global;
 use std::test::*;
-
-/// Predicates, and whether they hold where the body is 65,536 times `x`.
-const SIDES: [(&str, bool); 17] = [
-    ("${body} == '«65536*x»'", true),
-    ("${body} == '«65535*x»y'", false),
-    ("${body} != '«65536*x»'", false),
-    ("${body} =~ '«65536*X»'", true),
-    ("${body} < '«65536*x»'", false),
-    ("${body} <= '«65536*x»'", true),
-    ("${body} contains '«65536*x»'", true),
-    ("${body} contains '«32768*x»'", true),
-    ("${body} ~~ '«65536*X»'", true),
-    ("${body} startsWith '«65536*x»'", true),
-    ("${body} endsWith '«65536*x»'", true),
-    ("${body} in '«65536*x»'", true),
-    ("${body} in '«32767*x,»yy'", false),
-    ("${body} range '«32767*1»..«32767*1»'", false),
-    ("${body} regex 'x*'", true),
-    ("${body} regex '(x|y)+y'", false),
-    ("'«65536*x»' == \"«65536*x»\" && '«65536*y»'", true),
-];
-
-/// Whether a predicate holds where the body is 65,536 times `x`.
-fn says_at_size(alloc: Global, marked: &str) -> Result<Option<bool>, NoMemory> {
-    let text = written_out(alloc, marked)?;
-    let body = repeated(alloc, "x", 65_536)?;
-    let message = message_of(alloc, body.as_str())?;
-    says(alloc, text.as_str(), &message)
-}
-
-#[test]
-fn sides_and_bodies_of_65536_bytes_are_compared(rt: HostRuntime) -> Result<(), Fail> {
-    for (predicate, want) in SIDES {
-        let got = says_at_size(rt.alloc(), predicate)?;
-        assert_eq!(rt; got, Some(want), "of {predicate}");
-    }
-    Ok(())
-}
-
-/// Patterns of 200 bytes, a text, and whether the whole of it matches.
-const PATTERNS: [(&str, &str, bool); 8] = [
-    ("«200*x»", "«200*x»", true),
-    ("«200*x»", "«199*x»", false),
-    ("«40*[a-z]»", "«40*k»", true),
-    ("«40*[a-z]»", "«39*k»K", false),
-    ("«100*a?»", "«100*a»", true),
-    ("«100*a?»", "«101*a»", false),
-    ("«50*ab|c»", "cab", true),
-    ("«28*(a|bc)+»xxxx", "«9000*abc»xxxx", true),
-];
-
-/// Whether a pattern matches the whole of a text.
-fn matched_at_size(alloc: Global, pattern: &str, text: &str) -> Result<Option<bool>, NoMemory> {
-    let mut predicate = String::from_str(alloc, "${body} regex '")?;
-    predicate.push_str(written_out(alloc, pattern)?.as_str())?;
-    predicate.push('\'')?;
-    let text = written_out(alloc, text)?;
-    matched(alloc, predicate.as_str(), text.as_str())
-}
-
-#[test]
-fn patterns_of_200_bytes_are_built_and_match(rt: HostRuntime) -> Result<(), Fail> {
-    for (pattern, text, want) in PATTERNS {
-        let got = matched_at_size(rt.alloc(), pattern, text)?;
-        assert_eq!(rt; got, Some(want), "of {pattern}");
-    }
-    Ok(())
-}
-
-/// Templates of 65,000 bytes, the length of the body, and that of the value.
-const TEMPLATES: [(&str, usize, usize); 4] = [
-    ("«65000*x»", 1, 65_000),
-    ("«64993*x»${body}", 543, 65_536),
-    ("«9285*${body}»«5*x»", 7, 65_000),
-    ("«9285*${body}»«5*x»", 0, 5),
-];
-
-/// The length of a template, whether it prints as its text, and the length of its value where the body has so many
-/// bytes.
-fn template_at_size(
-    alloc: Global,
-    marked: &str,
-    body: usize,
-) -> Result<(usize, bool, usize), NoMemory> {
-    let text = written_out(alloc, marked)?;
-    let printed = template_said(alloc, text.as_str())?;
-    let body = repeated(alloc, "b", body)?;
-    let message = message_of(alloc, body.as_str())?;
-    let value = value_said(alloc, text.as_str(), &message)?;
-    Ok((text.len(), printed.as_str() == text.as_str(), value.len()))
-}
-
-#[test]
-fn templates_of_65000_bytes_are_read_printed_and_evaluated(rt: HostRuntime) -> Result<(), Fail> {
-    for (template, body, want) in TEMPLATES {
-        let got = template_at_size(rt.alloc(), template, body)?;
-        assert_eq!(rt; got, (65_000, true, want), "of {template}");
-    }
-    Ok(())
-}
-
-/// A message whose body, header and property have so many bytes.
-fn message_at_size(alloc: Global, size: usize) -> Result<Message, HeaderFault> {
-    let value = repeated(alloc, "x", size)?;
-    let mut message = message_of(alloc, value.as_str())?;
-    set_header(alloc, &mut message.headers, "h", value.as_str())?;
-    set_property(alloc, &mut message.properties, "p", value.as_str())?;
-    Ok(message)
-}
 
 fn length_of(value: Option<&Text>) -> usize {
     match value {
@@ -128,27 +16,16 @@ fn length_of(value: Option<&Text>) -> usize {
 
 /// The lengths of a copy's body, header and property, where each of the message has so many bytes.
 fn copied_at_size(alloc: Global, size: usize) -> Result<[usize; 3], HeaderFault> {
-    let copy = message_at_size(alloc, size)?.copy(alloc)?;
+    let copy = message_of_size(alloc, size)?.copy(alloc)?;
     let header = length_of(copy.headers.get(b"H"));
     let property = length_of(copy.properties.get(b"p"));
     Ok([copy.body.bytes().len(), header, property])
-}
-
-/// The lengths of the values of a header and of a property, where each of the message has so many bytes.
-fn evaluated_at_size(alloc: Global, size: usize) -> Result<[usize; 2], HeaderFault> {
-    let message = message_at_size(alloc, size)?;
-    let header = value_said(alloc, "${header.h}", &message)?.len();
-    Ok([
-        header,
-        value_said(alloc, "${exchangeProperty.p}", &message)?.len(),
-    ])
 }
 
 #[test]
 fn headers_and_properties_of_65536_bytes_are_kept(rt: HostRuntime) -> Result<(), Fail> {
     let size = 65_536;
     assert_eq!(rt; copied_at_size(rt.alloc(), size)?, [size, size, size]);
-    assert_eq!(rt; evaluated_at_size(rt.alloc(), size)?, [size, size]);
     Ok(())
 }
 

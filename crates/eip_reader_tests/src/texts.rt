@@ -1,4 +1,4 @@
-use crate::support::repeated;
+use eip_test_support::repeated;
 use eip_text::{
     JsonFault, NoMemory, Text, TextFault, Tree, decimal, escape, is_name, print_json, quote,
     read_i64, read_json, same_name, signed_decimal, split_by,

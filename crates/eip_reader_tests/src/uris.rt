@@ -1,4 +1,4 @@
-use crate::support::string_of;
+use eip_test_support::string_of;
 use eip_text::{NoMemory, Text};
 use eip_uri::{Uri, UriFault, grammar_laws};
 use std::alloc::Global;

@@ -6,7 +6,7 @@ use Rattle.eip_route.specs.declared.route.Names.{Names}
 use Rattle.eip_route.specs.declared.step.Check.{Check}
 use Rattle.eip_route_validity.specs.Fit.{StepsFit, StepFits, CasesFit, LastFits}
 use Rattle.eip_route_values.specs.Nesting.{nest_steps, nest_step, nest_cases, nest_case, case_check}
-use Rattle.eip_route_print.specs.Canonical.{list_of, steps_json, step_json, cases_json, last_json, guarded_json}
+use Rattle.eip_route_canonical.specs.Canonical.{list_of, steps_json, step_json, cases_json, last_json, guarded_json}
 use Rattle.eip_route_again.proofs.Blocks.{last_of, choice_again, case_check_again, case_again, filter_again, split_again, multicast_again, aggregate_again, once_again}
 use Rattle.eip_route_again.proofs.Steps.{set_body_again, set_header_again, set_property_again, remove_header_again, to_again, log_again, throw_again, process_again, recipients_again}
 

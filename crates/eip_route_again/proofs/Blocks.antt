@@ -22,7 +22,7 @@ use Rattle.eip_route_values.specs.Leaves.{flag_given, flag_at, count_of, small_c
 use Rattle.eip_route_values.specs.Nesting.{nest_list, nest_step, nest_in, nest_case_list, nest_case, case_check}
 use Rattle.eip_route_values.specs.Parts.{expr_in, expr_of, fan_in, how_given, gathering_in, strategy_given, completion_of, repository_given}
 use Rattle.eip_route_values.specs.Sets.{steps_given}
-use Rattle.eip_route_print.specs.Canonical.{Pairs, object_of, alone, expr_pairs, guarded_json, choice_json, otherwise_pairs, split_json, multicast_json, aggregate_json, idempotent_json}
+use Rattle.eip_route_canonical.specs.Canonical.{Pairs, object_of, alone, expr_pairs, guarded_json, choice_json, otherwise_pairs, split_json, multicast_json, aggregate_json, idempotent_json}
 use Rattle.eip_route_again.proofs.Nested.{steps_slot}
 use Rattle.eip_route_again.proofs.Objects.{set_value, unset_value, word_value, strategy_value, expr_puts, split_slots, split_puts, multicast_slots, multicast_puts, aggregate_slots, aggregate_puts, idempotent_slots, idempotent_puts}
 use Rattle.eip_route_again.proofs.Parts.{predicate_again, unhashed_name, set_again, unset_again, number_again, group_again, fan_again, expr_slot, simple_again, plain_expr_again, completion_again, repository_again}

@@ -11,7 +11,7 @@ use Rattle.eip_route_grammar.specs.declared.fault.RouteFault.{RouteFault}
 use Rattle.eip_route_grammar.specs.declared.table.Kind.TheVariants as kind
 use Rattle.eip_route_file.specs.Later.{too_many, later_fault, as_sites, items_file, file_sites}
 use Rattle.eip_route_validity.specs.Fit.{SetFits}
-use Rattle.eip_route_print.specs.Canonical.{list_of, handler_items, clauses_json, routes_json, set_items}
+use Rattle.eip_route_canonical.specs.Canonical.{list_of, handler_items, clauses_json, routes_json, set_items}
 use Rattle.eip_route_again.proofs.Fine.{ItemsFine, none_at_all, none_found, none_under, none_both}
 use Rattle.eip_route_again.proofs.FineItems.{items_fine}
 use Rattle.eip_route_again.proofs.FineLater.{few_routes, nothing_twice}

@@ -12,7 +12,7 @@ use Rattle.eip_route_grammar.specs.declared.keys.Key.TheVariants as key
 use Rattle.eip_route_grammar.specs.declared.table.Kind.{Kind}
 use Rattle.eip_route_grammar.specs.declared.table.Rule.{Rule}
 use Rattle.eip_route_faults.proofs.Walking.{none_append, first_under}
-use Rattle.eip_route_print.specs.Canonical.{Pairs, object_of, alone}
+use Rattle.eip_route_canonical.specs.Canonical.{Pairs, object_of, alone}
 use Rattle.eip_route_again.proofs.Slots.{Slot, sure, maybe, filled, slot_at, slot_keys, value_filled, Puts}
 
 -- ---- places

@@ -28,7 +28,7 @@ use Rattle.eip_route_grammar.specs.declared.table.Kind.{Kind}
 use Rattle.eip_route_grammar.specs.declared.table.Kind.TheVariants as kind
 use Rattle.eip_route_grammar.specs.declared.table.Rule.TheVariants as rule
 use Rattle.eip_route_validity.specs.Fit.{ExprFits, CheckFits, GatheringFits, MayPredicateFit}
-use Rattle.eip_route_print.specs.Canonical.{alone, guarded_json, choice_json, otherwise_pairs, split_json, multicast_json, aggregate_json, idempotent_json}
+use Rattle.eip_route_canonical.specs.Canonical.{alone, guarded_json, choice_json, otherwise_pairs, split_json, multicast_json, aggregate_json, idempotent_json}
 use Rattle.eip_route_again.proofs.Fine.{Fine, MayBeFine, ItemsFine, SlotsFine, HasKeys, none_found, none_both, word_fine, object_fine, alone_fine}
 use Rattle.eip_route_again.proofs.FineSteps.{simple_fine, constant_fine, named_fine, value_fine}
 use Rattle.eip_route_again.proofs.Keyed.{keys_fine}

@@ -18,7 +18,7 @@ use Rattle.eip_route_grammar.specs.declared.fault.RouteFault.{RouteFault}
 use Rattle.eip_route_file.specs.Later.{too_many, second_handler, uri_of, heads, same_from, is_from_taken, at_step, head_path, uri_path, head_fault, second_route, later_fault}
 use Rattle.eip_route_file.specs.declared.head.Head.{Head}
 use Rattle.eip_route_validity.specs.Fit.{Apart, AreApart, RouteFits, SetFits}
-use Rattle.eip_route_print.specs.Canonical.{Pairs, policy_in, clause_json, route_json, dead_items, handler_items, clauses_json, routes_json}
+use Rattle.eip_route_canonical.specs.Canonical.{Pairs, policy_in, clause_json, route_json, dead_items, handler_items, clauses_json, routes_json}
 
 -- ---- how many routes there are
 

@@ -7,7 +7,7 @@ use Rattle.eip_route_faults.specs.Sites.{has_none}
 use Rattle.eip_route_grammar.specs.Table.{list_of as listed}
 use Rattle.eip_route_grammar.specs.declared.table.Kind.TheVariants as kind
 use Rattle.eip_route_validity.specs.Fit.{HasSteps, HasCases, StepsFit, StepFits, CasesFit, LastFits}
-use Rattle.eip_route_print.specs.Canonical.{list_of, steps_json, step_json, cases_json, last_json, guarded_json}
+use Rattle.eip_route_canonical.specs.Canonical.{list_of, steps_json, step_json, cases_json, last_json, guarded_json}
 use Rattle.eip_route_again.proofs.Fine.{Fine, MayBeFine, ItemsFine, no_items_fine, item_fine}
 use Rattle.eip_route_again.proofs.FineBlocks.{block_fine, branches_fine, filled_list_fine, choice_fine, guarded_fine, filter_fine, split_fine, multicast_fine, aggregate_fine, once_fine}
 use Rattle.eip_route_again.proofs.FineSteps.{set_body_fine, set_header_fine, set_property_fine, remove_header_fine, to_fine, log_fine, throw_fine, process_fine, recipients_fine}

@@ -17,7 +17,7 @@ use Rattle.eip_route_grammar.specs.Table.{rows, rule_of, shape_of}
 use Rattle.eip_route_grammar.specs.declared.table.Kind.TheVariants as kind
 use Rattle.eip_route_grammar.specs.declared.table.Rule.TheVariants as rule
 use Rattle.eip_route_validity.specs.Fit.{TemplateFits, ExprFits, Registered, TargetFits}
-use Rattle.eip_route_print.specs.Canonical.{object_of, one, constant_pairs, named_pairs, simple_pairs, expr_pairs, set_body_json, named_value_json, text_json, log_json, throw_json, recipients_json}
+use Rattle.eip_route_canonical.specs.Canonical.{object_of, one, constant_pairs, named_pairs, simple_pairs, expr_pairs, set_body_json, named_value_json, text_json, log_json, throw_json, recipients_json}
 use Rattle.eip_route_again.proofs.Fine.{Fine, MayBeFine, SlotsFine, HasKeys, word_fine, object_fine, alone_fine}
 use Rattle.eip_route_again.proofs.Keyed.{keys_fine}
 use Rattle.eip_route_again.proofs.Objects.{set_value, strategy_value, delimiter_value, expr_slots, expr_puts, named_value_slots, named_value_puts, recipients_slots, recipients_puts}

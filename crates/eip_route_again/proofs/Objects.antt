@@ -15,7 +15,7 @@ use Rattle.eip_route.specs.Nest.{Gathering}
 use Rattle.eip_route.specs.declared.step.Expr.{Expr}
 use Rattle.eip_route.specs.declared.step.Expr.TheVariants as expr
 use Rattle.eip_route.specs.declared.step.Fan.{Fan}
-use Rattle.eip_route_print.specs.Canonical.{Pairs, object_of, list_of, one, alone, where_set, where_unset, given_word, given_number, where_any, constant_pairs, named_pairs, simple_pairs, expr_pairs, is_comma, strategy_text, strategy_pairs, group_pairs, predicate_pairs, delimiter_pairs, json_path, token_pairs, backing_pairs, policy_pairs, policy_in, otherwise_pairs, words, steps_pairs}
+use Rattle.eip_route_canonical.specs.Canonical.{Pairs, object_of, list_of, one, alone, where_set, where_unset, given_word, given_number, where_any, constant_pairs, named_pairs, simple_pairs, expr_pairs, is_comma, strategy_text, strategy_pairs, group_pairs, predicate_pairs, delimiter_pairs, json_path, token_pairs, backing_pairs, policy_pairs, policy_in, otherwise_pairs, words, steps_pairs}
 use Rattle.eip_route_again.proofs.Slots.{Slot, sure, maybe, Puts, put_none, put_one, put_given, ◌and◌}
 
 -- ---- values that may be absent

@@ -5,7 +5,7 @@ use Rattle.std.specs.Cmp.Lexicographic.{slice_cmp}
 use Rattle.std.specs.Prelude.{Bool, true, false, Option, Some, None}
 use Rattle.eip_text.specs.Json.{Json, flag, word, items_of, members_of}
 use Rattle.eip_text.specs.JsonText.{nesting, items_nesting, members_nesting, Above, IsCanonical, ItemsAreCanonical, MembersAreCanonical}
-use Rattle.eip_route_print.specs.Canonical.{Pairs, object_of, list_of, one, alone, where_set, where_unset, given_word, where_any}
+use Rattle.eip_route_canonical.specs.Canonical.{Pairs, object_of, list_of, one, alone, where_set, where_unset, given_word, where_any}
 
 -- a canonical value, of at most n levels
 pub record Good (n : ℕ) (j : Json) : Type 0 where

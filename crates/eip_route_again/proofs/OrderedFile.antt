@@ -10,7 +10,7 @@ use Rattle.eip_route.specs.Valid.{is_policy}
 use Rattle.eip_route.specs.declared.route.Handler.{Handler}
 use Rattle.eip_route.specs.declared.route.Names.{Names}
 use Rattle.eip_route_validity.specs.Fit.{ClauseFits, RouteFits, SetFits}
-use Rattle.eip_route_print.specs.Canonical.{Pairs, list_of, words, policy_in, clause_json, route_json, default_items, dead_items, handler_items, clauses_json, routes_json, set_items, last_json}
+use Rattle.eip_route_canonical.specs.Canonical.{Pairs, list_of, words, policy_in, clause_json, route_json, default_items, dead_items, handler_items, clauses_json, routes_json, set_items, last_json}
 use Rattle.eip_route_again.proofs.Ordered.{Good, deeper, word_good, AllGood, no_good, more_good, list_good, both_good, Run, join, single, object_good, alone_good, set_in}
 use Rattle.eip_route_again.proofs.OrderedParts.{policy_in_order, MayBeGood, steps_in}
 use Rattle.eip_route_again.proofs.OrderedSteps.{Levels, block_good, last_good}

@@ -15,7 +15,7 @@ use Rattle.eip_route.specs.declared.step.Check.{Check}
 use Rattle.eip_route.specs.declared.step.Check.TheVariants as check
 use Rattle.eip_route.specs.declared.step.Expr.{Expr}
 use Rattle.eip_route.specs.declared.step.Expr.TheVariants as expr
-use Rattle.eip_route_print.specs.Canonical.{object_of, one, given_number, constant_pairs, named_pairs, simple_pairs, expr_pairs, check_pairs, strategy_text, this_strategy, strategy_pairs, group_pairs, predicate_pairs, delimiter_pairs, is_comma, json_path, token_pairs, backing_pairs, policy_pairs, policy_in, otherwise_pairs, steps_pairs}
+use Rattle.eip_route_canonical.specs.Canonical.{object_of, one, given_number, constant_pairs, named_pairs, simple_pairs, expr_pairs, check_pairs, strategy_text, this_strategy, strategy_pairs, group_pairs, predicate_pairs, delimiter_pairs, is_comma, json_path, token_pairs, backing_pairs, policy_pairs, policy_in, otherwise_pairs, steps_pairs}
 use Rattle.eip_route_again.proofs.Ordered.{Good, deeper, word_good, flag_good, Run, join, within, single, nothing, absent, object_good, alone_good, any_in}
 
 -- ---- expressions and checks

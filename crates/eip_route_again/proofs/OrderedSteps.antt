@@ -11,7 +11,7 @@ use Rattle.eip_route.specs.declared.step.Check.{Check}
 use Rattle.eip_route.specs.declared.step.Expr.{Expr}
 use Rattle.eip_route.specs.declared.step.Fan.{Fan}
 use Rattle.eip_route_validity.specs.Fit.{GatheringFits, HasCases, Inside, StepsFit, StepFits, CasesFit, LastFits}
-use Rattle.eip_route_print.specs.Canonical.{Pairs, list_of, set_body_json, named_value_json, log_json, throw_json, guarded_json, choice_json, split_json, multicast_json, recipients_json, aggregate_json, idempotent_json, steps_json, step_json, cases_json, last_json}
+use Rattle.eip_route_canonical.specs.Canonical.{Pairs, list_of, set_body_json, named_value_json, log_json, throw_json, guarded_json, choice_json, split_json, multicast_json, recipients_json, aggregate_json, idempotent_json, steps_json, step_json, cases_json, last_json}
 use Rattle.eip_route_again.proofs.Ordered.{Good, deeper, word_good, AllGood, no_good, more_good, list_good, Run, join, single, object_good, alone_good, set_in, unset_in, word_in}
 use Rattle.eip_route_again.proofs.OrderedParts.{constant_in, named_in, simple_in, expr_good, check_in, strategy_in, group_in, predicate_in, delimiter_in, path_in, token_in, number_in, MayBeGood, otherwise_in}
 

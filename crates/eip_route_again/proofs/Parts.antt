@@ -27,7 +27,7 @@ use Rattle.eip_route_grammar.specs.declared.keys.Key.TheVariants as key
 use Rattle.eip_route_validity.specs.Fit.{TemplateFits, PredicateFits, MayPredicateFit, ExprFits}
 use Rattle.eip_route_values.specs.Leaves.{count_of, flag_at, flag_given, members_given}
 use Rattle.eip_route_values.specs.Parts.{template, predicate, template_or_empty, predicate_or_empty, endpoint, uri_or_input, expr_given, expr_in, expr_from, strategy_given, fan_in, delimiter_given, completion_of, repository_given}
-use Rattle.eip_route_print.specs.Canonical.{is_comma, strategy_text}
+use Rattle.eip_route_canonical.specs.Canonical.{is_comma, strategy_text}
 use Rattle.eip_route_again.proofs.Objects.{set_value, unset_value, word_value, number_value, strategy_value, group_value, completion_value, delimiter_value, expr_slots}
 use Rattle.eip_route_again.proofs.Slots.{Slot, filled, slot_at, value_filled}
 

@@ -12,7 +12,7 @@ use Rattle.eip_route_file.specs.Later.{file_sites}
 use Rattle.eip_route_validity.specs.Fit.{SetFits}
 use Rattle.eip_route_json.specs.Reading.{whole_file, tree_sites, is_too_long, byte_sites, tree_set, set_of}
 use Rattle.eip_route_values.specs.Sets.{nest}
-use Rattle.eip_route_print.specs.Canonical.{list_of, set_items, set_json, canonical_text}
+use Rattle.eip_route_canonical.specs.Canonical.{list_of, set_items, set_json, canonical_text}
 use Rattle.eip_route_print.proofs.Floats.{floatless}
 use Rattle.eip_route_again.proofs.LineRead.{line_read}
 use Rattle.eip_route_again.proofs.OrderedFile.{set_canonical, set_shallow}

@@ -20,8 +20,8 @@ use Rattle.eip_route_values.specs.Leaves.{texts_of, exceptions_given, small_coun
 use Rattle.eip_route_values.specs.Nesting.{nest_steps}
 use Rattle.eip_route_values.specs.Parts.{endpoint}
 use Rattle.eip_route_values.specs.Sets.{where_filled, clause_steps, clause_in, clauses_of, default_handler, dead_letter_in, handler_in, routes_of, nest}
-use Rattle.eip_route_print.specs.Canonical.{Pairs, object_of, list_of, words, where_any, steps_json, last_json, clause_json, route_json, policy_pairs, default_items, dead_items, handler_items, clauses_json, routes_json, set_items}
-use Rattle.eip_route_print.specs.Canonical as printed_form
+use Rattle.eip_route_canonical.specs.Canonical.{Pairs, object_of, list_of, words, where_any, steps_json, last_json, clause_json, route_json, policy_pairs, default_items, dead_items, handler_items, clauses_json, routes_json, set_items}
+use Rattle.eip_route_canonical.specs.Canonical as printed_form
 use Rattle.eip_route_again.proofs.Again.{steps_again}
 use Rattle.eip_route_again.proofs.Objects.{set_value, backing_value, object_value, policy_slots, policy_puts, dead_slots, dead_puts, clause_slots, clause_puts}
 use Rattle.eip_route_again.proofs.Parts.{endpoint_again, number_again}

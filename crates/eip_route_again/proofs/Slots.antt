@@ -4,7 +4,7 @@ use Rattle.eip_text.specs.Json.{Json, Members, no_members, member, members_of}
 use Rattle.eip_route_grammar.specs.Keys.{is_spelled}
 use Rattle.eip_route_grammar.specs.Objects.{value_at, has_key, keys_of}
 use Rattle.eip_route_grammar.specs.declared.keys.Key.{Key}
-use Rattle.eip_route_print.specs.Canonical.{Pairs}
+use Rattle.eip_route_canonical.specs.Canonical.{Pairs}
 
 pub data Slot : Type 0 where
   sure : List ℕ → Json → Slot

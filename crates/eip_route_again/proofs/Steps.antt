@@ -21,7 +21,7 @@ use Rattle.eip_route_values.specs.Kinds.{kind_of}
 use Rattle.eip_route_values.specs.Leaves.{text_given}
 use Rattle.eip_route_values.specs.Nesting.{nest_step}
 use Rattle.eip_route_values.specs.Parts.{template, expr_in, fan_in, delimiter_given}
-use Rattle.eip_route_print.specs.Canonical.{Pairs, object_of, alone, set_body_json, named_value_json, log_json, throw_json, text_json, recipients_json}
+use Rattle.eip_route_canonical.specs.Canonical.{Pairs, object_of, alone, set_body_json, named_value_json, log_json, throw_json, text_json, recipients_json}
 use Rattle.eip_route_again.proofs.Objects.{set_value, strategy_value, delimiter_value, expr_puts, named_value_slots, named_value_puts, recipients_slots, recipients_puts}
 use Rattle.eip_route_again.proofs.Parts.{template_again, endpoint_again, unhashed_name, kind_again, fan_again, expr_slot, simple_again, plain_expr_again, delimiter_again}
 use Rattle.eip_route_again.proofs.Slots.{Slot, filled, slot_at, value_filled}

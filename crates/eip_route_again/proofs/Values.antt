@@ -29,7 +29,7 @@ use Rattle.eip_route_grammar.specs.declared.table.Kind.{Kind}
 use Rattle.eip_route_grammar.specs.declared.table.Rule.{Rule}
 use Rattle.eip_route_grammar.specs.declared.table.Rule.TheVariants as rule
 use Rattle.eip_route_validity.specs.Fit.{TemplateFits, PredicateFits, Registered, TargetFits, SourceFits}
-use Rattle.eip_route_print.specs.Canonical.{is_comma, strategy_text}
+use Rattle.eip_route_canonical.specs.Canonical.{is_comma, strategy_text}
 use Rattle.eip_route_again.proofs.Fine.{Fine, MayBeFine, none_at_all, none_found, word_fine}
 use Rattle.eip_route_again.proofs.Objects.{set_value, unset_value, word_value, number_value, strategy_value, group_value, delimiter_value, backing_value}
 use Rattle.eip_route_again.proofs.Parts.{unhashed_name, kind_again, strategy_text_again}

@@ -3,7 +3,7 @@ ghost use Rattle.std.specs.Str.{IsUtf8};
 ghost use Rattle.eip_route.specs.declared.route.Names.{Names as NamesGiven};
 ghost use Rattle.eip_route_faults.specs.Sites.{first_fault};
 ghost use Rattle.eip_route_json.specs.Reading.{byte_sites, is_too_long, set_of};
-ghost use Rattle.eip_route_print.specs.Canonical.{canonical_text};
+ghost use Rattle.eip_route_canonical.specs.Canonical.{canonical_text};
 
 /// What is printed of the set that a route file without a fault gives is read as that set again, in a file that isn't too
 /// long. It does nothing.

@@ -21,7 +21,7 @@ use Rattle.eip_route.specs.declared.step.Check.TheVariants as check
 use Rattle.eip_route.specs.declared.step.Expr.{Expr}
 use Rattle.eip_route.specs.declared.step.Expr.TheVariants as expr
 use Rattle.eip_route.specs.declared.step.Fan.{Fan}
-use Rattle.eip_route_print.specs.Canonical.{Pairs, object_of, list_of, one, alone, where_set, where_unset, given_word, given_number, where_any, constant_pairs, named_pairs, simple_pairs, expr_pairs, check_pairs, strategy_text, this_strategy, strategy_pairs, group_pairs, predicate_pairs, delimiter_pairs, is_comma, json_path, token_pairs, backing_pairs, policy_pairs, policy_in, set_body_json, named_value_json, set_json, log_json, throw_json, guarded_json, choice_json, split_json, multicast_json, recipients_json, aggregate_json, idempotent_json, otherwise_pairs, steps_json, step_json, cases_json, last_json, words, steps_pairs, clause_json, route_json, default_items, dead_items, handler_items, clauses_json, routes_json}
+use Rattle.eip_route_canonical.specs.Canonical.{Pairs, object_of, list_of, one, alone, where_set, where_unset, given_word, given_number, where_any, constant_pairs, named_pairs, simple_pairs, expr_pairs, check_pairs, strategy_text, this_strategy, strategy_pairs, group_pairs, predicate_pairs, delimiter_pairs, is_comma, json_path, token_pairs, backing_pairs, policy_pairs, policy_in, set_body_json, named_value_json, set_json, log_json, throw_json, guarded_json, choice_json, split_json, multicast_json, recipients_json, aggregate_json, idempotent_json, otherwise_pairs, steps_json, step_json, cases_json, last_json, words, steps_pairs, clause_json, route_json, default_items, dead_items, handler_items, clauses_json, routes_json}
 
 either : (a b : Bool) → a ≡ false → b ≡ false → a || b ≡ false
 either true b h i = h

@@ -1,4 +1,3 @@
-pub mod Objects
 pub mod Opened
 pub mod Loops
 pub mod Floats

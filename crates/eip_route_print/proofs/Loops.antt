@@ -4,8 +4,8 @@ use Rattle.std.proofs.Math.ListN.{drop_of_length-le}
 use Rattle.std.proofs.lemmas.List.{append-nil}
 use Rattle.eip_text.specs.Json.{Json, json}
 use Rattle.eip_text.specs.declared.tree.Tree.{Tree}
-use Rattle.eip_route_print.proofs.Objects.{one_more}
-use Rattle.eip_route_print.specs.Trees.{values_of}
+use Rattle.eip_route_canonical.proofs.Objects.{one_more}
+use Rattle.eip_route_canonical.specs.Trees.{values_of}
 
 -- one more item of a list that is printed item by item
 pub pushed : {A : Type 0} (S : List A → List Json) (g : A → Json) (xs : List A) (k : ℕ) (its more : List Tree) (t : Tree) (x : A) (w : List Json) →

@@ -10,7 +10,7 @@ use Rattle.eip_route.specs.declared.route.Route.{Route}
 use Rattle.eip_route.specs.declared.route.RouteSet.{RouteSet}
 use Rattle.eip_route.specs.declared.step.Check.{Check}
 use Rattle.eip_route.specs.declared.step.Step.{Step}
-use Rattle.eip_route_print.specs.Canonical.{steps_json, step_json, cases_json, last_json, list_of, handler_items, clause_json, clauses_json, routes_json, set_json}
+use Rattle.eip_route_canonical.specs.Canonical.{steps_json, step_json, cases_json, last_json, list_of, handler_items, clause_json, clauses_json, routes_json, set_json}
 use Rattle.eip_route_print.specs.Seen.{seen, seen_json, block_json, step_in, steps_in, case_in, cases_in, branches_in, last_in, clause_steps, clause_in, clauses_in, route_in, routes_in}
 
 -- ---- a block's equation: its steps see only the blocks behind it

@@ -1,4 +1,2 @@
-pub mod Trees
-pub mod Canonical
 pub mod Seen
 pub mod Named

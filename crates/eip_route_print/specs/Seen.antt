@@ -7,7 +7,7 @@ use Rattle.eip_route.specs.declared.route.Block.{Block}
 use Rattle.eip_route.specs.declared.route.Route.{Route}
 use Rattle.eip_route.specs.declared.step.Check.{Check}
 use Rattle.eip_route.specs.declared.step.Step.{Step}
-use Rattle.eip_route_print.specs.Canonical.{steps_json, step_json, guarded_json, clause_json, route_json, list_of}
+use Rattle.eip_route_canonical.specs.Canonical.{steps_json, step_json, guarded_json, clause_json, route_json, list_of}
 
 -- the steps of block i, as block j sees them: only the blocks behind it are nested in it
 unfoldable pub seen : List Block → ℕ → ℕ → NestedSteps

@@ -3,10 +3,7 @@
 
 mod laws;
 mod nested;
-mod object;
-mod parts;
 mod print;
-mod steps;
 
 pub use laws::numbering_law;
 pub use print::print_routes;

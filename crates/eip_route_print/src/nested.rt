@@ -1,16 +1,16 @@
-#![tactic(auto, using(crate::proofs::Objects::trees, crate::proofs::Opened::opened))]
+#![tactic(auto, using(eip_route_canonical::proofs::Objects::trees, crate::proofs::Opened::opened))]
 
 ghost use Rattle.std.specs.Prelude.{◌≡◌, ◌<◌, ◌++◌, length, IfOk, OnOk};
 ghost use Rattle.std.specs.Option.{option_map};
 ghost use Rattle.eip_text.specs.Json.{json};
-ghost use Rattle.eip_route_print.specs.Canonical.{list_of};
+ghost use Rattle.eip_route_canonical.specs.Canonical.{list_of};
 ghost use Rattle.eip_route_print.specs.Seen as spec;
 ghost use Rattle.eip_route.specs.Nest.{name_given};
-ghost use Rattle.eip_route_print.specs.Trees.{values_of};
+ghost use Rattle.eip_route_canonical.specs.Trees.{values_of};
 
-use crate::steps;
-use crate::steps::Once;
 use eip_route::{Block, Check, Step, own_repository};
+use eip_route_canonical::steps;
+use eip_route_canonical::steps::Once;
 use eip_text::{NoMemory, Series, Text, Tree};
 use std::alloc::Global;
 
@@ -156,7 +156,7 @@ fn print_cases(
 }
 
 #[cycle(print)]
-#[tactic(auto, unfolding(crate::specs::Seen::case_in), using(crate::proofs::Objects::trees))]
+#[tactic(auto, unfolding(crate::specs::Seen::case_in), using(eip_route_canonical::proofs::Objects::trees))]
 fn print_case(
     alloc: Global,
     blocks: &[Block],

@@ -1,17 +1,16 @@
-#![tactic(auto, using(crate::proofs::Objects::trees))]
+#![tactic(auto, using(eip_route_canonical::proofs::Objects::trees))]
 
 ghost use Rattle.std.specs.Prelude.{◌≡◌, ◌++◌, ◌∷◌, [], IfOk, OnOk};
 ghost use Rattle.std.specs.Option.{option_map};
 ghost use Rattle.eip_text.specs.Json.{json};
-ghost use Rattle.eip_route_print.specs.Canonical as spec;
+ghost use Rattle.eip_route_canonical.specs.Canonical as spec;
 ghost use Rattle.eip_route_print.specs.Seen as seen;
-ghost use Rattle.eip_route_print.specs.Trees as trees;
+ghost use Rattle.eip_route_canonical.specs.Trees as trees;
 
 use crate::nested::push_block;
-use crate::object::{Object, alone, word};
-use crate::parts::put_policy;
 use eip_exchange::Clause;
 use eip_route::{Block, Handler, Route, RouteSet};
+use eip_route_canonical::{Object, alone, put_policy, word};
 use eip_text::{NoMemory, Series, Text, Tree, print_json};
 use eip_uri::Uri;
 use std::alloc::Global;
@@ -20,7 +19,7 @@ use std::alloc::Global;
 /// has its default is left out, save the attributes that a redelivery policy gives. First comes the error handler, unless
 /// it is the default one without attributes, then the clauses, then the routes, each with its id, and with its steps in
 /// `from`. A block stands in the place of each number that names it from an earlier block; other numbers name no steps.
-#[tactic(auto, unfolding(crate::specs::Canonical::canonical_text), using(crate::proofs::Floats::floatless))]
+#[tactic(auto, unfolding(eip_route_canonical::specs::Canonical::canonical_text), using(crate::proofs::Floats::floatless))]
 pub fn print_routes(alloc: Global, set: &RouteSet) -> Result<Text, NoMemory>
     ensures { IfOk result (λ t. t ≡ spec.canonical_text set.now) }
 {
@@ -32,7 +31,7 @@ pub fn print_routes(alloc: Global, set: &RouteSet) -> Result<Text, NoMemory>
 }
 
 /// The tree of a set.
-#[tactic(auto, using(crate::proofs::Objects::trees, crate::proofs::Opened::set_same))]
+#[tactic(auto, using(eip_route_canonical::proofs::Objects::trees, crate::proofs::Opened::set_same))]
 fn set_tree(alloc: Global, set: &RouteSet) -> Result<Tree, NoMemory>
     ensures { IfOk result (λ t. json t ≡ spec.set_json set.now) }
 {
@@ -52,7 +51,7 @@ fn policy_members(alloc: Global, handler: &Handler) -> Result<Object, NoMemory>
 }
 
 /// The error handler where it stands in a file.
-#[tactic(auto, unfolding(crate::specs::Canonical::handler_items), using(crate::proofs::Objects::trees))]
+#[tactic(auto, unfolding(eip_route_canonical::specs::Canonical::handler_items), using(eip_route_canonical::proofs::Objects::trees))]
 fn handler_items(alloc: Global, handler: &Handler) -> Result<Vec<Tree>, NoMemory>
     ensures { IfOk result (λ ts. trees.values_of ts.items ≡ spec.handler_items handler.now) }
 {
@@ -133,7 +132,7 @@ fn words(alloc: Global, texts: &[Text]) -> Result<Tree, NoMemory>
 }
 
 /// `onException`.
-#[tactic(auto, unfolding(crate::specs::Canonical::clause_json, crate::specs::Seen::clause_in), using(crate::proofs::Objects::trees))]
+#[tactic(auto, unfolding(eip_route_canonical::specs::Canonical::clause_json, crate::specs::Seen::clause_in), using(eip_route_canonical::proofs::Objects::trees))]
 fn clause_tree(alloc: Global, blocks: &[Block], clause: &Clause) -> Result<Tree, NoMemory>
     ensures { IfOk result (λ t. json t ≡ seen.clause_in blocks.now clause.now) }
 {
@@ -149,7 +148,7 @@ fn clause_tree(alloc: Global, blocks: &[Block], clause: &Clause) -> Result<Tree,
 }
 
 /// `route`.
-#[tactic(auto, unfolding(crate::specs::Canonical::route_json, crate::specs::Seen::route_in), using(crate::proofs::Objects::trees))]
+#[tactic(auto, unfolding(eip_route_canonical::specs::Canonical::route_json, crate::specs::Seen::route_in), using(eip_route_canonical::proofs::Objects::trees))]
 fn route_tree(alloc: Global, blocks: &[Block], route: &Route) -> Result<Tree, NoMemory>
     ensures { IfOk result (λ t. json t ≡ seen.route_in blocks.now route.now) }
 {

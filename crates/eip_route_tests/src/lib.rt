@@ -4,10 +4,6 @@
 #[cfg(test)]
 mod faults;
 #[cfg(test)]
-mod printed;
-#[cfg(test)]
-mod printed_sets;
-#[cfg(test)]
 mod read_again;
 #[cfg(test)]
 mod sets;

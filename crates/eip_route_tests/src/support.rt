@@ -4,6 +4,7 @@ use eip_route_grammar::{RouteFault, print_cause};
 use eip_route_json::{RouteRefusal, read_routes};
 use eip_route_print::print_routes;
 use eip_simple_read::CratePatterns;
+use eip_test_support::texts;
 use eip_text::{NoMemory, Series, Text};
 use std::alloc::Global;
 
@@ -31,37 +32,19 @@ pub const ALL: Given = Given {
     refused: 0,
 };
 
-/// The texts of these words.
-pub fn texts(alloc: Global, words: &[&str]) -> Result<Series<Text>, NoMemory> {
-    let mut texts = Vec::new(alloc);
-    for word in words {
-        texts.push(Text::of_str(alloc, word)?)?;
-    }
-    Ok(Series::of(texts))
-}
-
 /// The names of these lanes and inlets, a processor and a predicate.
 fn some_names(alloc: Global, lanes: &[&str], inlets: &[&str]) -> Result<Names, NoMemory> {
     Ok(Names {
-        lanes: texts(alloc, lanes)?,
-        inlets: texts(alloc, inlets)?,
-        processors: texts(alloc, &["keep"])?,
-        predicates: texts(alloc, &["empty"])?,
+        lanes: Series::of(texts(alloc, lanes)?),
+        inlets: Series::of(texts(alloc, inlets)?),
+        processors: Series::of(texts(alloc, &["keep"])?),
+        predicates: Series::of(texts(alloc, &["empty"])?),
     })
-}
-
-pub fn no_names(alloc: Global) -> Names {
-    Names {
-        lanes: Series::of(Vec::new(alloc)),
-        inlets: Series::of(Vec::new(alloc)),
-        processors: Series::of(Vec::new(alloc)),
-        predicates: Series::of(Vec::new(alloc)),
-    }
 }
 
 fn names(alloc: Global, handed: Handed) -> Result<Names, NoMemory> {
     match handed {
-        Handed::Nothing => Ok(no_names(alloc)),
+        Handed::Nothing => Ok(Names::none(alloc)),
         Handed::OneOfEach => some_names(alloc, &["lane:x"], &["stream"]),
         Handed::Everything => some_names(
             alloc,

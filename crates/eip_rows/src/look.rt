@@ -1,7 +1,9 @@
-ghost use Rattle.std.specs.Prelude.{◌≡◌, ◌<◌, [], ◌∷◌, length, Some, IfOk, OnOk, OnErr};
+ghost use Rattle.std.specs.Prelude.{◌≡◌, ◌<◌, [], ◌∷◌, length, Some, None, IsSome, IfOk, OnOk, OnErr};
+ghost use Rattle.eip_history.specs.Place.{end_of};
 ghost use Rattle.eip_plan.specs.Plan.{plan_of};
 ghost use Rattle.eip_meaning.specs.Meaning.{mean};
 ghost use Rattle.eip_progress.specs.Rest.{rest, IsFirst};
+ghost use Rattle.eip_rows.specs.First.{CanBegin};
 ghost use Rattle.eip_tables.specs.Look.{CanTake, Stepped, HasCursor, LookedAt, birth_at, FirstLook};
 
 use eip_cursor::{Advance, Cursor, Next};
@@ -27,10 +29,7 @@ fn step(
 {
     match cursor.advance(alloc, set, Some(answer))? {
         Next::Asks(request) => Ok(request),
-        other => {
-            drop(other);
-            Err(NoMemory)
-        }
+        Next::Ended(..) => unreachable!(),
     }
 }
 
@@ -40,13 +39,14 @@ pub fn first_cursor(
     birth: Birth,
     set: &RouteSet,
 ) -> Result<(Cursor, Request), NoMemory>
+    requires { end_of (mean set.now birth []) ≡ None }
     ensures { IfOk result (λ p. Stepped set.now (mean set.now birth) [] p.0 p.1) }
 {
     let mut cursor = Cursor::start(alloc, birth, set)?;
     match cursor.advance(alloc, set, None) {
         Ok(Next::Asks(request)) => Ok((cursor, request)),
-        other => {
-            drop(other);
+        Ok(Next::Ended(..)) => unreachable!(),
+        Err(NoMemory) => {
             drop(cursor);
             Err(NoMemory)
         }
@@ -65,7 +65,7 @@ pub fn look_at(
     ensures err { OnErr result (row.new ≡ row.old) }
 {
     let Some(mut cursor) = row.cursor.take() else {
-        return Err(NoMemory);
+        unreachable!()
     };
     match step(&mut cursor, alloc, set, answer) {
         Ok(request) => {
@@ -92,6 +92,7 @@ fn block_of(set: &RouteSet, route: u32) -> u32
 
 /// The birth of the exchange that an entry made.
 fn birth_of(alloc: Global, set: &RouteSet, number: u64, kind: &Kind) -> Result<Birth, NoMemory>
+    requires { IsSome (birth_at set.now number kind.now) }
     ensures { IfOk result (λ b. birth_at set.now number kind.now ≡ Some b) }
 {
     match kind {
@@ -117,7 +118,7 @@ fn birth_of(alloc: Global, set: &RouteSet, number: u64, kind: &Kind) -> Result<B
                 message,
             })
         }
-        _ => Err(NoMemory),
+        _ => unreachable!(),
     }
 }
 
@@ -129,7 +130,8 @@ pub fn first_look(
     number: u64,
     born: usize,
 ) -> Result<(Cursor, Request), NoMemory>
-    requires { born < length entries.now }
+    requires born { born < length entries.now }
+    requires can_begin { CanBegin set.now entries.now number born }
     ensures { IfOk result (λ p. FirstLook set.now entries.now number born p.0 p.1) }
 {
     let birth = birth_of(alloc, set, number, &entries[born].kind)?;

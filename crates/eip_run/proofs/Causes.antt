@@ -25,7 +25,8 @@ use Rattle.eip_endpoint.specs.declared.files.FileRead.{FileRead}
 use Rattle.eip_endpoint.specs.declared.sink.SinkFault.{SinkFault}
 use Rattle.eip_endpoint.specs.declared.sink.SinkFault.TheVariants as fault
 use Rattle.eip_endpoint.specs.Sinks.{sink_failure}
-use Rattle.eip_endpoint.specs.Inlets.{InletView, InletAct, Failed, faults_at, InletsGrew}
+use Rattle.eip_endpoint.specs.Inlets.{InletView, InletAct, Failed, faults_at, InletsGrew, inlet_names}
+use Rattle.eip_endpoint.specs.Lanes.{lane_names}
 use Rattle.eip_endpoint.proofs.InletLaws.{faults_at-append}
 use Rattle.eip_ledger.specs.declared.entry.Kind.{Kind}
 use Rattle.eip_ledger.specs.declared.entry.Kind.TheVariants.{SourceFault}
@@ -44,13 +45,15 @@ use Rattle.eip_plan.specs.Simple.{AsksSimply}
 use Rattle.eip_plan.proofs.Items.{no-groups}
 use Rattle.eip_plan.proofs.Laws.{plan-simple}
 use Rattle.eip_table_laws.proofs.StopCalls.{position-some}
-use Rattle.eip_core.specs.Doors.{Doors, doors_of, inlet_named, inlet_at, lane_names, inlet_names}
+use Rattle.eip_core.specs.Doors.{Doors, doors_of, inlet_named, inlet_at}
 use Rattle.eip_core.specs.Outside.{acts_by, inlet_acts_in, inlet_acts}
 use Rattle.eip_run.specs.declared.report.Outcome.{Outcome}
 use Rattle.eip_run.specs.declared.report.Outcome.TheVariants as outcome
 use Rattle.eip_run.specs.Outcomes.{behind}
 use Rattle.eip_run.specs.Routes.{file_limit}
-use Rattle.eip_run.specs.Reports.{turn_limit, Setting, WasRead, sites, HasRoutes, IsRun, IsSpared, Comes, NoCommand, NotRead, NoRoutes, WasChecked, Stopped, Starved, LacksMemory, LacksText, Reports}
+use Rattle.eip_run.specs.Given.{Setting, asked}
+use Rattle.eip_run.specs.Prepared.{sites, WasRead, IsSpared, HasRoutes}
+use Rattle.eip_run.specs.Reports.{turn_limit, IsRun, Comes, NoCommand, NotRead, NoRoutes, WasChecked, Stopped, Starved, LacksMemory, LacksText, Reports}
 use Rattle.eip_run.specs.Caused.{InletRose, SourceFailed, CauseOfStop, CauseOf, PatternsOf, IsUnharmed, Completes, Prints, IsFaultless, IsRefusedFor, InFile, IsOfSize, IsRight, Causes}
 use Rattle.eip_run.proofs.Runnable.{Runs}
 use Rattle.eip_run.proofs.Ending.{routes-run}
@@ -156,14 +159,14 @@ the-some : (o : Option ℕ) → IsSome o → (k : ℕ) × (o ≡ Some k)
 the-some None h = absurd (cc h)
 the-some (Some k) h = (k, refl)
 
-source-failed : (x : Setting) (p : Path) (set : RouteSet) (s : Stop) (t : ℕ) → HasRoutes x (Drain p) set → IsRun x set s → first_fault x.journal.past ≡ Some t → SourceFailed x t
+source-failed : (x : Setting) (p : Path) (set : RouteSet) (s : Stop) (t : ℕ) → HasRoutes (asked x) (Drain p) set → IsRun x set s → first_fault x.journal.past ≡ Some t → SourceFailed x t
 source-failed x p set s t has ran h =
-    let runs : Runs set (lane_names x.lanes_before) (inlet_names x.inlets_before) = routes-run x p set has in
+    let runs : Runs set (lane_names x.before.lanes) (inlet_names x.before.inlets) = routes-run (asked x) p set has in
     let is : IsSource (plan_of set) t = fault-source (plan_of set) 0 turn_limit x.journal.past ran.legal t h in
-    let door = the-some (inlet_at (inlet_names x.inlets_before) (slice_get set.routes t)) (runs.can_run.has_inlets t is) in
-    let all : length (inlet_names x.inlets_before) ≡ length x.inlets_before = length-map x.inlets_before (λ v. v.name) in
-    let among : door.0 < length (inlet_names x.inlets_before) = inlet-within _ (slice_get set.routes t) door.0 door.1 in
-    let within : door.0 < length x.inlets_before = rw all at among in
+    let door = the-some (inlet_at (inlet_names x.before.inlets) (slice_get set.routes t)) (runs.can_run.has_inlets t is) in
+    let all : length (inlet_names x.before.inlets) ≡ length x.before.inlets = length-map x.before.inlets (λ v. v.name) in
+    let among : door.0 < length (inlet_names x.before.inlets) = inlet-within _ (slice_get set.routes t) door.0 door.1 in
+    let within : door.0 < length x.before.inlets = rw all at among in
     record {
       path = p;
       set = set;
@@ -171,12 +174,12 @@ source-failed x p set s t has ran h =
       inlet = door.0;
       read_by = door.1;
       failed = inlet-rose 0 door.0 _ _ _ ran.inlets door.0 within (omega arith)
-          (fault-acted (doors_of set (lane_names x.lanes_before) (inlet_names x.inlets_before)) door.0 t door.1 x.journal.past h);
+          (fault-acted (doors_of set (lane_names x.before.lanes) (inlet_names x.before.inlets)) door.0 t door.1 x.journal.past h);
     }
 
 -- ---- the cause of what a command came to
 
-stop-caused : (x : Setting) (p : Path) (set : RouteSet) (r s : Stop) → HasRoutes x (Drain p) set → IsRun x set r → Says (first_fault x.journal.past) (turns x.journal.past) turn_limit s
+stop-caused : (x : Setting) (p : Path) (set : RouteSet) (r s : Stop) → HasRoutes (asked x) (Drain p) set → IsRun x set r → Says (first_fault x.journal.past) (turns x.journal.past) turn_limit s
     → CauseOfStop x s
 stop-caused x p set r stop.Drained has ran h = tt
 stop-caused x p set r (stop.SourceFault t) has ran h = source-failed x p set r t has ran h
@@ -184,37 +187,37 @@ stop-caused x p set r (stop.Held groups) has ran h = h
 stop-caused x p set r stop.Spent has ran h = h
 stop-caused x p set r stop.NoMemory has ran h = tt
 
-told-caused : (x : Setting) (before after : ℕ) (told : Outcome) (text : List ℕ) → Comes x told text → CauseOf x before after told
-told-caused x before after told text (NoCommand none still calm) = none
-told-caused x before after told text (NotRead k command still rises calm) = rises-rose 1 _ _ (omega arith) rises
-told-caused x before after told text (NoRoutes k read f command still was h) =
-    record { command = k; read = read; asked = command; answer = was; refused = h }
-told-caused x before after told text (WasChecked p set has still) = (p, has.command)
-told-caused x before after told text (Stopped p set s has ran ne) = ((p, has.command), by_stop ran.stops)
+told-caused : (x : Setting) (told : Outcome) (text : List ℕ) → Comes x told text → CauseOf x told
+told-caused x told text (NoCommand none still calm) = none
+told-caused x told text (NotRead k command still rises calm) = rises-rose 1 _ _ (omega arith) rises
+told-caused x told text (NoRoutes k read f command still was h) =
+    record { command = k; read = read; words = command; answer = was; refused = h }
+told-caused x told text (WasChecked p set has still) = (p, has.command)
+told-caused x told text (Stopped p set s has ran ne) = ((p, has.command), by_stop ran.stops)
   where
     by_stop : (s ≡ stop.NoMemory) ⊎ (stop_of (plan_of set) turn_limit x.journal.past ≡ Some s) → CauseOfStop x s
     by_stop (inl e) = absurd (ne e)
     by_stop (inr h) = stop-caused x p set s s has ran (stop-says (plan_of set) (plan-simple set) 0 turn_limit x.journal.past ran.legal s h)
-told-caused x before after told text (Starved p set has ran) = ((p, has.command), tt)
-told-caused x before after told text (LacksMemory still count spared) = tt
-told-caused x before after told text (LacksText p set s has ran) = tt
+told-caused x told text (Starved p set has ran) = ((p, has.command), tt)
+told-caused x told text (LacksMemory still count spared) = tt
+told-caused x told text (LacksText p set s has ran ne) = tt
 
 -- the sink's fault is the cause where there was none before it
-behind-caused : (x : Setting) (before after : ℕ) (told : Outcome) (w : Result Unit SinkFault) → Rises (sink_failure w) before after → CauseOf x before after told
-    → CauseOf x before after (behind told w)
-behind-caused x before after told (Ok u) rises h = h
-behind-caused x before after told (Err fault.NoMemory) rises h = tt
-behind-caused x before after outcome.Words (Err fault.Failed) rises h = h
-behind-caused x before after (outcome.Routes f) (Err fault.Failed) rises h = h
-behind-caused x before after outcome.FilesFault (Err fault.Failed) rises h = h
-behind-caused x before after outcome.Checked (Err fault.Failed) rises h = rises-rose 1 before after (omega arith) rises
-behind-caused x before after (outcome.Ran stop.Drained) (Err fault.Failed) rises h = rises-rose 1 before after (omega arith) rises
-behind-caused x before after (outcome.Ran (stop.SourceFault t)) (Err fault.Failed) rises h = h
-behind-caused x before after (outcome.Ran (stop.Held groups)) (Err fault.Failed) rises h = h
-behind-caused x before after (outcome.Ran stop.Spent) (Err fault.Failed) rises h = h
-behind-caused x before after (outcome.Ran stop.NoMemory) (Err fault.Failed) rises h = h
-behind-caused x before after outcome.SinkFault (Err fault.Failed) rises h = h
-behind-caused x before after outcome.NoMemory (Err fault.Failed) rises h = h
+behind-caused : (x : Setting) (told : Outcome) (w : Result Unit SinkFault) → Rises (sink_failure w) x.before.sink_faults x.after.sink_faults → CauseOf x told
+    → CauseOf x (behind told w)
+behind-caused x told (Ok u) rises h = h
+behind-caused x told (Err fault.NoMemory) rises h = tt
+behind-caused x outcome.Words (Err fault.Failed) rises h = h
+behind-caused x (outcome.Routes f) (Err fault.Failed) rises h = h
+behind-caused x outcome.FilesFault (Err fault.Failed) rises h = h
+behind-caused x outcome.Checked (Err fault.Failed) rises h = rises-rose 1 _ _ (omega arith) rises
+behind-caused x (outcome.Ran stop.Drained) (Err fault.Failed) rises h = rises-rose 1 _ _ (omega arith) rises
+behind-caused x (outcome.Ran (stop.SourceFault t)) (Err fault.Failed) rises h = h
+behind-caused x (outcome.Ran (stop.Held groups)) (Err fault.Failed) rises h = h
+behind-caused x (outcome.Ran stop.Spent) (Err fault.Failed) rises h = h
+behind-caused x (outcome.Ran stop.NoMemory) (Err fault.Failed) rises h = h
+behind-caused x outcome.SinkFault (Err fault.Failed) rises h = h
+behind-caused x outcome.NoMemory (Err fault.Failed) rises h = h
 
 -- ---- words that are no command
 
@@ -239,12 +242,12 @@ refused-behind x told text w none (WasChecked p set has still) = absurd (cc (non
 refused-behind x told text w none (Stopped p set s has ran ne) = absurd (cc (none, has.command))
 refused-behind x told text w none (Starved p set has ran) = absurd (cc (none, has.command))
 refused-behind x told text w none (LacksMemory still count spared) = starved-behind w
-refused-behind x told text w none (LacksText p set s has ran) = absurd (cc (none, has.command))
+refused-behind x told text w none (LacksText p set s has ran ne) = absurd (cc (none, has.command))
 
 -- ---- the patterns' count
 
-found-patterns : (x : Setting) (k : Command) (read : FileRead) (f : RouteFault) → command_of x.words ≡ Some k → WasRead x (path_in k) read
-    → Finds (sites x k read) x.patterns_before x.patterns_after f → PatternsOf x (outcome.Routes f)
+found-patterns : (x : Setting) (k : Command) (read : FileRead) (f : RouteFault) → command_of x.words ≡ Some k → WasRead (asked x) (path_in k) read
+    → Finds (sites (asked x) k read) x.before.materials.pattern_faults x.after.materials.pattern_faults f → PatternsOf x (outcome.Routes f)
 found-patterns x k read f command was (inl h) = inl h.1
 found-patterns x k read f command was (inr h) = inr (record { command = k; read = read; asked = command; answer = was; stops = h.0; count = h.1 })
 
@@ -256,9 +259,9 @@ told-patterns x told text (WasChecked p set has still) = has.patterns
 told-patterns x told text (Stopped p set s has ran ne) = has.patterns
 told-patterns x told text (Starved p set has ran) = has.patterns
 told-patterns x told text (LacksMemory still count spared) = spared
-told-patterns x told text (LacksText p set s has ran) = inl has.patterns
+told-patterns x told text (LacksText p set s has ran ne) = inl has.patterns
 
-starved-patterns : (x : Setting) (told : Outcome) → PatternsOf x told → IsSpared x
+starved-patterns : (x : Setting) (told : Outcome) → PatternsOf x told → IsSpared (asked x)
 starved-patterns x outcome.Words h = inl h
 starved-patterns x (outcome.Routes f) (inl h) = inl h
 starved-patterns x (outcome.Routes f) (inr h) = inr (f, h)
@@ -285,18 +288,18 @@ behind-patterns x outcome.NoMemory (Err fault.Failed) h = h
 
 -- ---- where nothing failed
 
-without-faults : (x : Setting) (before after : ℕ) (o : Outcome) → CauseOf x before after o → IsUnharmed x before after → IsFaultless o
-without-faults x before after outcome.Words h u = tt
-without-faults x before after (outcome.Routes f) h u = tt
-without-faults x before after outcome.FilesFault h u = u.files h
-without-faults x before after outcome.Checked h u = tt
-without-faults x before after (outcome.Ran stop.Drained) h u = tt
-without-faults x before after (outcome.Ran (stop.SourceFault t)) h u = u.inlets h.1.inlet h.1.failed
-without-faults x before after (outcome.Ran (stop.Held groups)) h u = h.1
-without-faults x before after (outcome.Ran stop.Spent) h u = tt
-without-faults x before after (outcome.Ran stop.NoMemory) h u = tt
-without-faults x before after outcome.SinkFault h u = u.sink h
-without-faults x before after outcome.NoMemory h u = tt
+without-faults : (x : Setting) (o : Outcome) → CauseOf x o → IsUnharmed x → IsFaultless o
+without-faults x outcome.Words h u = tt
+without-faults x (outcome.Routes f) h u = tt
+without-faults x outcome.FilesFault h u = u.files h
+without-faults x outcome.Checked h u = tt
+without-faults x (outcome.Ran stop.Drained) h u = tt
+without-faults x (outcome.Ran (stop.SourceFault t)) h u = u.inlets h.1.inlet h.1.failed
+without-faults x (outcome.Ran (stop.Held groups)) h u = h.1
+without-faults x (outcome.Ran stop.Spent) h u = tt
+without-faults x (outcome.Ran stop.NoMemory) h u = tt
+without-faults x outcome.SinkFault h u = u.sink h
+without-faults x outcome.NoMemory h u = tt
 
 -- ---- the file that the words name
 
@@ -305,7 +308,7 @@ one-command : (x : Setting) (k l : Command) → command_of x.words ≡ Some k �
 one-command x k l a b = cc (a, b)
 
 -- what was read is what is in the file
-was-held : (x : Setting) (k l : Command) (held read : FileRead) → InFile x k held → command_of x.words ≡ Some l → WasRead x (path_in l) read → (l ≡ k) × (read ≡ held)
+was-held : (x : Setting) (k l : Command) (held read : FileRead) → InFile x k held → command_of x.words ≡ Some l → WasRead (asked x) (path_in l) read → (l ≡ k) × (read ≡ held)
 was-held x k l held read f command was =
     let same : l ≡ k = one-command x l k command f.command in
     let told : read ≡ read_of file_limit (bytes_at (path_in l).folder (path_in l).name f.all) =
@@ -315,15 +318,15 @@ was-held x k l held read f command was =
     (same, here ∙ sym f.held)
 
 -- so what is found in it is
-same-places : (x : Setting) (k l : Command) (held read : FileRead) → InFile x k held → command_of x.words ≡ Some l → WasRead x (path_in l) read → sites x l read ≡ sites x k held
+same-places : (x : Setting) (k l : Command) (held read : FileRead) → InFile x k held → command_of x.words ≡ Some l → WasRead (asked x) (path_in l) read → sites (asked x) l read ≡ sites (asked x) k held
 same-places x k l held read f command was =
     let same = was-held x k l held read f command was in
-    ap (λ (c : Command). sites x c read) same.0 ∙ ap (λ (r : FileRead). sites x k r) same.1
+    ap (λ (c : Command). sites (asked x) c read) same.0 ∙ ap (λ (r : FileRead). sites (asked x) k r) same.1
 
 -- routes with a fault aren't taken
-none-taken : (x : Setting) (k l : Command) (held : FileRead) (set : RouteSet) (g : RouteFault) → InFile x k held → sites_are.first_fault (sites x k held) ≡ Some g → HasRoutes x l set → ⊥
+none-taken : (x : Setting) (k l : Command) (held : FileRead) (set : RouteSet) (g : RouteFault) → InFile x k held → sites_are.first_fault (sites (asked x) k held) ≡ Some g → HasRoutes (asked x) l set → ⊥
 none-taken x k l held set g f wrong has =
-    let same : sites x l has.read ≡ sites x k held = same-places x k l held has.read f has.command has.answer in
+    let same : sites (asked x) l has.read ≡ sites (asked x) k held = same-places x k l held has.read f has.command has.answer in
     let none : None ≡ Some g = sym has.faultless ∙ ap sites_are.first_fault same ∙ wrong in
     cc none
 
@@ -331,18 +334,18 @@ found-for : (at : List Site) (before after : ℕ) (f g : RouteFault) → Finds a
 found-for at before after f g (inl h) wrong = let both : Some g ≡ Some f = sym h.0 ∙ wrong in inl (cc both)
 found-for at before after f g (inr h) wrong = inr h.0
 
-told-refused : (x : Setting) (k : Command) (held : FileRead) (f : RouteFault) (told : Outcome) (text : List ℕ) → InFile x k held → sites_are.first_fault (sites x k held) ≡ Some f → Comes x told text
-    → IsRefusedFor (sites x k held) f told
+told-refused : (x : Setting) (k : Command) (held : FileRead) (f : RouteFault) (told : Outcome) (text : List ℕ) → InFile x k held → sites_are.first_fault (sites (asked x) k held) ≡ Some f → Comes x told text
+    → IsRefusedFor (sites (asked x) k held) f told
 told-refused x k held f told text file wrong (NoCommand none still calm) = absurd (cc (none, file.command))
 told-refused x k held f told text file wrong (NotRead l command still rises calm) = tt
 told-refused x k held f told text file wrong (NoRoutes l read g command still was h) =
-    let same : sites x l read ≡ sites x k held = same-places x k l held read file command was in
-    found-for (sites x k held) x.patterns_before x.patterns_after f g (subst (λ (at : List Site). Finds at x.patterns_before x.patterns_after g) same h) wrong
+    let same : sites (asked x) l read ≡ sites (asked x) k held = same-places x k l held read file command was in
+    found-for (sites (asked x) k held) x.before.materials.pattern_faults x.after.materials.pattern_faults f g (subst (λ (at : List Site). Finds at x.before.materials.pattern_faults x.after.materials.pattern_faults g) same h) wrong
 told-refused x k held f told text file wrong (WasChecked p set has still) = none-taken x k (Check p) held set f file wrong has
 told-refused x k held f told text file wrong (Stopped p set s has ran ne) = none-taken x k (Drain p) held set f file wrong has
 told-refused x k held f told text file wrong (Starved p set has ran) = none-taken x k (Drain p) held set f file wrong has
 told-refused x k held f told text file wrong (LacksMemory still count spared) = tt
-told-refused x k held f told text file wrong (LacksText p set s has ran) = tt
+told-refused x k held f told text file wrong (LacksText p set s has ran ne) = tt
 
 behind-refused : (at : List Site) (f : RouteFault) (told : Outcome) (w : Result Unit SinkFault) → IsRefusedFor at f told → IsRefusedFor at f (behind told w)
 behind-refused at f told (Ok u) h = h
@@ -365,48 +368,46 @@ right-found at g before after right (inl h) = absurd (let both : None ≡ Some g
 right-found at g before after right (inr h) = of-size g.cause before after (right.patterns g h.0) h.1
 
 -- and routes without one are not refused
-not-refused : (x : Setting) (before after : ℕ) (k : Command) (held : FileRead) (g : RouteFault) → CauseOf x before after (outcome.Routes g) → InFile x k held → IsRight (sites x k held)
-    → IsUnharmed x before after → ⊥
-not-refused x before after k held g h file right u =
-    let same : sites x h.command h.read ≡ sites x k held = same-places x k h.command held h.read file h.asked h.answer in
-    u.patterns (right-found (sites x k held) g x.patterns_before x.patterns_after right (subst (λ (at : List Site). Finds at x.patterns_before x.patterns_after g) same h.refused))
+not-refused : (x : Setting) (k : Command) (held : FileRead) (g : RouteFault) → CauseOf x (outcome.Routes g) → InFile x k held → IsRight (sites (asked x) k held)
+    → IsUnharmed x → ⊥
+not-refused x k held g h file right u =
+    let same : sites (asked x) h.command h.read ≡ sites (asked x) k held = same-places x k h.command held h.read file h.words h.answer in
+    u.patterns (right-found (sites (asked x) k held) g x.before.materials.pattern_faults x.after.materials.pattern_faults right (subst (λ (at : List Site). Finds at x.before.materials.pattern_faults x.after.materials.pattern_faults g) same h.refused))
 
-drains : (x : Setting) (before after : ℕ) (p : Path) (held : FileRead) (o : Outcome) → CauseOf x before after o → InFile x (Drain p) held → IsRight (sites x (Drain p) held) → IsUnharmed x before after
+drains : (x : Setting) (p : Path) (held : FileRead) (o : Outcome) → CauseOf x o → InFile x (Drain p) held → IsRight (sites (asked x) (Drain p) held) → IsUnharmed x
     → IsFaultless o → Completes o
-drains x before after p held outcome.Words h file right u f = absurd (cc (h, file.command))
-drains x before after p held (outcome.Routes g) h file right u f = absurd (not-refused x before after (Drain p) held g h file right u)
-drains x before after p held outcome.FilesFault h file right u f = f
-drains x before after p held outcome.Checked h file right u f = absurd (cc (h.1, file.command))
-drains x before after p held (outcome.Ran s) h file right u f = f
-drains x before after p held outcome.SinkFault h file right u f = f
-drains x before after p held outcome.NoMemory h file right u f = f
+drains x p held outcome.Words h file right u f = absurd (cc (h, file.command))
+drains x p held (outcome.Routes g) h file right u f = absurd (not-refused x (Drain p) held g h file right u)
+drains x p held outcome.FilesFault h file right u f = f
+drains x p held outcome.Checked h file right u f = absurd (cc (h.1, file.command))
+drains x p held (outcome.Ran s) h file right u f = f
+drains x p held outcome.SinkFault h file right u f = f
+drains x p held outcome.NoMemory h file right u f = f
 
-prints : (x : Setting) (before after : ℕ) (p : Path) (held : FileRead) (o : Outcome) → CauseOf x before after o → InFile x (Check p) held → IsRight (sites x (Check p) held) → IsUnharmed x before after
+prints : (x : Setting) (p : Path) (held : FileRead) (o : Outcome) → CauseOf x o → InFile x (Check p) held → IsRight (sites (asked x) (Check p) held) → IsUnharmed x
     → IsFaultless o → Prints o
-prints x before after p held outcome.Words h file right u f = absurd (cc (h, file.command))
-prints x before after p held (outcome.Routes g) h file right u f = absurd (not-refused x before after (Check p) held g h file right u)
-prints x before after p held outcome.FilesFault h file right u f = f
-prints x before after p held outcome.Checked h file right u f = tt
-prints x before after p held (outcome.Ran s) h file right u f = absurd (cc (h.0.1, file.command))
-prints x before after p held outcome.SinkFault h file right u f = f
-prints x before after p held outcome.NoMemory h file right u f = tt
+prints x p held outcome.Words h file right u f = absurd (cc (h, file.command))
+prints x p held (outcome.Routes g) h file right u f = absurd (not-refused x (Check p) held g h file right u)
+prints x p held outcome.FilesFault h file right u f = f
+prints x p held outcome.Checked h file right u f = tt
+prints x p held (outcome.Ran s) h file right u f = absurd (cc (h.0.1, file.command))
+prints x p held outcome.SinkFault h file right u f = f
+prints x p held outcome.NoMemory h file right u f = tt
 
 -- ---- the clause
 
-pub causes : (x : Setting) (before after : Option (List ℕ)) (faults_before faults_after : ℕ) (o : Outcome) → Reports x before after faults_before faults_after o
-    → Causes x faults_before faults_after o
-causes x before after faults_before faults_after o r =
+pub causes : (x : Setting) (o : Outcome) → Reports x o → Causes x o
+causes x o r =
     let is : behind r.told r.tells.write ≡ o = sym r.tells.outcome in
-    let cause : CauseOf x faults_before faults_after o =
-    subst (CauseOf x faults_before faults_after) is
-    (behind-caused x faults_before faults_after r.told r.tells.write r.tells.faults (told-caused x faults_before faults_after r.told r.text r.comes)) in
+    let cause : CauseOf x o = subst (CauseOf x) is (behind-caused x r.told r.tells.write r.tells.faults (told-caused x r.told r.text r.comes)) in
     record {
       cause = cause;
       patterns = subst (PatternsOf x) is (behind-patterns x r.told r.tells.write (told-patterns x r.told r.text r.comes));
       no_command = λ none. subst IsRefused is (refused-behind x r.told r.text r.tells.write none r.comes);
-      faultless = without-faults x faults_before faults_after o cause;
+      faultless = without-faults x o cause;
       no_routes = λ k read f file wrong.
-          subst (IsRefusedFor (sites x k read) f) is (behind-refused (sites x k read) f r.told r.tells.write (told-refused x k read f r.told r.text file wrong r.comes));
-      drained = λ p read file right u. drains x faults_before faults_after p read o cause file right u (without-faults x faults_before faults_after o cause u);
-      checked = λ p read file right u. prints x faults_before faults_after p read o cause file right u (without-faults x faults_before faults_after o cause u);
+          subst (IsRefusedFor (sites (asked x) k read) f) is
+          (behind-refused (sites (asked x) k read) f r.told r.tells.write (told-refused x k read f r.told r.text file wrong r.comes));
+      drained = λ p read file right u. drains x p read o cause file right u (without-faults x o cause u);
+      checked = λ p read file right u. prints x p read o cause file right u (without-faults x o cause u);
     }

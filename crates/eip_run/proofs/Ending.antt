@@ -22,7 +22,6 @@ use Rattle.eip_history.specs.Own.{Past}
 use Rattle.eip_history.specs.Stop.{IsPlain}
 use Rattle.eip_plan.specs.Plan.{plan_of}
 use Rattle.eip_books.specs.View.{BooksView, plan, IsLegalRun}
-use Rattle.eip_core.specs.Doors.{lane_names, inlet_names}
 use Rattle.eip_core.specs.Drain.{IsStop, Drains}
 use Rattle.eip_run.specs.declared.prepare.Refusal.{Refusal}
 use Rattle.eip_run.specs.declared.report.Outcome.{Outcome}
@@ -37,11 +36,13 @@ use Rattle.eip_run.specs.declared.prepare.Refusal.TheVariants as refusal
 use Rattle.eip_endpoint.specs.Content.{IfTold}
 use Rattle.eip_endpoint.specs.Files.{bytes_at, read_of}
 use Rattle.eip_run.specs.Routes.{file_limit, unless_built, bytes_in, sites_in, set_in, sites_for, set_for}
-use Rattle.eip_run.specs.Prepared.{job_of, Given, Read, Answers, IsRefused, IsSpared, Prepares, NoCommand, NotRead, NoRoutes, Found, LacksMemory}
+use Rattle.eip_run.specs.Given.{Asked, Setting, asked}
+use Rattle.eip_run.specs.Prepared.{job_of, sites, Answers, WasRead, IsSpared, HasRoutes, Prepares, NoCommand, NotRead, NoRoutes, Found, LacksMemory}
 use Rattle.eip_run.specs.Printed.{OfRefusal, OfWords, OfFiles, OfRoutes, OfNoLine, OfMemory, OfCheck, OfText, OfNone, OfRun, OfStop, OfStarved, OfNoText, TellsRefusal, TellsCheck, TellsRun}
 use Rattle.eip_run.specs.Drained.{Drained, RanTo, NotBegun}
-use Rattle.eip_run.specs.Reports.{turn_limit, Setting, IsStill, WasRead, Ran, IsRun, HasRoutes, PatternRefused, IsSpared as Spared, Comes, Reports, NoCommand as Refused, NotRead as Failed, NoRoutes as Faulty, WasChecked, Stopped, Starved, LacksMemory as Poor, LacksText}
+use Rattle.eip_run.specs.Reports.{turn_limit, IsStill, Ran, IsRun, Comes, Reports, NoCommand as Refused, NotRead as Failed, NoRoutes as Faulty, WasChecked, Stopped, Starved, LacksMemory as Poor, LacksText}
 use Rattle.eip_core.specs.Served.{names_of}
+use Rattle.eip_core.proofs.Compose.{plain-behind}
 use Rattle.eip_run.proofs.Runnable.{Runs, valid-runs}
 use Rattle.eip_run.proofs.Sites.{none-front, none-behind, built-where}
 
@@ -69,7 +70,7 @@ ran-to set u v j s lb la ib ia b stops legal d same =
       workers = ap (λ (x : JournalView). x.workers) same ∙ none;
       turns = ap (λ (x : JournalView). x.turns) same ∙ limit;
       legal = rw (here, ← over, ← limit, ← none) legal;
-      plain = rw (here, ← plans) (d.plain (rw b.past (none-plain (plan u))));
+      plain = rw (here, ← plans) (rw d.past (plain-behind (plan u) u.journal.past d.behind (rw b.past (none-plain (plan u))) d.plain));
       stops = rw (here, ← over, ← limit) stops;
       lanes = rw (here, past, ← b.of_set, ← b.past) d.lanes;
       inlets = rw (here, past, ← b.of_set) d.inlets;
@@ -84,67 +85,51 @@ told-along {set} {other} {past} {behind} {s} {before} {after} {faults_before} {f
 -- ---- what was prepared
 
 -- reading the file of a path
-pub read-at : (x : Given) (p q : Path) (read : FileRead) → q ≡ p → IfTold x.files (λ all. read ≡ read_of file_limit (bytes_at q.folder q.name all)) → x.files_behind ≡ x.files_before → Read x p read
+pub read-at : (x : Asked) (p q : Path) (read : FileRead) → q ≡ p → IfTold x.before.files (λ all. read ≡ read_of file_limit (bytes_at q.folder q.name all))
+    → x.after.files_faults ≡ x.before.files_faults → WasRead x p read
 read-at x p q read same told count =
-    record { answer = subst (λ (r : Path). IfTold x.files (λ all. read ≡ read_of file_limit (bytes_at r.folder r.name all))) same told; count = count }
+    record { answer = subst (λ (r : Path). IfTold x.before.files (λ all. read ≡ read_of file_limit (bytes_at r.folder r.name all))) same told; count = count }
 
 -- no memory for the reading of its routes
-spared : (x : Given) (k : Command) (read : FileRead) → command_of x.words ≡ Some k → Read x (path_in k) read
-    → Starves (sites_for k x.lanes x.inlets read) x.patterns_before x.patterns_behind → IsSpared x
+spared : (x : Asked) (k : Command) (read : FileRead) → command_of x.words ≡ Some k → WasRead x (path_in k) read
+    → Starves (sites x k read) x.before.pattern_faults x.after.pattern_faults → IsSpared x
 spared x k read command was (inl h) = inl h
 spared x k read command was (inr (f, stops, count)) = inr (f, record { command = k; read = read; asked = command; answer = was; stops = stops; count = count })
 
 -- nothing to do
-pub prepared-none : (x : Given) (k : Command) (read : FileRead) (r : Refusal) → command_of x.words ≡ Some k → Read x (path_in k) read
-    → Answers (sites_for k x.lanes x.inlets read) (set_for x.lanes x.inlets read) x.patterns_before x.patterns_behind (Err r) → Prepares x (Err r)
+pub prepared-none : (x : Asked) (k : Command) (read : FileRead) (r : Refusal) → command_of x.words ≡ Some k → WasRead x (path_in k) read
+    → Answers (sites x k read) (set_for x.lanes x.inlets read) x.before.pattern_faults x.after.pattern_faults (Err r) → Prepares x (Err r)
 prepared-none x k read (refusal.Routes f) command was h = NoRoutes k read f command was h
 prepared-none x k read refusal.NoMemory command was h = LacksMemory was.count (spared x k read command was h)
 prepared-none x k read refusal.Words command was h = absurd h
 prepared-none x k read refusal.FilesFault command was h = absurd h
 
 -- something to do
-pub prepared-job : (x : Given) (k : Command) (read : FileRead) (set : RouteSet) (j : Job) → command_of x.words ≡ Some k → Read x (path_in k) read
-    → Answers (sites_for k x.lanes x.inlets read) (set_for x.lanes x.inlets read) x.patterns_before x.patterns_behind (Ok set) → j ≡ job_of k set → Prepares x (Ok j)
-prepared-job x k read set j command was h made = subst (λ (i : Job). Prepares x (Ok i)) (sym made) (Found k read set command was h.0 h.1 h.2)
+pub prepared-job : (x : Asked) (k : Command) (read : FileRead) (set : RouteSet) (j : Job) → command_of x.words ≡ Some k → WasRead x (path_in k) read
+    → Answers (sites x k read) (set_for x.lanes x.inlets read) x.before.pattern_faults x.after.pattern_faults (Ok set) → j ≡ job_of k set → Prepares x (Ok j)
+prepared-job x k read set j command was h made =
+    subst (λ (i : Job). Prepares x (Ok i)) (sym made)
+    (Found k set (record { read = read; command = command; answer = was; patterns = h.2; faultless = h.0; routes = h.1 }))
 
 -- ---- what a command comes to
 
-abbrev given_of : Setting → List (List ℕ) → List (List ℕ) → Given
-given_of x ls is = record { words = x.words; files = x.files; files_before = x.files_before; files_behind = x.files_after; patterns_before = x.patterns_before; patterns_behind = x.patterns_after; lanes = ls; inlets = is }
-
-was-read : (x : Setting) (ls is : List (List ℕ)) (p : Path) (read : FileRead) → Read (given_of x ls is) p read → WasRead x p read
-was-read x ls is p read r = record { answer = r.answer; count = r.count }
-
--- the routes of a file that was found
-routes-in : (x : Setting) (ls is : List (List ℕ)) (k : Command) (read : FileRead) (set : RouteSet) → lane_names x.lanes_before ≡ ls → inlet_names x.inlets_before ≡ is
-    → command_of x.words ≡ Some k → Read (given_of x ls is) (path_in k) read → first_fault (sites_for k ls is read) ≡ None → set ≡ set_for ls is read → x.patterns_after ≡ x.patterns_before
-    → HasRoutes x k set
-routes-in x ls is k read set el ei command was faultless routes patterns =
-    record { read = read; command = command; answer = was-read x ls is (path_in k) read was; patterns = patterns; faultless = rw (el, ei) faultless; routes = rw (el, ei) routes }
-
 -- a drain of these routes
-has-drain : (x : Setting) (ls is : List (List ℕ)) (r : Result Job Refusal) (set : RouteSet) → lane_names x.lanes_before ≡ ls → inlet_names x.inlets_before ≡ is
-    → Prepares (given_of x ls is) r → r ≡ Ok (job.Drain set) → (p : Path) × HasRoutes x (Drain p) set
-has-drain x ls is r set el ei (NoCommand none calm) e = absurd (cc e)
-has-drain x ls is r set el ei (NotRead k command rises calm) e = absurd (cc e)
-has-drain x ls is r set el ei (NoRoutes k read f command was h) e = absurd (cc e)
-has-drain x ls is r set el ei (Found (Drain p) read s command was faultless routes patterns) e =
-    let same : s ≡ set = cc e in
-    (p, subst (HasRoutes x (Drain p)) same (routes-in x ls is (Drain p) read s el ei command was faultless routes patterns))
-has-drain x ls is r set el ei (Found (Check p) read s command was faultless routes patterns) e = absurd (cc e)
-has-drain x ls is r set el ei (LacksMemory count calm) e = absurd (cc e)
+has-drain : (x : Asked) (r : Result Job Refusal) (set : RouteSet) → Prepares x r → r ≡ Ok (job.Drain set) → (p : Path) × HasRoutes x (Drain p) set
+has-drain x r set (NoCommand none calm) e = absurd (cc e)
+has-drain x r set (NotRead k command rises calm) e = absurd (cc e)
+has-drain x r set (NoRoutes k read f command was h) e = absurd (cc e)
+has-drain x r set (Found (Drain p) s has) e = let same : s ≡ set = cc e in (p, subst (HasRoutes x (Drain p)) same has)
+has-drain x r set (Found (Check p) s has) e = absurd (cc e)
+has-drain x r set (LacksMemory count calm) e = absurd (cc e)
 
 -- a check of these routes
-has-check : (x : Setting) (ls is : List (List ℕ)) (r : Result Job Refusal) (set : RouteSet) → lane_names x.lanes_before ≡ ls → inlet_names x.inlets_before ≡ is
-    → Prepares (given_of x ls is) r → r ≡ Ok (job.Check set) → (p : Path) × HasRoutes x (Check p) set
-has-check x ls is r set el ei (NoCommand none calm) e = absurd (cc e)
-has-check x ls is r set el ei (NotRead k command rises calm) e = absurd (cc e)
-has-check x ls is r set el ei (NoRoutes k read f command was h) e = absurd (cc e)
-has-check x ls is r set el ei (Found (Check p) read s command was faultless routes patterns) e =
-    let same : s ≡ set = cc e in
-    (p, subst (HasRoutes x (Check p)) same (routes-in x ls is (Check p) read s el ei command was faultless routes patterns))
-has-check x ls is r set el ei (Found (Drain p) read s command was faultless routes patterns) e = absurd (cc e)
-has-check x ls is r set el ei (LacksMemory count calm) e = absurd (cc e)
+has-check : (x : Asked) (r : Result Job Refusal) (set : RouteSet) → Prepares x r → r ≡ Ok (job.Check set) → (p : Path) × HasRoutes x (Check p) set
+has-check x r set (NoCommand none calm) e = absurd (cc e)
+has-check x r set (NotRead k command rises calm) e = absurd (cc e)
+has-check x r set (NoRoutes k read f command was h) e = absurd (cc e)
+has-check x r set (Found (Check p) s has) e = let same : s ≡ set = cc e in (p, subst (HasRoutes x (Check p)) same has)
+has-check x r set (Found (Drain p) s has) e = absurd (cc e)
+has-check x r set (LacksMemory count calm) e = absurd (cc e)
 
 -- a file in which nothing is wrong gives a valid set, with the names that were handed in
 file-valid : (n : Names) (read : FileRead) → first_fault (sites_in n read) ≡ None → IsValid (set_in n read)
@@ -167,73 +152,56 @@ drain-runs ls is p read h =
     valid-runs n set (file-valid n read (none-front (sites_in n read) (unless_built (is_built set)) h)) (file-names n read) (built-where (sites_in n read) (is_built set) h)
 
 -- routes that are drained can be run
-pub routes-run : (x : Setting) (p : Path) (set : RouteSet) → HasRoutes x (Drain p) set → Runs set (lane_names x.lanes_before) (inlet_names x.inlets_before)
-routes-run x p set has =
-    let ls = lane_names x.lanes_before in
-    let is = inlet_names x.inlets_before in
-    subst (λ (y : RouteSet). Runs y ls is) (sym has.routes) (drain-runs ls is p has.read has.faultless)
+pub routes-run : (x : Asked) (p : Path) (set : RouteSet) → HasRoutes x (Drain p) set → Runs set x.lanes x.inlets
+routes-run x p set has = subst (λ (y : RouteSet). Runs y x.lanes x.inlets) (sym has.routes) (drain-runs x.lanes x.inlets p has.read has.faultless)
 
-pub prepared-runs : (x : Given) (r : Result Job Refusal) (set : RouteSet) → Prepares x r → r ≡ Ok (job.Drain set) → Runs set x.lanes x.inlets
-prepared-runs x r set (NoCommand none calm) e = absurd (cc e)
-prepared-runs x r set (NotRead k command rises calm) e = absurd (cc e)
-prepared-runs x r set (NoRoutes k read f command was h) e = absurd (cc e)
-prepared-runs x r set (Found (Drain p) read s command was faultless routes patterns) e =
-    let same : s ≡ set = cc e in
-    subst (λ (y : RouteSet). Runs y x.lanes x.inlets) (sym routes ∙ same) (drain-runs x.lanes x.inlets p read faultless)
-prepared-runs x r set (Found (Check p) read s command was faultless routes patterns) e = absurd (cc e)
-prepared-runs x r set (LacksMemory count calm) e = absurd (cc e)
+pub prepared-runs : (x : Asked) (r : Result Job Refusal) (set : RouteSet) → Prepares x r → r ≡ Ok (job.Drain set) → Runs set x.lanes x.inlets
+prepared-runs x r set prepares e = let has = has-drain x r set prepares e in routes-run x has.0 set has.1
 
-comes-ran : (x : Setting) (p : Path) (set : RouteSet) (s : Stop) (told : Outcome) (text : List ℕ) → HasRoutes x (Drain p) set → IsRun x set s → OfRun set x.journal.past s told text → Comes x told text
+comes-ran : (x : Setting) (p : Path) (set : RouteSet) (s : Stop) (told : Outcome) (text : List ℕ) → HasRoutes (asked x) (Drain p) set → IsRun x set s
+    → OfRun set x.journal.past s told text → Comes x told text
 comes-ran x p set s told text has ran (OfStop _ ne) = Stopped p set s has ran ne
 comes-ran x p set s told text has ran OfStarved = Starved p set has ran
-comes-ran x p set s told text has ran (OfNoText _) = LacksText p set s has ran
+comes-ran x p set s told text has ran (OfNoText _ ne) = LacksText p set s has ran ne
 
-pub reports-drained : (x : Setting) (ls is : List (List ℕ)) (r : Result Job Refusal) (set : RouteSet) {before after : Option (List ℕ)} {faults_before faults_after : ℕ} {o : Outcome} → Prepares (given_of x ls is) r
-    → r ≡ Ok (job.Drain set) → lane_names x.lanes_before ≡ ls → inlet_names x.inlets_before ≡ is
-    → Drained set x.journal x.lanes_before x.lanes_after x.inlets_before x.inlets_after before after faults_before faults_after o → Reports x before after faults_before faults_after o
-reports-drained x ls is r set prep e el ei (RanTo s o ran tells) =
-    let has = has-drain x ls is r set el ei prep e in
+pub reports-drained : (x : Setting) (r : Result Job Refusal) (set : RouteSet) {o : Outcome} → Prepares (asked x) r → r ≡ Ok (job.Drain set)
+    → Drained set x.journal x.before.lanes x.after.lanes x.before.inlets x.after.inlets x.before.written x.after.written x.before.sink_faults x.after.sink_faults o → Reports x o
+reports-drained x r set prepares e (RanTo s o ran tells) =
+    let has = has-drain (asked x) r set prepares e in
     record { told = tells.told; text = tells.text; comes = comes-ran x has.0 set s tells.told tells.text has.1 ran tells.of; tells = tells.tells }
-reports-drained x ls is r set prep e el ei (NotBegun o new lanes inlets told) =
-    let has = has-drain x ls is r set el ei prep e in
-    record { told = outcome.NoMemory; text = codes "error memory\n"; comes = Poor (record { lanes = lanes; inlets = inlets; journal = new }) has.1.answer.count (inl has.1.patterns); tells = told }
+reports-drained x r set prepares e (NotBegun o new lanes inlets told) =
+    let has = has-drain (asked x) r set prepares e in
+    record {
+      told = outcome.NoMemory;
+      text = codes "error memory\n";
+      comes = Poor (record { lanes = lanes; inlets = inlets; journal = new }) has.1.answer.count (inl has.1.patterns);
+      tells = told;
+    }
 
-comes-checked : (x : Setting) (p : Path) (set : RouteSet) (told : Outcome) (text : List ℕ) → HasRoutes x (Check p) set → IsStill x → OfCheck set told text → Comes x told text
+comes-checked : (x : Setting) (p : Path) (set : RouteSet) (told : Outcome) (text : List ℕ) → HasRoutes (asked x) (Check p) set → IsStill x → OfCheck set told text → Comes x told text
 comes-checked x p set told text has still OfText = WasChecked p set has still
 comes-checked x p set told text has still OfNone = Poor still has.answer.count (inl has.patterns)
 
-pub reports-checked : (x : Setting) (ls is : List (List ℕ)) (r : Result Job Refusal) (set : RouteSet) {before after : Option (List ℕ)} {faults_before faults_after : ℕ} {o : Outcome} → Prepares (given_of x ls is) r
-    → r ≡ Ok (job.Check set) → lane_names x.lanes_before ≡ ls → inlet_names x.inlets_before ≡ is → IsStill x
-    → TellsCheck set before after faults_before faults_after o → Reports x before after faults_before faults_after o
-reports-checked x ls is r set prep e el ei still tells =
-    let has = has-check x ls is r set el ei prep e in
+pub reports-checked : (x : Setting) (r : Result Job Refusal) (set : RouteSet) {o : Outcome} → Prepares (asked x) r → r ≡ Ok (job.Check set) → IsStill x
+    → TellsCheck set x.before.written x.after.written x.before.sink_faults x.after.sink_faults o → Reports x o
+reports-checked x r set prepares e still tells =
+    let has = has-check (asked x) r set prepares e in
     record { told = tells.told; text = tells.text; comes = comes-checked x has.0 set tells.told tells.text has.1 still tells.of; tells = tells.tells }
 
--- a pattern was refused, of the file that the words name
-pattern-refused : (x : Setting) (ls is : List (List ℕ)) (f : RouteFault) → lane_names x.lanes_before ≡ ls → inlet_names x.inlets_before ≡ is → IsRefused (given_of x ls is) f → PatternRefused x f
-pattern-refused x ls is f el ei r =
-    record { command = r.command; read = r.read; asked = r.asked; answer = was-read x ls is (path_in r.command) r.read r.answer; stops = rw (el, ei) r.stops; count = r.count }
-
-was-spared : (x : Setting) (ls is : List (List ℕ)) → lane_names x.lanes_before ≡ ls → inlet_names x.inlets_before ≡ is → IsSpared (given_of x ls is) → Spared x
-was-spared x ls is el ei (inl h) = inl h
-was-spared x ls is el ei (inr (f, r)) = inr (f, pattern-refused x ls is f el ei r)
-
 -- no memory for the line of a fault
-untold-spared : (x : Given) (k : Command) (read : FileRead) (f : RouteFault) → command_of x.words ≡ Some k → Read x (path_in k) read
-    → Finds (sites_for k x.lanes x.inlets read) x.patterns_before x.patterns_behind f → IsSpared x
+untold-spared : (x : Asked) (k : Command) (read : FileRead) (f : RouteFault) → command_of x.words ≡ Some k → WasRead x (path_in k) read
+    → Finds (sites x k read) x.before.pattern_faults x.after.pattern_faults f → IsSpared x
 untold-spared x k read f command was (inl h) = inl h.1
 untold-spared x k read f command was (inr h) = inr (f, record { command = k; read = read; asked = command; answer = was; stops = h.0; count = h.1 })
 
-comes-refused : (x : Setting) (ls is : List (List ℕ)) (r : Refusal) (told : Outcome) (text : List ℕ) → lane_names x.lanes_before ≡ ls → inlet_names x.inlets_before ≡ is → IsStill x
-    → Prepares (given_of x ls is) (Err r) → OfRefusal r told text → Comes x told text
-comes-refused x ls is r told text el ei still (NoCommand none calm) OfWords = Refused none still (record { files = calm.files; patterns = calm.patterns })
-comes-refused x ls is r told text el ei still (NotRead k command rises calm) OfFiles = Failed k command still rises calm
-comes-refused x ls is r told text el ei still (NoRoutes k read f command was h) (OfRoutes _) = Faulty k read f command still (was-read x ls is (path_in k) read was) (rw (el, ei) h)
-comes-refused x ls is r told text el ei still (NoRoutes k read f command was h) (OfNoLine _) =
-    Poor still was.count (was-spared x ls is el ei (untold-spared (given_of x ls is) k read f command was h))
-comes-refused x ls is r told text el ei still (LacksMemory count calm) OfMemory = Poor still count (was-spared x ls is el ei calm)
+comes-refused : (x : Setting) (r : Refusal) (told : Outcome) (text : List ℕ) → IsStill x → Prepares (asked x) (Err r) → OfRefusal r told text → Comes x told text
+comes-refused x r told text still (NoCommand none calm) OfWords = Refused none still calm
+comes-refused x r told text still (NotRead k command rises calm) OfFiles = Failed k command still rises calm
+comes-refused x r told text still (NoRoutes k read f command was h) (OfRoutes _) = Faulty k read f command still was h
+comes-refused x r told text still (NoRoutes k read f command was h) (OfNoLine _) = Poor still was.count (untold-spared (asked x) k read f command was h)
+comes-refused x r told text still (LacksMemory count calm) OfMemory = Poor still count calm
 
-pub reports-refused : (x : Setting) (ls is : List (List ℕ)) (r : Refusal) {before after : Option (List ℕ)} {faults_before faults_after : ℕ} {o : Outcome} → Prepares (given_of x ls is) (Err r)
-    → lane_names x.lanes_before ≡ ls → inlet_names x.inlets_before ≡ is → IsStill x → TellsRefusal r before after faults_before faults_after o → Reports x before after faults_before faults_after o
-reports-refused x ls is r prep el ei still tells =
-    record { told = tells.told; text = tells.text; comes = comes-refused x ls is r tells.told tells.text el ei still prep tells.of; tells = tells.tells }
+pub reports-refused : (x : Setting) (r : Refusal) {o : Outcome} → Prepares (asked x) (Err r) → IsStill x
+    → TellsRefusal r x.before.written x.after.written x.before.sink_faults x.after.sink_faults o → Reports x o
+reports-refused x r prepares still tells =
+    record { told = tells.told; text = tells.text; comes = comes-refused x r tells.told tells.text still prepares tells.of; tells = tells.tells }

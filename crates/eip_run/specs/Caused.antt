@@ -13,15 +13,19 @@ use Rattle.eip_command.specs.declared.words.Command.{Command}
 use Rattle.eip_command.specs.declared.words.Command.TheVariants.{Drain, Check}
 use Rattle.eip_endpoint.specs.Files.{File, bytes_at, read_of}
 use Rattle.eip_endpoint.specs.declared.files.FileRead.{FileRead}
-use Rattle.eip_endpoint.specs.Inlets.{InletView}
+use Rattle.eip_endpoint.specs.Inlets.{InletView, inlet_names}
 use Rattle.eip_ledger.specs.declared.place.Stop.{Stop}
 use Rattle.eip_ledger.specs.declared.place.Stop.TheVariants as stop
 use Rattle.eip_history.specs.Own.{turns}
-use Rattle.eip_core.specs.Doors.{inlet_at, inlet_names}
+use Rattle.eip_core.specs.Doors.{inlet_at}
 use Rattle.eip_run.specs.declared.report.Outcome.{Outcome}
 use Rattle.eip_run.specs.declared.report.Outcome.TheVariants as outcome
+use Rattle.eip_run.specs.declared.report.Report.{Report}
 use Rattle.eip_run.specs.Routes.{file_limit}
-use Rattle.eip_run.specs.Reports.{turn_limit, Setting, WasRead, sites, HasRoutes, PatternRefused, IsSpared}
+use Rattle.eip_run.specs.Given.{Outside, Setting, asked}
+use Rattle.eip_run.specs.Prepared.{sites, WasRead, PatternRefused, IsSpared, HasRoutes}
+use Rattle.eip_run.specs.Outcomes.{status_of}
+use Rattle.eip_run.specs.Reports.{turn_limit, Reports}
 
 -- the count of faults of the inlet with this index rose
 pub record InletRose (before after : List InletView) (inlet : ℕ) : Type 0 where
@@ -35,18 +39,18 @@ pub record InletRose (before after : List InletView) (inlet : ℕ) : Type 0 wher
 pub record SourceFailed (x : Setting) (route : ℕ) : Type 0 where
   pub path : Path
   pub set : RouteSet
-  pub routes : HasRoutes x (Drain path) set
+  pub routes : HasRoutes (asked x) (Drain path) set
   pub inlet : ℕ
-  pub read_by : inlet_at (inlet_names x.inlets_before) (slice_get set.routes route) ≡ Some inlet
-  pub failed : InletRose x.inlets_before x.inlets_after inlet
+  pub read_by : inlet_at (inlet_names x.before.inlets) (slice_get set.routes route) ≡ Some inlet
+  pub failed : InletRose x.before.inlets x.after.inlets inlet
 
 -- the file that the words name was read, and this is its first fault, or that of a refused pattern before it
 pub record IsFaulty (x : Setting) (f : RouteFault) : Type 0 where
   pub command : Command
   pub read : FileRead
-  pub asked : command_of x.words ≡ Some command
-  pub answer : WasRead x (path_in command) read
-  pub refused : Finds (sites x command read) x.patterns_before x.patterns_after f
+  pub words : command_of x.words ≡ Some command
+  pub answer : WasRead (asked x) (path_in command) read
+  pub refused : Finds (sites (asked x) command read) x.before.materials.pattern_faults x.after.materials.pattern_faults f
 
 -- the words ask for a drain
 abbrev pub IsDrain : Setting → Type 0
@@ -64,29 +68,29 @@ CauseOfStop x (stop.Held groups) = ⊥
 CauseOfStop x stop.Spent = turns x.journal.past ≡ turn_limit
 CauseOfStop x stop.NoMemory = Unit {0}
 
--- the cause of each outcome, with the sink's counts of faults before and after
-abbrev pub CauseOf : Setting → ℕ → ℕ → Outcome → Type 0
-CauseOf x faults_before faults_after outcome.Words = command_of x.words ≡ None
-CauseOf x faults_before faults_after (outcome.Routes f) = IsFaulty x f
-CauseOf x faults_before faults_after outcome.FilesFault = Rose x.files_before x.files_after
-CauseOf x faults_before faults_after outcome.Checked = IsCheck x
-CauseOf x faults_before faults_after (outcome.Ran s) = IsDrain x × CauseOfStop x s
-CauseOf x faults_before faults_after outcome.SinkFault = Rose faults_before faults_after
-CauseOf x faults_before faults_after outcome.NoMemory = Unit {0}
+-- the cause of each outcome
+abbrev pub CauseOf : Setting → Outcome → Type 0
+CauseOf x outcome.Words = command_of x.words ≡ None
+CauseOf x (outcome.Routes f) = IsFaulty x f
+CauseOf x outcome.FilesFault = Rose x.before.materials.files_faults x.after.materials.files_faults
+CauseOf x outcome.Checked = IsCheck x
+CauseOf x (outcome.Ran s) = IsDrain x × CauseOfStop x s
+CauseOf x outcome.SinkFault = Rose x.before.sink_faults x.after.sink_faults
+CauseOf x outcome.NoMemory = Unit {0}
 
 -- what an outcome says of the patterns' count of faults: it is as before, unless the outcome is the fault of a refused pattern, or memory was wanting
 -- and a pattern was refused
 abbrev pub PatternsOf : Setting → Outcome → Type 0
-PatternsOf x (outcome.Routes f) = (x.patterns_after ≡ x.patterns_before) ⊎ PatternRefused x f
-PatternsOf x outcome.NoMemory = IsSpared x
-PatternsOf x _ = x.patterns_after ≡ x.patterns_before
+PatternsOf x (outcome.Routes f) = (x.after.materials.pattern_faults ≡ x.before.materials.pattern_faults) ⊎ PatternRefused (asked x) f
+PatternsOf x outcome.NoMemory = IsSpared (asked x)
+PatternsOf x _ = x.after.materials.pattern_faults ≡ x.before.materials.pattern_faults
 
 -- no count of faults rose, of the files, of the patterns, of an inlet or of the sink
-pub record IsUnharmed (x : Setting) (faults_before faults_after : ℕ) : Type 0 where
-  pub files : Rose x.files_before x.files_after → ⊥
-  pub patterns : Rose x.patterns_before x.patterns_after → ⊥
-  pub inlets : (inlet : ℕ) → InletRose x.inlets_before x.inlets_after inlet → ⊥
-  pub sink : Rose faults_before faults_after → ⊥
+pub record IsUnharmed (x : Setting) : Type 0 where
+  pub files : Rose x.before.materials.files_faults x.after.materials.files_faults → ⊥
+  pub patterns : Rose x.before.materials.pattern_faults x.after.materials.pattern_faults → ⊥
+  pub inlets : (inlet : ℕ) → InletRose x.before.inlets x.after.inlets inlet → ⊥
+  pub sink : Rose x.before.sink_faults x.after.sink_faults → ⊥
 
 -- the routes were drained, or the turns or the memory were too few
 abbrev pub Completes : Outcome → Type 0
@@ -120,7 +124,7 @@ IsRefusedFor at f _ = ⊥
 pub record InFile (x : Setting) (k : Command) (read : FileRead) : Type 0 where
   pub all : List File
   pub command : command_of x.words ≡ Some k
-  pub files : x.files ≡ Some all
+  pub files : x.before.materials.files ≡ Some all
   pub held : read ≡ read_of file_limit (bytes_at (path_in k).folder (path_in k).name all)
 
 -- each refused pattern is one that is too large
@@ -137,11 +141,18 @@ pub record IsRight (at : List Site) : Type 0 where
 -- memory is wanting, and routes with a fault are refused, unless memory is wanting or the files fail. Where no count of faults rose, the outcome is no
 -- fault of the files, a source or the sink; a drain whose file is right runs its routes until they are drained, or turns or memory are too few; and a
 -- check whose file is right prints them, or memory is wanting
-pub record Causes (x : Setting) (faults_before faults_after : ℕ) (o : Outcome) : Type 0 where
-  pub cause : CauseOf x faults_before faults_after o
+pub record Causes (x : Setting) (o : Outcome) : Type 0 where
+  pub cause : CauseOf x o
   pub patterns : PatternsOf x o
   pub no_command : command_of x.words ≡ None → (o ≡ outcome.Words) ⊎ (o ≡ outcome.NoMemory)
-  pub no_routes : (k : Command) (read : FileRead) (f : RouteFault) → InFile x k read → first_fault (sites x k read) ≡ Some f → IsRefusedFor (sites x k read) f o
-  pub faultless : IsUnharmed x faults_before faults_after → IsFaultless o
-  pub drained : (p : Path) (read : FileRead) → InFile x (Drain p) read → IsRight (sites x (Drain p) read) → IsUnharmed x faults_before faults_after → Completes o
-  pub checked : (p : Path) (read : FileRead) → InFile x (Check p) read → IsRight (sites x (Check p) read) → IsUnharmed x faults_before faults_after → Prints o
+  pub no_routes : (k : Command) (read : FileRead) (f : RouteFault) → InFile x k read → first_fault (sites (asked x) k read) ≡ Some f → IsRefusedFor (sites (asked x) k read) f o
+  pub faultless : IsUnharmed x → IsFaultless o
+  pub drained : (p : Path) (read : FileRead) → InFile x (Drain p) read → IsRight (sites (asked x) (Drain p) read) → IsUnharmed x → Completes o
+  pub checked : (p : Path) (read : FileRead) → InFile x (Check p) read → IsRight (sites (asked x) (Check p) read) → IsUnharmed x → Prints o
+
+-- the report of a command: what it came to, with its text written, from its cause, with its status. The files are as before
+pub record IsReport (words : List (List ℕ)) (before after : Outside) (r : Report) : Type 0 where
+  pub reports : Reports (record { words = words; before = before; after = after; journal = r.journal }) r.outcome
+  pub causes : Causes (record { words = words; before = before; after = after; journal = r.journal }) r.outcome
+  pub status : r.status ≡ status_of r.outcome
+  pub files : after.materials.files ≡ before.materials.files

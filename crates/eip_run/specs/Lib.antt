@@ -1,3 +1,4 @@
+pub mod Given
 pub mod Routes
 pub mod Prepared
 pub mod Outcomes

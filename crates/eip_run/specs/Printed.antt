@@ -3,7 +3,7 @@ use Rattle.std.specs.Prelude.{ℕ, ◌≢◌, List, Option, codes}
 use Rattle.eip_route.specs.declared.route.RouteSet.{RouteSet}
 use Rattle.eip_command.specs.Causes.{fault_line}
 use Rattle.eip_route_grammar.specs.declared.fault.RouteFault.{RouteFault}
-use Rattle.eip_route_print.specs.Canonical.{canonical_text}
+use Rattle.eip_route_canonical.specs.Canonical.{canonical_text}
 use Rattle.eip_ledger.specs.declared.place.Stop.{Stop}
 use Rattle.eip_ledger.specs.declared.place.Stop.TheVariants as stop
 use Rattle.eip_history.specs.Own.{Past}
@@ -25,7 +25,7 @@ pub data OfRefusal : Refusal → Outcome → List ℕ → Type 0 where
 pub data OfRun (set : RouteSet) (past : Past) : Stop → Outcome → List ℕ → Type 0 where
   OfStop : (s : Stop) → s ≢ stop.NoMemory → OfRun set past s (outcome.Ran s) (run_text set past s)
   OfStarved : OfRun set past stop.NoMemory (outcome.Ran stop.NoMemory) (codes "error memory\n")
-  OfNoText : (s : Stop) → OfRun set past s outcome.NoMemory (codes "error memory\n")
+  OfNoText : (s : Stop) → s ≢ stop.NoMemory → OfRun set past s outcome.NoMemory (codes "error memory\n")
 
 -- the outcome and the text of a check
 pub data OfCheck (set : RouteSet) : Outcome → List ℕ → Type 0 where

@@ -3,7 +3,8 @@
 
 mod prepare;
 mod print;
-pub mod report;
-pub mod run;
+mod report;
+mod top;
 
 pub use report::{Outcome, Report};
+pub use top::run;

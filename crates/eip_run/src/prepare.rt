@@ -1,11 +1,14 @@
-ghost use Rattle.std.specs.Prelude.{ℕ, ◌≡◌, map};
+ghost use Rattle.std.specs.Prelude.{ℕ, ◌≡◌};
+ghost use Rattle.eip_endpoint.specs.Lanes.{lane_names};
+ghost use Rattle.eip_endpoint.specs.Inlets.{inlet_names};
+ghost use Rattle.eip_run.specs.Given.{materials};
 ghost use Rattle.eip_run.specs.Routes.{sites_in, set_in, asked_sites, sites_for, set_for, unless_built};
 ghost use Rattle.eip_route.specs.Built.{is_built};
 ghost use Rattle.eip_run.specs.Prepared.{job_of, Answers, Refuses, Prepares};
 
 use eip_command::{Command, WordsFault, read_words};
 use eip_core::{Registry, names_of};
-use eip_endpoint::{FileRead, Files, FilesFault, Inlet, Lane};
+use eip_endpoint::{FileRead, Files, FilesFault, Inlets, Lanes};
 use eip_route::{Names, RouteSet};
 use eip_route_grammar::{Cause, RouteFault};
 use eip_route_json::{RouteRefusal, read_routes};
@@ -39,16 +42,22 @@ pub enum Refusal {
 
 /// What the words ask to do with the routes of their file, or the first cause why there is nothing to do: the words,
 /// then the reading of the route file, then the routes. A drain also asks that the routes are of the part that is run.
-pub fn prepare<F: Files, P: Patterns>(
+pub fn prepare<F: Files, P: Patterns, L: Lanes, I: Inlets>(
     alloc: Global,
     words: &[Text],
     files: &mut F,
     patterns: &mut P,
-    lanes: &[Lane],
-    inlets: &[Inlet],
+    lanes: &L,
+    inlets: &I,
     registry: &Registry,
 ) -> Result<Job, Refusal>
-    ensures answer { Prepares (record { words = words.now; files = F.files files.old; files_before = F.files_faults files.old; files_behind = F.files_faults files.new; patterns_before = P.pattern_faults patterns.old; patterns_behind = P.pattern_faults patterns.new; lanes = map (λ l. l.name) lanes.now; inlets = map (λ i. i.name) inlets.now }) result }
+    ensures answer { Prepares (record {
+      words = words.now;
+      before = materials F.Files files.old (P.pattern_faults patterns.old);
+      after = materials F.Files files.new (P.pattern_faults patterns.new);
+      lanes = lane_names (L.views lanes.now);
+      inlets = inlet_names (I.views inlets.now);
+    }) result }
     ensures files { F.files files.new ≡ F.files files.old }
 {
     let command = match read_words(alloc, words) {
@@ -79,16 +88,16 @@ fn job_of(command: &Command, set: RouteSet) -> Job
 }
 
 /// The routes that a command takes from a file that was read.
-fn routes_for<P: Patterns>(
+fn routes_for<P: Patterns, L: Lanes, I: Inlets>(
     alloc: Global,
     command: &Command,
     read: &FileRead,
     patterns: &mut P,
-    lanes: &[Lane],
-    inlets: &[Inlet],
+    lanes: &L,
+    inlets: &I,
     registry: &Registry,
 ) -> Result<RouteSet, Refusal>
-    ensures { Answers (sites_for command.now (map (λ l. l.name) lanes.now) (map (λ i. i.name) inlets.now) read.now) (set_for (map (λ l. l.name) lanes.now) (map (λ i. i.name) inlets.now) read.now) (P.pattern_faults patterns.old) (P.pattern_faults patterns.new) result }
+    ensures { Answers (sites_for command.now (lane_names (L.views lanes.now)) (inlet_names (I.views inlets.now)) read.now) (set_for (lane_names (L.views lanes.now)) (inlet_names (I.views inlets.now)) read.now) (P.pattern_faults patterns.old) (P.pattern_faults patterns.new) result }
 {
     let Ok(names) = names_of(alloc, registry, lanes, inlets) else {
         return Err(Refusal::NoMemory);

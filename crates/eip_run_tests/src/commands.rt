@@ -1,6 +1,6 @@
-use crate::given::texts;
 use eip_command::{Command, Path, WordsFault, fault_line, read_words};
 use eip_route_grammar::{Cause, RouteFault};
+use eip_test_support::texts;
 use eip_text::Text;
 use std::test::Fail;
 

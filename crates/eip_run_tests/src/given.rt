@@ -1,9 +1,9 @@
 use crate::lines::Lines;
 use eip_core::Registry;
 use eip_endpoint::{Inlet, Lane, MemoryFiles, MemoryLane, MemorySink};
-use eip_run::Report;
-use eip_run::run::run;
+use eip_run::{Report, run};
 use eip_simple_read::CratePatterns;
+use eip_test_support::{joined, texts};
 use eip_text::{NoMemory, Series, Text};
 use std::alloc::Global;
 
@@ -32,36 +32,9 @@ pub const SOUND: Failing = Failing {
 pub struct Given {
     pub words: Vec<Text>,
     pub files: MemoryFiles,
-    pub lanes: Vec<Lane>,
-    pub inlets: Vec<Inlet>,
+    pub lanes: Vec<Lane<MemoryLane>>,
+    pub inlets: Vec<Inlet<Lines>>,
     pub out: MemorySink,
-}
-
-/// These texts.
-pub fn texts(alloc: Global, words: &[&str]) -> Result<Vec<Text>, NoMemory> {
-    let mut texts = Vec::new(alloc);
-    for word in words {
-        texts.push(Text::of_str(alloc, word)?)?;
-    }
-    Ok(texts)
-}
-
-/// So many times this text.
-pub fn repeated(alloc: Global, text: &str, times: usize) -> Result<String, NoMemory> {
-    let mut out = String::new(alloc);
-    for _ in 0..times {
-        out.push_str(text)?;
-    }
-    Ok(out)
-}
-
-/// These texts in one.
-pub fn joined(alloc: Global, texts: &[&str]) -> Result<String, NoMemory> {
-    let mut out = String::new(alloc);
-    for text in texts {
-        out.push_str(text)?;
-    }
-    Ok(out)
 }
 
 /// A route file of one route from standard input with these steps.
@@ -80,25 +53,26 @@ fn file_of(alloc: Global, bytes: &str, failing: u64) -> Result<MemoryFiles, NoMe
     Ok(MemoryFiles::new(alloc, content, vec![in alloc; failing]?))
 }
 
-/// A lane of this name that does all that is asked.
-fn lane(alloc: Global, name: &str) -> Result<Lane, NoMemory> {
+/// A lane of this name that fails the calls of these numbers.
+fn lane(alloc: Global, name: &str, failing: Vec<u64>) -> Result<Lane<MemoryLane>, NoMemory> {
     let name = Text::of_str(alloc, name)?;
-    let object = Box::new(alloc, MemoryLane::new(alloc, Vec::new(alloc)))?;
+    let object = MemoryLane::new(alloc, failing);
     Ok(Lane { name, object })
 }
 
-/// The lanes `a`, `b` and `x`.
-fn lanes(alloc: Global) -> Result<Vec<Lane>, NoMemory> {
+/// The lanes `a` and `b`, which do all that is asked, and `x`, which fails its second call.
+fn lanes(alloc: Global) -> Result<Vec<Lane<MemoryLane>>, NoMemory> {
     let mut lanes = Vec::new(alloc);
-    for name in ["lane:a", "lane:b", "lane:x"] {
-        lanes.push(lane(alloc, name)?)?;
+    for name in ["lane:a", "lane:b"] {
+        lanes.push(lane(alloc, name, Vec::new(alloc))?)?;
     }
+    lanes.push(lane(alloc, "lane:x", vec![in alloc; 2]?)?)?;
     Ok(lanes)
 }
 
 /// These lines as the inlet of standard input.
-fn stream(alloc: Global, lines: Vec<Text>, failing: u64) -> Result<Vec<Inlet>, NoMemory> {
-    let object = Box::new(alloc, Lines::new(alloc, lines, failing))?;
+fn stream(alloc: Global, lines: Vec<Text>, failing: u64) -> Result<Vec<Inlet<Lines>>, NoMemory> {
+    let object = Lines::new(alloc, lines, failing);
     let name = Text::of_str(alloc, "stream")?;
     Ok(vec![in alloc; Inlet { name, object }]?)
 }

@@ -1,17 +1,13 @@
-ghost use Rattle.std.specs.Prelude.{◌≡◌, true, IsErrOf, None};
-ghost use Rattle.eip_frames.specs.Fits.{may_exist};
-
 use crate::given::{
-    CHECK, DRAIN, Failing, SOUND, comes_at_fault_to, comes_to, given_with, is_stepped, repeated,
-    reported, route_of,
+    CHECK, DRAIN, Failing, SOUND, comes_at_fault_to, comes_to, given_with, is_stepped, reported,
+    route_of,
 };
-use eip_endpoint::{Call, Endpoint, Lane, MemoryLane, Outcome, SendFault};
-use eip_exchange::Message;
-use eip_frames::{Answer, Target};
+use eip_endpoint::{Call, Lane, MemoryLane, Outcome};
+use eip_frames::Answer;
 use eip_ledger::{Entry, Kind};
-use eip_text::{NoMemory, Text, decimal};
+use eip_test_support::repeated;
+use eip_text::{NoMemory, decimal};
 use std::alloc::Global;
-use std::sync::{Arc, Mutex};
 use std::test::Fail;
 
 /// Steps to a log and to two lanes.
@@ -139,40 +135,6 @@ fn a_sink_that_fails_is_the_outcome_of_a_drained_run_and_leaves_its_journal(
 const SENT: &str =
     "[{\"from\":{\"uri\":\"stream:in\",\"steps\":[{\"to\":\"lane:x\"},{\"to\":\"log:o\"}]}}]";
 
-/// A lane that a test shares with a run, so that its calls can be looked at behind the run. It tells none to the run.
-#[derive(Drop)]
-struct SharedLane {
-    lane: Arc<Mutex<MemoryLane>>,
-    faults: u64,
-}
-
-impl SharedLane {
-    /// What the shared lane answers; a lane that somebody else holds has failed.
-    fn answer(&mut self, target: &Target, message: &Message) -> Result<(), SendFault>
-        ensures exists { IsErrOf result SendFault.Exists → may_exist target.now ≡ true }
-        ensures faults { self.new.faults ≡ self.old.faults }
-    {
-        match self.lane.try_lock() {
-            Some(mut lane) => lane.send(target, message),
-            None => Err(SendFault::Failed),
-        }
-    }
-}
-
-impl Endpoint for SharedLane {
-    ghost calls = { λ _. None };
-
-    ghost lane_faults = { λ l. l.faults };
-
-    fn send(&mut self, target: &Target, message: &Message) -> Result<(), SendFault> {
-        let answer = self.answer(target, message);
-        if answer == Err(SendFault::Failed) {
-            self.faults = self.faults.saturating_add(1);
-        }
-        answer
-    }
-}
-
 /// Whether a lane's calls came out as done and then as failed.
 fn are_done_and_failed(calls: &[Call]) -> bool {
     match calls {
@@ -181,31 +143,23 @@ fn are_done_and_failed(calls: &[Call]) -> bool {
     }
 }
 
-/// The lane `x`, which fails its second call.
-fn second_failing(alloc: Global) -> Result<Arc<Mutex<MemoryLane>>, NoMemory> {
-    let lane = MemoryLane::new(alloc, vec![in alloc; 2]?);
-    Ok(Arc::new(alloc, Mutex::new(lane))?)
-}
-
-/// This lane alone, as the lane `x`.
-fn lane_x(alloc: Global, lane: Arc<Mutex<MemoryLane>>) -> Result<Vec<Lane>, NoMemory> {
-    let object = Box::new(alloc, SharedLane { lane, faults: 0 })?;
-    let name = Text::of_str(alloc, "lane:x")?;
-    Ok(vec![in alloc; Lane { name, object }]?)
+/// Whether the last lane's calls came out as done and then as failed.
+fn has_failed_second(lanes: &[Lane<MemoryLane>]) -> bool {
+    match lanes.last() {
+        Some(lane) => are_done_and_failed(lane.object.calls()),
+        None => false,
+    }
 }
 
 /// Whether two lines through the lane `x`, which fails its second call, and then a log come to this text, and the lane's
 /// calls came out as done and then as failed.
 fn is_sent_and_failed(alloc: Global, text: &str) -> Result<[bool; 2], NoMemory> {
-    let shared = second_failing(alloc)?;
-    let lanes = lane_x(alloc, shared.clone()?)?;
     let mut given = given_with(alloc, &DRAIN, SENT, &["a", "b"], SOUND)?;
-    given.lanes = lanes;
     let status = reported(alloc, &mut given).status;
-    let told = shared
-        .try_lock()
-        .is_some_and(|lane| are_done_and_failed(lane.calls()));
-    Ok([status == 0 && given.out.bytes() == text.as_bytes(), told])
+    Ok([
+        status == 0 && given.out.bytes() == text.as_bytes(),
+        has_failed_second(&given.lanes),
+    ])
 }
 
 #[test]

@@ -1,5 +1,6 @@
-use crate::given::{CHECK, DRAIN, comes_to, is_stepped, joined, repeated, route_of};
+use crate::given::{CHECK, DRAIN, comes_to, is_stepped, route_of};
 use crate::runs::{COMPLETED, FAILED};
+use eip_test_support::{joined, repeated};
 use eip_text::{NoMemory, decimal};
 use std::alloc::Global;
 use std::test::Fail;

@@ -62,6 +62,49 @@ fn pattern_at<'t, P: Patterns>(
     }
 }
 
+/// Lets a side go that is no part of a test, since the reading stopped.
+fn stopped(side: Side, stop: Stop) -> Stop
+    ensures { result ≡ stop }
+{
+    drop(side);
+    stop
+}
+
+/// The test that this side, this operator and what stands behind them are, and what stands behind it and its spaces.
+#[tactic(auto, unfolding(crate::specs::Reading::operated))]
+fn operated<'t, P: Patterns>(
+    alloc: Global,
+    left: Side,
+    operator: Operator,
+    text: &'t str,
+    patterns: &mut P,
+) -> Result<(Test, &'t str), Stop>
+    ensures reads { GivesAt (λ x. (x.0, x.1.now)) result (λ refused. spec.operated refused left text.now operator) }
+    ensures later { IfOk result (λ x. (least : ℕ) → least ≤ length x.1.now → spec.operated (Some least) left text.now operator ≡ Ok (x.0, x.1.now)) }
+    ensures shorter { IfOk result (λ x. length x.1.now < length text.now) }
+    ensures within { StopsWithin (length text.now) result }
+    ensures grammar { IfOk result (λ x. HasGoodPattern x.0) }
+    ensures cause { Rises (stop_failures result) (P.pattern_faults patterns.old) (P.pattern_faults patterns.new) }
+{
+    match operator {
+        Operator::Compares(op) => {
+            let (right, end) = side_at(alloc, text)?;
+            let rest = gap(end)?;
+            Ok((Test::Compare { left, op, right }, rest))
+        }
+        Operator::Matches { negated } => {
+            let (pattern, end) = pattern_at(alloc, text, patterns)?;
+            let rest = gap(end)?;
+            let test = Test::Matches {
+                left,
+                pattern,
+                negated,
+            };
+            Ok((test, rest))
+        }
+    }
+}
+
 /// The test that stands in front, and what stands behind it and its spaces.
 #[tactic(auto, unfolding(crate::specs::Reading::test_at))]
 pub fn test_at<'t, P: Patterns>(
@@ -77,26 +120,15 @@ pub fn test_at<'t, P: Patterns>(
     ensures cause { Rises (stop_failures result) (P.pattern_faults patterns.old) (P.pattern_faults patterns.new) }
 {
     let (left, after) = side_at(alloc, text)?;
-    let rest = gap(after)?;
+    let rest = match gap(after) {
+        Ok(rest) => rest,
+        Err(stop) => return Err(stopped(left, stop)),
+    };
     let Some((operator, more)) = operator_at(rest) else {
         return Ok((Test::Single(left), rest));
     };
-    let next = spaced(more)?;
-    match operator {
-        Operator::Compares(op) => {
-            let (right, end) = side_at(alloc, next)?;
-            let rest = gap(end)?;
-            Ok((Test::Compare { left, op, right }, rest))
-        }
-        Operator::Matches { negated } => {
-            let (pattern, end) = pattern_at(alloc, next, patterns)?;
-            let rest = gap(end)?;
-            let test = Test::Matches {
-                left,
-                pattern,
-                negated,
-            };
-            Ok((test, rest))
-        }
+    match spaced(more) {
+        Ok(next) => operated(alloc, left, operator, next, patterns),
+        Err(stop) => Err(stopped(left, stop)),
     }
 }

@@ -14,10 +14,11 @@ use Rattle.eip_ledger.specs.declared.entry.Kind.TheVariants.{Answer}
 use Rattle.eip_ledger.specs.declared.place.Place.TheVariants as place_is
 use Rattle.eip_history.specs.Own.{Past, own}
 use Rattle.eip_history.specs.Births.{births, item_birth}
-use Rattle.eip_history.specs.Place.{place}
+use Rattle.eip_history.specs.Place.{place, end_of}
 use Rattle.eip_history.proofs.Lists.{numbered-at}
 use Rattle.eip_history.proofs.Told.{births-numbered}
 use Rattle.eip_plan.specs.Plan.{plan_of}
+use Rattle.eip_plan.proofs.Laws.{plan-laws}
 use Rattle.eip_meaning.specs.Meaning.{mean}
 use Rattle.eip_progress.specs.declared.cursor.Cursor.{Cursor}
 use Rattle.eip_progress.specs.Rest.{rest}
@@ -63,6 +64,11 @@ answered-row set past b r i g h = answered-fields i r.cursor r.request r.fault s
 new-row : (set : RouteSet) (past : Past) (b : Birth) (r : Row) → r.stage ≡ stage.New → RowStands set past b r → own b.number past ≡ []
 new-row set past b r g h = rw g at h.stands
 
+-- before its first request no exchange has ended
+pub lives-first : (set : RouteSet) (b : Birth) → end_of (mean set b []) ≡ None
+unfolding plan_of
+lives-first set b = (plan-laws set).starts b
+
 -- a ready row is new, asks, or has an answer to come
 module _ {routes : RouteSet} {workers limit : ℕ} {past : Past} (t : Tables) (x : ℕ) (r : Row) (st : Stands routes workers limit past t)
     (ready : place (plan_of routes) past x ≡ Some place_is.Ready) (row : slice_get t.rows (x - 1) ≡ Some r) where
@@ -74,6 +80,15 @@ module _ {routes : RouteSet} {workers limit : ℕ} {past : Past} (t : Tables) (x
 
   pub born-within : r.born < length (reverse past)
   born-within = entry-within past r.born _ here.stands.born.entry
+
+  -- the birth of the exchange is the one that its entry makes
+  pub born-birth : (b : Birth) × (birth_in routes x (slice_get (reverse past) r.born) ≡ Some b)
+  born-birth =
+      let h = here.stands.born in (
+        here.birth,
+        ap (birth_in routes x) (entry-there past r.born _ h.entry)
+            ∙ ap Some (sym (h.birth ∙ ap (λ (n : ℕ). item_birth (plan_of routes) n h.source h.item h.message) here.number)),
+      )
 
   pub answer-within : (i : ℕ) → r.stage ≡ stage.Answered i → i < length (reverse past)
   answer-within i g = let h = answered-row routes past here.birth r i g here.stands in entry-within past i _ h.1.1.entry

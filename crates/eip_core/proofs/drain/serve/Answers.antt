@@ -1,104 +1,76 @@
-use Rattle.std.proofs.Common.{refl, map, Ok, Err}
+use Rattle.std.proofs.Common.{refl, Ok, Err}
 use Rattle.eip_frames.specs.declared.answer.Answer.TheVariants as reply
 use Rattle.eip_endpoint.specs.declared.endpoint.SendFault.TheVariants as fault
-use Rattle.eip_core.proofs.Acts.{Rests, rests-below}
+use Rattle.eip_endpoint.specs.Lanes.{lane_names}
+use Rattle.eip_core.proofs.Acts.{rests-below}
 use Rattle.eip_core.proofs.Sends.{fits-done, fits-failed}
-use Rattle.eip_core.proofs.Serving.{taken, taken-sendable, seen-lanes, grew-none, drains-sent, acts-answered, drains-given_up, acts-given_up}
+use Rattle.eip_core.proofs.Serving.{taken, taken-sendable, grew-none, drains-sent, acts-answered, drains-given_up, acts-given_up}
 use Rattle.eip_core.proofs.drain.serve.Goals as goal
 
 pub unreachable-requires : goal.unreachable-requires
 unreachable-requires g c =
-    let r : Rests c.args.hub.now = record { legal = c.requires.legal; home = c.requires.home; waits = c.requires.waits } in
-    let none = c.in_default.ensures.exact (rests-below c.args.hub.now r) in
+    let none = c.in_default.ensures.exact (rests-below c.args.hub.now c.requires.chosen.rests) in
     let known = rw none at c.requires.known in
     cc known
 
 pub send-requires : goal.send-requires
 send-requires g c =
-    let r : Rests c.args.hub.now = record { legal = c.requires.legal; home = c.requires.home; waits = c.requires.waits } in
-    let t = taken c.args.hub.now c.take.new.self c.args.number c.in-Some.ticket.number c.in-Some.ticket.request r c.requires.least c.requires.known c.in-Some.ensures.may.0
-    c.in-Some.ensures.least c.in-Some.ensures.adds c.in-Some.ensures.place c.in-Some.ensures.asked c.take.ensures.legal in
-    let names = map (λ x. x.name) c.args.lanes.now in
-    let sendable = taken-sendable names t c.requires.can_run.has_lanes c.requires.can_run.tells_none c.in-Some.ensures.of_outside in
+    let t = taken c.requires.chosen c.requires.known c.in-Some.ensures.may.0 c.in-Some.ensures.least c.in-Some.ensures.adds c.in-Some.ensures.place c.in-Some.ensures.asked c.take.ensures.legal in
+    let sendable = taken-sendable (lane_names (g.L.Lanes.views c.args.lanes.now)) t c.requires.can_run.has_lanes c.requires.can_run.tells_none c.in-Some.ensures.of_outside in
     sendable
 
 pub settle-requires-clause-fits : goal.settle-requires-clause-fits
 settle-requires-clause-fits g c =
-    let r : Rests c.args.hub.now = record { legal = c.requires.legal; home = c.requires.home; waits = c.requires.waits } in
-    let t = taken c.args.hub.now c.take.new.self c.args.number c.in-Some.ticket.number c.in-Some.ticket.request r c.requires.least c.requires.known c.in-Some.ensures.may.0
-    c.in-Some.ensures.least c.in-Some.ensures.adds c.in-Some.ensures.place c.in-Some.ensures.asked c.take.ensures.legal in
-    let names = map (λ x. x.name) c.args.lanes.now in
-    let sendable = taken-sendable names t c.requires.can_run.has_lanes c.requires.can_run.tells_none c.in-Some.ensures.of_outside in
-    fits-done names c.in-Some.ticket.request sendable
+    let t = taken c.requires.chosen c.requires.known c.in-Some.ensures.may.0 c.in-Some.ensures.least c.in-Some.ensures.adds c.in-Some.ensures.place c.in-Some.ensures.asked c.take.ensures.legal in
+    let sendable = taken-sendable (lane_names (g.L.Lanes.views c.args.lanes.now)) t c.requires.can_run.has_lanes c.requires.can_run.tells_none c.in-Some.ensures.of_outside in
+    fits-done _ c.in-Some.ticket.request sendable
 
 pub settle-requires-in-Err-Failed-clause-fits : goal.settle-requires-in-Err-Failed-clause-fits
 settle-requires-in-Err-Failed-clause-fits g c =
-    let r : Rests c.args.hub.now = record { legal = c.requires.legal; home = c.requires.home; waits = c.requires.waits } in
-    let t = taken c.args.hub.now c.take.new.self c.args.number c.in-Some.ticket.number c.in-Some.ticket.request r c.requires.least c.requires.known c.in-Some.ensures.may.0
-    c.in-Some.ensures.least c.in-Some.ensures.adds c.in-Some.ensures.place c.in-Some.ensures.asked c.take.ensures.legal in
-    let names = map (λ x. x.name) c.args.lanes.now in
-    let sendable = taken-sendable names t c.requires.can_run.has_lanes c.requires.can_run.tells_none c.in-Some.ensures.of_outside in
-    fits-failed names c.in-Some.ticket.request sendable
+    let t = taken c.requires.chosen c.requires.known c.in-Some.ensures.may.0 c.in-Some.ensures.least c.in-Some.ensures.adds c.in-Some.ensures.place c.in-Some.ensures.asked c.take.ensures.legal in
+    let sendable = taken-sendable (lane_names (g.L.Lanes.views c.args.lanes.now)) t c.requires.can_run.has_lanes c.requires.can_run.tells_none c.in-Some.ensures.of_outside in
+    fits-failed _ c.in-Some.ticket.request sendable
 
 pub returns-in-Ok-clause-drains : goal.returns-in-Ok-clause-drains
 returns-in-Ok-clause-drains g c =
-    let r : Rests c.args.hub.now = record { legal = c.requires.legal; home = c.requires.home; waits = c.requires.waits } in
-    let t = taken c.args.hub.now c.take.new.self c.args.number c.in-Some.ticket.number c.in-Some.ticket.request r c.requires.least c.requires.known c.in-Some.ensures.may.0
-    c.in-Some.ensures.least c.in-Some.ensures.adds c.in-Some.ensures.place c.in-Some.ensures.asked c.take.ensures.legal in
-    let names = map (λ x. x.name) c.args.lanes.now in
-    let sendable = taken-sendable names t c.requires.can_run.has_lanes c.requires.can_run.tells_none c.in-Some.ensures.of_outside in
-    drains-sent names reply.Done (Ok c.in-Ok.field-0) _ _ _ t (rw c.in-Some.ensures.worker at c.settle.ensures.adds) sendable (λ h. cc h) refl (seen-lanes _ _ c.args.lanes.now (λ x. refl)) c.in-Ok.ensures.grew
+    let t = taken c.requires.chosen c.requires.known c.in-Some.ensures.may.0 c.in-Some.ensures.least c.in-Some.ensures.adds c.in-Some.ensures.place c.in-Some.ensures.asked c.take.ensures.legal in
+    let sendable = taken-sendable (lane_names (g.L.Lanes.views c.args.lanes.now)) t c.requires.can_run.has_lanes c.requires.can_run.tells_none c.in-Some.ensures.of_outside in
+    drains-sent reply.Done (Ok c.in-Ok.field-0) _ _ _ t (rw c.in-Some.ensures.worker at c.settle.ensures.adds) sendable (λ h. cc h) refl c.in-Ok.ensures.grew
 
 pub returns-in-Ok-clause-acts : goal.returns-in-Ok-clause-acts
 returns-in-Ok-clause-acts g c =
-    let r : Rests c.args.hub.now = record { legal = c.requires.legal; home = c.requires.home; waits = c.requires.waits } in
-    let t = taken c.args.hub.now c.take.new.self c.args.number c.in-Some.ticket.number c.in-Some.ticket.request r c.requires.least c.requires.known c.in-Some.ensures.may.0
-    c.in-Some.ensures.least c.in-Some.ensures.adds c.in-Some.ensures.place c.in-Some.ensures.asked c.take.ensures.legal in
+    let t = taken c.requires.chosen c.requires.known c.in-Some.ensures.may.0 c.in-Some.ensures.least c.in-Some.ensures.adds c.in-Some.ensures.place c.in-Some.ensures.asked c.take.ensures.legal in
     acts-answered reply.Done t (rw c.in-Some.ensures.worker at c.settle.ensures.adds) c.settle.ensures.legal
 
 pub returns-in-Err-Failed-clause-drains : goal.returns-in-Err-Failed-clause-drains
 returns-in-Err-Failed-clause-drains g c =
-    let r : Rests c.args.hub.now = record { legal = c.requires.legal; home = c.requires.home; waits = c.requires.waits } in
-    let t = taken c.args.hub.now c.take.new.self c.args.number c.in-Some.ticket.number c.in-Some.ticket.request r c.requires.least c.requires.known c.in-Some.ensures.may.0
-    c.in-Some.ensures.least c.in-Some.ensures.adds c.in-Some.ensures.place c.in-Some.ensures.asked c.take.ensures.legal in
-    let names = map (λ x. x.name) c.args.lanes.now in
-    let sendable = taken-sendable names t c.requires.can_run.has_lanes c.requires.can_run.tells_none c.in-Some.ensures.of_outside in
-    drains-sent names reply.SendFailed (Err fault.Failed) _ _ _ t (rw c.in-Some.ensures.worker at c.settle-in-Err-Failed.ensures.adds) sendable (λ h. cc h) refl (seen-lanes _ _ c.args.lanes.now (λ x. refl)) (rw c.in-Err-Failed.field-0-is at c.in-Err-Failed.ensures.grew)
+    let t = taken c.requires.chosen c.requires.known c.in-Some.ensures.may.0 c.in-Some.ensures.least c.in-Some.ensures.adds c.in-Some.ensures.place c.in-Some.ensures.asked c.take.ensures.legal in
+    let sendable = taken-sendable (lane_names (g.L.Lanes.views c.args.lanes.now)) t c.requires.can_run.has_lanes c.requires.can_run.tells_none c.in-Some.ensures.of_outside in
+    drains-sent reply.SendFailed (Err fault.Failed) _ _ _ t (rw c.in-Some.ensures.worker at c.settle-in-Err-Failed.ensures.adds) sendable (λ h. cc h) refl (rw c.in-Err-Failed.field-0-is at c.in-Err-Failed.ensures.grew)
 
 pub returns-in-Err-Failed-clause-acts : goal.returns-in-Err-Failed-clause-acts
 returns-in-Err-Failed-clause-acts g c =
-    let r : Rests c.args.hub.now = record { legal = c.requires.legal; home = c.requires.home; waits = c.requires.waits } in
-    let t = taken c.args.hub.now c.take.new.self c.args.number c.in-Some.ticket.number c.in-Some.ticket.request r c.requires.least c.requires.known c.in-Some.ensures.may.0
-    c.in-Some.ensures.least c.in-Some.ensures.adds c.in-Some.ensures.place c.in-Some.ensures.asked c.take.ensures.legal in
+    let t = taken c.requires.chosen c.requires.known c.in-Some.ensures.may.0 c.in-Some.ensures.least c.in-Some.ensures.adds c.in-Some.ensures.place c.in-Some.ensures.asked c.take.ensures.legal in
     acts-answered reply.SendFailed t (rw c.in-Some.ensures.worker at c.settle-in-Err-Failed.ensures.adds) c.settle-in-Err-Failed.ensures.legal
 
 pub returns-in-Err-Exists-clause-drains : goal.returns-in-Err-Exists-clause-drains
 returns-in-Err-Exists-clause-drains g c =
-    let r : Rests c.args.hub.now = record { legal = c.requires.legal; home = c.requires.home; waits = c.requires.waits } in
-    let t = taken c.args.hub.now c.take.new.self c.args.number c.in-Some.ticket.number c.in-Some.ticket.request r c.requires.least c.requires.known c.in-Some.ensures.may.0
-    c.in-Some.ensures.least c.in-Some.ensures.adds c.in-Some.ensures.place c.in-Some.ensures.asked c.take.ensures.legal in
-    let names = map (λ x. x.name) c.args.lanes.now in
-    let sendable = taken-sendable names t c.requires.can_run.has_lanes c.requires.can_run.tells_none c.in-Some.ensures.of_outside in
-    drains-sent names reply.Exists (Err fault.Exists) _ _ _ t (rw c.in-Some.ensures.worker at c.settle-in-Err-Exists.ensures.adds) sendable (λ h. cc h) refl (seen-lanes _ _ c.args.lanes.now (λ x. refl)) (rw c.in-Err-Exists.field-0-is at c.in-Err-Exists.ensures.grew)
+    let t = taken c.requires.chosen c.requires.known c.in-Some.ensures.may.0 c.in-Some.ensures.least c.in-Some.ensures.adds c.in-Some.ensures.place c.in-Some.ensures.asked c.take.ensures.legal in
+    let sendable = taken-sendable (lane_names (g.L.Lanes.views c.args.lanes.now)) t c.requires.can_run.has_lanes c.requires.can_run.tells_none c.in-Some.ensures.of_outside in
+    drains-sent reply.Exists (Err fault.Exists) _ _ _ t (rw c.in-Some.ensures.worker at c.settle-in-Err-Exists.ensures.adds) sendable (λ h. cc h) refl (rw c.in-Err-Exists.field-0-is at c.in-Err-Exists.ensures.grew)
 
 pub returns-in-Err-Exists-clause-acts : goal.returns-in-Err-Exists-clause-acts
 returns-in-Err-Exists-clause-acts g c =
-    let r : Rests c.args.hub.now = record { legal = c.requires.legal; home = c.requires.home; waits = c.requires.waits } in
-    let t = taken c.args.hub.now c.take.new.self c.args.number c.in-Some.ticket.number c.in-Some.ticket.request r c.requires.least c.requires.known c.in-Some.ensures.may.0
-    c.in-Some.ensures.least c.in-Some.ensures.adds c.in-Some.ensures.place c.in-Some.ensures.asked c.take.ensures.legal in
+    let t = taken c.requires.chosen c.requires.known c.in-Some.ensures.may.0 c.in-Some.ensures.least c.in-Some.ensures.adds c.in-Some.ensures.place c.in-Some.ensures.asked c.take.ensures.legal in
     acts-answered reply.Exists t (rw c.in-Some.ensures.worker at c.settle-in-Err-Exists.ensures.adds) c.settle-in-Err-Exists.ensures.legal
 
 pub returns-in-Err-NoMemory-clause-drains : goal.returns-in-Err-NoMemory-clause-drains
 returns-in-Err-NoMemory-clause-drains g c =
-    let r : Rests c.args.hub.now = record { legal = c.requires.legal; home = c.requires.home; waits = c.requires.waits } in
-    let t = taken c.args.hub.now c.take.new.self c.args.number c.in-Some.ticket.number c.in-Some.ticket.request r c.requires.least c.requires.known c.in-Some.ensures.may.0
-    c.in-Some.ensures.least c.in-Some.ensures.adds c.in-Some.ensures.place c.in-Some.ensures.asked c.take.ensures.legal in
+    let t = taken c.requires.chosen c.requires.known c.in-Some.ensures.may.0 c.in-Some.ensures.least c.in-Some.ensures.adds c.in-Some.ensures.place c.in-Some.ensures.asked c.take.ensures.legal in
     drains-given_up _ _ _ t (rw c.in-Some.ensures.worker at c.give_up.ensures.adds)
-    (grew-none (map (λ x. x.name) c.args.lanes.now) c.in-Some.ticket.request _ _ (rw c.in-Err-NoMemory.field-0-is at c.in-Err-NoMemory.ensures.grew))
+    (grew-none _ c.in-Some.ticket.request _ _ (rw c.in-Err-NoMemory.field-0-is at c.in-Err-NoMemory.ensures.grew))
 
 pub returns-in-Err-NoMemory-clause-acts : goal.returns-in-Err-NoMemory-clause-acts
 returns-in-Err-NoMemory-clause-acts g c =
-    let r : Rests c.args.hub.now = record { legal = c.requires.legal; home = c.requires.home; waits = c.requires.waits } in
-    let t = taken c.args.hub.now c.take.new.self c.args.number c.in-Some.ticket.number c.in-Some.ticket.request r c.requires.least c.requires.known c.in-Some.ensures.may.0
-    c.in-Some.ensures.least c.in-Some.ensures.adds c.in-Some.ensures.place c.in-Some.ensures.asked c.take.ensures.legal in
+    let t = taken c.requires.chosen c.requires.known c.in-Some.ensures.may.0 c.in-Some.ensures.least c.in-Some.ensures.adds c.in-Some.ensures.place c.in-Some.ensures.asked c.take.ensures.legal in
     acts-given_up t (rw c.in-Some.ensures.worker at c.give_up.ensures.adds) c.give_up.ensures.legal

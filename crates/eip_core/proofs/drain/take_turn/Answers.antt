@@ -1,6 +1,4 @@
 use Rattle.std.proofs.Common.{refl, sym, arith}
-use Rattle.eip_core.proofs.Acts.{seen-names}
-use Rattle.eip_core.proofs.Serving.{seen-lanes}
 use Rattle.eip_core.proofs.Compose.{drains-refl, drains-trans}
 use Rattle.eip_core.proofs.Turns.{still-runs}
 use Rattle.eip_core.proofs.drain.take_turn.Goals as goal
@@ -10,8 +8,7 @@ loop-stop-init g c = record { home = c.requires.home; turns_same = sym c.turns_t
 
 pub act-requires-clause-can_run : goal.act-requires-clause-can_run
 act-requires-clause-can_run g c =
-    still-runs _ _ _ _ (seen-lanes _ _ c.args.lanes.now (λ x. refl)) (seen-lanes _ _ c.loop-stop.lanes (λ x. refl))
-    (seen-names _ _ c.args.inlets.now (λ x. refl)) (seen-names _ _ c.loop-stop.inlets (λ x. refl)) c.loop-stop.invariant.drains c.requires.can_run
+    still-runs c.loop-stop.invariant.drains c.requires.can_run
 
 pub returns-in_err-act-clause-drains : goal.returns-in_err-act-clause-drains
 returns-in_err-act-clause-drains g c = drains-trans c.loop-stop.invariant.drains c.act.ensures.drains

@@ -1,6 +1,4 @@
-use Rattle.std.proofs.Common.{◌≡◌, map}
-use Rattle.eip_endpoint.specs.Lanes.{seen_lane}
-use Rattle.eip_endpoint.specs.Inlets.{seen_inlet}
+use Rattle.std.proofs.Common.{◌≡◌}
 use Rattle.eip_history.specs.Own.{turns}
 use Rattle.eip_history.specs.Place.{hands}
 use Rattle.eip_history.specs.Work.{work}
@@ -10,12 +8,10 @@ use Rattle.eip_core.proofs.drain.take_turn.Given as goal
 
 abbrev pub invariant-loop-stop : goal.invariant-loop-stop
 invariant-loop-stop g l =
-    let lanes = map (seen_lane (λ b. (goal.Endpoint-dyn g (b.vtable, b.value)).calls b.value) (λ b. (goal.Endpoint-dyn g (b.vtable, b.value)).lane_faults b.value)) in
-    let inlets = map (seen_inlet (λ b. (goal.Source-dyn g (b.vtable, b.value)).given b.value) (λ b. (goal.Source-dyn g (b.vtable, b.value)).left b.value) (λ b. (goal.Source-dyn g (b.vtable, b.value)).commits b.value) (λ b. (goal.Source-dyn g (b.vtable, b.value)).inlet_faults b.value)) in
     record {
       home : hands (plan l.hub) l.hub.journal.past ≡ 0;
       turns_same : turns l.hub.journal.past ≡ l.before;
-      drains : Drains l.initial.hub l.hub (lanes l.initial.lanes) (lanes l.lanes) (inlets l.initial.inlets) (inlets l.inlets);
+      drains : Drains l.initial.hub l.hub (g.L.Lanes.views l.initial.lanes) (g.L.Lanes.views l.lanes) (g.I.Inlets.views l.initial.inlets) (g.I.Inlets.views l.inlets);
     }
 
 abbrev pub decreases-loop-stop : goal.decreases-loop-stop

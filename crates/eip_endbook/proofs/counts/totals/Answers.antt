@@ -1,8 +1,8 @@
-use Rattle.std.proofs.Common.{◌∙◌}
+use Rattle.std.proofs.Common.{◌∙◌, arith}
 use Rattle.std.proofs.lemmas.List.{reverse-reverse}
 use Rattle.eip_history.specs.Texts.{is_completed, is_handled}
 use Rattle.eip_history.specs.Counts.{is_failed, is_waiting}
-use Rattle.eip_history.proofs.Totals.{count-first-all}
+use Rattle.eip_history.proofs.Totals.{count-first-all, totals-add-up}
 use Rattle.eip_books.specs.View.{plan}
 use Rattle.eip_endbook.proofs.counts.totals.Goals as goal
 
@@ -23,3 +23,13 @@ returns-clause-failed c = c.count_ends-ends.ensures.failed ∙ count-first-all (
 
 pub returns-clause-waiting : goal.returns-clause-waiting
 returns-clause-waiting c = c.count_ends-ends.ensures.waiting ∙ count-first-all (plan c.args.hub.now) c.args.hub.now.journal.past is_waiting
+
+pub returns-clause-sum : goal.returns-clause-sum
+returns-clause-sum c =
+    let completed = returns-clause-completed c in
+    let handled = returns-clause-handled c in
+    let failed = returns-clause-failed c in
+    let waiting = returns-clause-waiting c in
+    let total = c.total.ensures in
+    let all = totals-add-up (plan c.args.hub.now) c.args.hub.now.journal.past in
+    omega (arith, completed, handled, failed, waiting, total, all)

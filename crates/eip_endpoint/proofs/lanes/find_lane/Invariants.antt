@@ -1,9 +1,9 @@
-use Rattle.std.proofs.Common.{◌≡◌, map, drop}
+use Rattle.std.proofs.Common.{◌≡◌, drop}
 use Rattle.std.specs.Str.{bytes_eq}
 use Rattle.std.specs.List.{position_from}
-use Rattle.eip_endpoint.specs.Lanes.{first_named}
+use Rattle.eip_endpoint.specs.Lanes.{first_named, lane_names}
 use Rattle.eip_endpoint.proofs.lanes.find_lane.Given as goal
 
 abbrev pub invariant-loop-index : goal.invariant-loop-index
 invariant-loop-index g l =
-    first_named l.name (map (λ x. x.name) l.lanes) ≡ position_from (λ m. bytes_eq m l.name) l.index (map (λ x. x.name) (drop l.index l.lanes))
+    first_named l.name (lane_names (g.L.Lanes.views l.lanes)) ≡ position_from (λ m. bytes_eq m l.name) l.index (drop l.index (lane_names (g.L.Lanes.views l.lanes)))

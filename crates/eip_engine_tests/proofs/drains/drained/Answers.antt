@@ -7,4 +7,4 @@ drain_alone-stop-requires-clause-home c = none-out c.args.hub.now c.requires.pas
 
 pub drain_alone-stop-requires-clause-can_run : goal.drain_alone-stop-requires-clause-can_run
 drain_alone-stop-requires-clause-can_run c =
-    rw (c.requires.set, c.deref_mut.ensures.value, c.new-lanes.ensures.items, c.deref_mut-2.ensures.value, c.in_ok-inlets.ensures) logging-runs
+    rw (c.requires.set, c.new-lanes.ensures.items, c.in_ok-inlets.ensures) logging-runs

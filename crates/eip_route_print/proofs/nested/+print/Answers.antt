@@ -1,11 +1,11 @@
 use Rattle.std.proofs.Common.{arith, refl, ap, ◌∙◌}
 use Rattle.std.proofs.lemmas.Grind.{common_steps}
 use Rattle.eip_route_print.proofs.Loops.{pushed, all_pushed, none_pushed}
-use Rattle.eip_route_print.proofs.Objects.{list_tree}
+use Rattle.eip_route_canonical.proofs.Objects.{list_tree}
 use Rattle.eip_route_print.proofs.Opened.{block_beyond, seen_before}
-use Rattle.eip_route_print.specs.Canonical.{list_of}
+use Rattle.eip_route_canonical.specs.Canonical.{list_of}
 use Rattle.eip_route_print.specs.Seen.{step_in, steps_in, case_in, cases_in, branches_in}
-use Rattle.eip_route_print.specs.Trees.{values_of}
+use Rattle.eip_route_canonical.specs.Trees.{values_of}
 use Rattle.eip_route_print.proofs.nested.+print.Goals as goal
 
 pub push_block-returns-else-number-blocks : goal.push_block-returns-else-number-blocks

@@ -1,6 +1,6 @@
 use Rattle.std.proofs.Common.{◌≡◌, ◌++◌, length, ◌+◌, ◌-◌, ◌*◌, drop}
 use Rattle.eip_route_print.specs.Seen.{steps_in, cases_in, branches_in}
-use Rattle.eip_route_print.specs.Trees.{values_of}
+use Rattle.eip_route_canonical.specs.Trees.{values_of}
 use Rattle.eip_route_print.proofs.nested.+print.Given as goal
 
 -- the blocks from this one on, and how far inside it a function stands

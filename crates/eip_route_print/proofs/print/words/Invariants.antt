@@ -1,6 +1,6 @@
 use Rattle.std.proofs.Common.{◌≡◌, ◌++◌, drop}
-use Rattle.eip_route_print.specs.Canonical.{words}
-use Rattle.eip_route_print.specs.Trees.{values_of}
+use Rattle.eip_route_canonical.specs.Canonical.{words}
+use Rattle.eip_route_canonical.specs.Trees.{values_of}
 use Rattle.eip_route_print.proofs.print.words.Given as goal
 
 abbrev pub invariant-loop-text : goal.invariant-loop-text

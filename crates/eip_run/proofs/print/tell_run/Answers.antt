@@ -10,4 +10,4 @@ pub returns-in-Ok : goal.returns-in-Ok
 returns-in-Ok g c = told-run _ _ _ _ _ _ _ refl (OfStop c.args.stop c.in_default.not-NoMemory) (c.as_str.ensures.value ∙ c.in-Ok.ensures) c.tell.ensures
 
 pub returns-in-Err : goal.returns-in-Err
-returns-in-Err g c = told-run _ _ _ _ _ (codes "error memory\n") _ refl (OfNoText c.args.stop) refl c.tell_memory-in-Err.ensures
+returns-in-Err g c = told-run _ _ _ _ _ (codes "error memory\n") _ refl (OfNoText c.args.stop c.in_default.not-NoMemory) refl c.tell_memory-in-Err.ensures

@@ -1,0 +1,12 @@
+use Rattle.std.proofs.Common.{◌<◌, length, arith, sym, refl}
+use Rattle.std.proofs.lemmas.List.{length-map}
+use Rattle.eip_endpoint.specs.Inlets.{inlet_view}
+use Rattle.eip_endpoint.proofs.InletLaws.{InletsGrew-set, InletGrew-pulled}
+use Rattle.eip_endpoint.proofs.inlets.VecInletInlets.pull_at.Goals as goal
+
+pub returns-clause-grew : goal.returns-clause-grew
+returns-clause-grew g c =
+    let within : c.args.index < length c.args.self.now.items = rw length-map at c.requires in
+    InletsGrew-set (inlet_view g.S.Source) 0 c.args.index c.args.index _ _ c.args.self.now.items c.index_mut-inlet.result.now _ (omega arith) within
+    (rw (sym c.index_mut-inlet.ensures.value)
+    (InletGrew-pulled _ _ _ _ _ refl c.pull.ensures.given c.pull.ensures.left c.pull.ensures.commits c.pull.ensures.faults))

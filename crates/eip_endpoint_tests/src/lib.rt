@@ -1,0 +1,5 @@
+// Tests of the forms of lanes, sources, files and sinks in memory, through public calls.
+#![tactic(auto)]
+
+#[cfg(test)]
+mod memory_forms;

@@ -1,0 +1,5 @@
+use Rattle.eip_history.proofs.Keys.{one-holder}
+use Rattle.eip_history_laws.proofs.laws.holder_law.Goals as goal
+
+pub returns : goal.returns
+returns c = one-holder

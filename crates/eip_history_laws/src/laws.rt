@@ -1,0 +1,39 @@
+ghost use Rattle.eip_history_laws.specs.Statements.{SomebodyActs, TurnOrProgress, EndsOnce, OneHolder, EachArrivalOnce, TotalsAddUp, OwnersAreWorkers};
+
+/// No run gets stuck: where nobody holds anything and the run has no stop, there are turns left, and an exchange is Ready,
+/// or a queue or a source has something to give, or a moment is due, or groups are closed by force. So a request that
+/// the run answers itself is answered: its exchange is Ready. It does nothing.
+pub fn waiting_law()
+    ensures { SomebodyActs }
+{}
+
+/// Each legal entry is a turn or leaves less to do, but for one that hands an exchange back. It does nothing.
+pub fn progress_law()
+    ensures { TurnOrProgress }
+{}
+
+/// An exchange that has ended stays ended. It does nothing.
+pub fn ending_law()
+    ensures { EndsOnce }
+{}
+
+/// At most one exchange holds a key of a repository (Camel manual, *Idempotent Consumer EIP*). It does nothing.
+pub fn holder_law()
+    ensures { OneHolder }
+{}
+
+/// Each arrival of an aggregator and key stands in exactly one group (Camel manual, *Aggregate EIP*): the groups one behind
+/// the other are the arrivals in the journal's order. It does nothing.
+pub fn arrivals_law()
+    ensures { EachArrivalOnce }
+{}
+
+/// The totals of the book add up: each exchange is completed, handled, failed or waits. It does nothing.
+pub fn totals_law()
+    ensures { TotalsAddUp }
+{}
+
+/// The owner of a lane or an inlet is one of the workers. It does nothing.
+pub fn owner_law()
+    ensures { OwnersAreWorkers }
+{}

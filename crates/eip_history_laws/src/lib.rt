@@ -1,0 +1,8 @@
+// What is always true of a legal journal, as contracts of functions that do nothing.
+#![tactic(auto)]
+
+mod laws;
+
+pub use laws::{
+    arrivals_law, ending_law, holder_law, owner_law, progress_law, totals_law, waiting_law,
+};

@@ -1,0 +1,5 @@
+// Tests of what the program's host gives the engine: files, lines, the output and the words of the command.
+#![tactic(auto)]
+
+#[cfg(test)]
+mod host;

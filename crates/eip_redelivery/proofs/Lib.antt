@@ -1,0 +1,2 @@
+pub mod Sleepers
+mod Rows

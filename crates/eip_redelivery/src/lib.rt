@@ -1,0 +1,6 @@
+// The exchanges that sleep before their step is tried again.
+#![tactic(auto)]
+
+mod retries;
+
+pub use retries::Retries;

@@ -1,0 +1,3 @@
+pub mod Order
+pub mod Packing
+pub mod Unpacking

@@ -1,0 +1,4 @@
+pub mod Ends
+pub mod Faulty
+pub mod Listing
+mod Rows

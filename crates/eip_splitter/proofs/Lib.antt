@@ -1,0 +1,5 @@
+pub mod Elements
+pub mod Ends
+pub mod Faulty
+pub mod Numbering
+mod Rows

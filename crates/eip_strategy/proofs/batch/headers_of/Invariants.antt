@@ -1,0 +1,8 @@
+use Rattle.std.proofs.Common.{◌≡◌, ◌-◌, ◌++◌, drop, length, vec_len}
+use Rattle.eip_strategy.proofs.batch.headers_of.Given as goal
+
+abbrev pub invariant-loop-name : goal.invariant-loop-name
+invariant-loop-name l = l.pairs.items ++ drop (vec_len l.pairs) l.headers ≡ l.headers
+
+abbrev pub decreases-loop-name : goal.decreases-loop-name
+decreases-loop-name l = length l.headers - vec_len l.pairs

@@ -1,0 +1,6 @@
+pub mod Adding
+pub mod Answers
+pub mod Batches
+pub mod Folding
+pub mod Groups
+pub mod Growing

@@ -1,0 +1,12 @@
+// Aggregation strategies: how the messages of parts or arrivals become one.
+#![tactic(auto)]
+
+mod adding;
+mod batch;
+pub mod fault;
+mod growing;
+mod steps;
+
+pub use adding::{add, fold};
+pub use batch::add_packed;
+pub use fault::StrategyFault;
