@@ -1,5 +1,5 @@
 -- The folder and the name of the file that a path names.
-use Rattle.std.proofs.Common.{◌≡◌, ℕ, ◌<◌, Bool, true, false, cond, eqb, List, [], ◌∷◌, ◌++◌, length, get_or, inl, inr, Option, Some, None, MatchOption, refl, sym, ap, ◌∙◌, arith, codes, suc, take, drop, ◌+◌, ◌≤◌, subst, take-append-drop}
+use Rattle.std.proofs.Common.{◌≡◌, ℕ, ◌<◌, Bool, true, false, ◌&&◌, cond, eqb, List, [], ◌∷◌, ◌++◌, length, get_or, inl, inr, Option, Some, None, MatchOption, refl, sym, ap, ◌∙◌, arith, codes, suc, take, drop, ◌+◌, ◌≤◌, subst, take-append-drop}
 use denote.Ref.{Bor}
 use Rattle.std.proofs.lemmas.Bool.{ne_eqb, eqb-true, cond-true, cond-false}
 use Rattle.std.specs.Str.Pattern.{RFindsChar}
@@ -14,7 +14,9 @@ use Rattle.eip_text.proofs.Cutting.{guarded}
 use Rattle.eip_command.specs.declared.words.Command.{Command}
 use Rattle.eip_command.specs.declared.words.Command.TheVariants as command
 use Rattle.eip_command.specs.declared.words.Verb.TheVariants as verb
-use Rattle.eip_command.specs.Words.{is_path, on_path, command_of, IsOn, IsCommand, name_of, front_of, or_root, folder_of, file_at, IsAt, IsFile}
+use Rattle.eip_command.specs.Forms.{is_path, follow}
+use Rattle.eip_command.specs.declared.forms.Rule.TheVariants as rule
+use Rattle.eip_command.specs.Words.{command_by, first_file, command_of, IsOn, IsCommand, name_of, front_of, or_root, folder_of, file_at, IsAt, IsFile}
 
 -- ---- where the last `/` stands
 
@@ -117,23 +119,44 @@ file_is bs = record { at = at_by (holds_byte 47 bs) bs (front_of bs) refl (whole
 
 -- ---- the words are those of the command
 
-is-on : (first word path : List ℕ) → bytes_eq word first ≡ true → is_path path ≡ true → IsOn first (word ∷ (path ∷ [])) (file_at path)
-is-on first word path e fit = record { path = path; said = ap (λ (w : List ℕ). w ∷ (path ∷ [])) ((bytes_eq-Decides word first).0 e); fit = fit; file = file_is path }
+-- the words behind a verb are one path
+abbrev pub IsPath : List (List ℕ) → Type 0
+IsPath words = (path : List ℕ) × (words ≡ path ∷ []) × (is_path path ≡ true)
 
-asked-by : (b d : Bool) (word path : List ℕ) (c : Command) → bytes_eq word (codes "drain") ≡ b → bytes_eq word (codes "check") ≡ d
-    → on_path (cond b (Some verb.Drain) (cond d (Some verb.Check) None)) path ≡ Some c → IsCommand (word ∷ (path ∷ [])) c
-asked-by true d word path c is_drain is_check e =
-    let made : Command = command.Drain (file_at path) in
-    let g = guarded (is_path path) (Some made) c e in
-    subst (IsCommand (word ∷ (path ∷ []))) (same_Some made c g.1) (is-on (codes "drain") word path is_drain g.0)
-asked-by false true word path c is_drain is_check e =
-    let made : Command = command.Check (file_at path) in
-    let g = guarded (is_path path) (Some made) c e in
-    subst (IsCommand (word ∷ (path ∷ []))) (same_Some made c g.1) (is-on (codes "check") word path is_check g.0)
-asked-by false false word path c is_drain is_check e = absurd (cc e)
+no_more : (t : Bool) → (t && false) ≡ true → ⊥
+no_more true h = absurd cc
+no_more false h = absurd cc
+
+guarded_true : (t : Bool) → (t && true) ≡ true → t ≡ true
+guarded_true true h = refl
+guarded_true false h = absurd cc
+
+only_path : (words : List (List ℕ)) → follow (rule.Path ∷ []) [] words ≡ true → IsPath words
+only_path [] h = absurd cc
+only_path (path ∷ []) h = (path, refl, (guarded_true (is_path path) h))
+only_path (path ∷ (word ∷ [])) h = absurd (no_more (is_path path) h)
+only_path (path ∷ (word ∷ (value ∷ words))) h = absurd (no_more (is_path path) h)
+
+is-on : (first word : List ℕ) (words : List (List ℕ)) → bytes_eq first word ≡ true → IsPath words → IsOn first (word ∷ words) (first_file words)
+is-on first word words e is = record {
+  path = is.0;
+  said = ap (λ (w : List ℕ). w ∷ words) (sym ((bytes_eq-Decides first word).0 e)) ∙ ap (λ (ws : List (List ℕ)). first ∷ ws) is.1;
+  fit = is.2;
+  file = subst (IsFile is.0) (sym (ap first_file is.1)) (file_is is.0);
+}
+
+asked-by : (b d : Bool) (word : List ℕ) (words : List (List ℕ)) (c : Command) → bytes_eq (codes "drain") word ≡ b → bytes_eq (codes "check") word ≡ d
+    → command_by (cond b (Some verb.Drain) (cond d (Some verb.Check) None)) words ≡ Some c → IsCommand (word ∷ words) c
+asked-by true d word words c is_drain is_check e =
+    let made : Command = command.Drain (first_file words) in
+    let g = guarded (follow (rule.Path ∷ []) [] words) (Some made) c e in
+    subst (IsCommand (word ∷ words)) (same_Some made c g.1) (is-on (codes "drain") word words is_drain (only_path words g.0))
+asked-by false true word words c is_drain is_check e =
+    let made : Command = command.Check (first_file words) in
+    let g = guarded (follow (rule.Path ∷ []) [] words) (Some made) c e in
+    subst (IsCommand (word ∷ words)) (same_Some made c g.1) (is-on (codes "check") word words is_check (only_path words g.0))
+asked-by false false word words c is_drain is_check e = absurd (cc e)
 
 pub command_is : (words : List (List ℕ)) (c : Command) → command_of words ≡ Some c → IsCommand words c
 command_is [] c e = absurd cc
-command_is (word ∷ []) c e = absurd cc
-command_is (word ∷ (path ∷ [])) c e = asked-by (bytes_eq word (codes "drain")) (bytes_eq word (codes "check")) word path c refl refl e
-command_is (word ∷ (path ∷ (more ∷ words))) c e = absurd cc
+command_is (word ∷ words) c e = asked-by (bytes_eq (codes "drain") word) (bytes_eq (codes "check") word) word words c refl refl e

@@ -1,15 +1,13 @@
 -- Which lists of words are a command, and which file a path names.
-use Rattle.std.specs.Prelude.{◌≡◌, ◌≢◌, ℕ, ◌-◌, Bool, true, false, not, ◌==◌, ◌&&◌, ◌⊎◌, nat_lt, List, [], ◌∷◌, ◌++◌, length, slice_index, bytes_eq, codes, Option, Some, None, if◌then◌else◌, refl}
+use Rattle.std.specs.Prelude.{◌≡◌, ◌≢◌, ℕ, true, false, ◌⊎◌, List, [], ◌∷◌, ◌++◌, bytes_eq, codes, Option, Some, None, if◌then◌else◌, refl}
 use Rattle.eip_text.specs.Cuts.{holds_byte}
+use Rattle.eip_command.specs.Forms.{is_path, CommandForm, admits}
+use Rattle.eip_command.specs.declared.forms.Rule.TheVariants as rule
 use Rattle.eip_command.specs.declared.words.Path.{Path}
 use Rattle.eip_command.specs.declared.words.Command.{Command}
 use Rattle.eip_command.specs.declared.words.Command.TheVariants as command
 use Rattle.eip_command.specs.declared.words.Verb.{Verb}
 use Rattle.eip_command.specs.declared.words.Verb.TheVariants as verb
-
--- not empty, without `-` at its front and without `/` at its end
-abbrev pub is_path : List ℕ → Bool
-is_path bs = nat_lt 0 (length bs) && (not (slice_index bs 0 == 45) && not (slice_index bs (length bs - 1) == 47))
 
 -- what stands behind the last `/`, or all where there is none
 abbrev pub name_of : List ℕ → List ℕ
@@ -33,24 +31,42 @@ folder_of bs = if holds_byte 47 bs then or_root (front_of bs) else codes "."
 abbrev pub file_at : List ℕ → Path
 file_at bs = record { folder = folder_of bs; name = name_of bs }
 
--- what a first word asks for
+-- ---- the commands
+
+-- the form of each
+abbrev pub form : Verb → CommandForm
+form verb.Drain = record { word = codes "drain"; operands = rule.Path ∷ []; options = [] }
+form verb.Check = record { word = codes "check"; operands = rule.Path ∷ []; options = [] }
+
+abbrev pub verbs : List Verb
+verbs = verb.Drain ∷ verb.Check ∷ []
+
+-- the first of these verbs whose word this is
+abbrev pub verb_among : List Verb → List ℕ → Option Verb
+verb_among [] word = None
+verb_among (v ∷ vs) word = if bytes_eq (form v).word word then Some v else verb_among vs word
+
 abbrev pub verb_of : List ℕ → Option Verb
-verb_of word = if bytes_eq word (codes "drain") then Some verb.Drain else (if bytes_eq word (codes "check") then Some verb.Check else None)
+verb_of word = verb_among verbs word
 
-abbrev pub asked : Verb → Path → Command
-asked verb.Drain routes = command.Drain routes
-asked verb.Check routes = command.Check routes
+-- the file that the first of the words behind a verb names
+abbrev pub first_file : List (List ℕ) → Path
+first_file [] = file_at []
+first_file (path ∷ words) = file_at path
 
-abbrev pub on_path : Option Verb → List ℕ → Option Command
-on_path None path = None
-on_path (Some v) path = if is_path path then Some (asked v (file_at path)) else None
+-- what a verb asks for, with these words behind it
+abbrev pub asked : Verb → List (List ℕ) → Command
+asked verb.Drain words = command.Drain (first_file words)
+asked verb.Check words = command.Check (first_file words)
+
+abbrev pub command_by : Option Verb → List (List ℕ) → Option Command
+command_by None words = None
+command_by (Some v) words = if admits (form v) words then Some (asked v words) else None
 
 -- the command, or none where the words are of no command's form
 abbrev pub command_of : List (List ℕ) → Option Command
 command_of [] = None
-command_of (word ∷ []) = None
-command_of (word ∷ (path ∷ [])) = on_path (verb_of word) path
-command_of (word ∷ (path ∷ (more ∷ words))) = None
+command_of (word ∷ words) = command_by (verb_of word) words
 
 -- the path of the route file that a command names
 abbrev pub path_in : Command → Path
@@ -103,3 +119,6 @@ row-check = refl
 
 pub row-option : command_of (codes "drain" ∷ codes "-x" ∷ []) ≡ None
 row-option = refl
+
+pub row-pair : command_of (codes "drain" ∷ codes "r.json" ∷ codes "--turns" ∷ codes "5" ∷ []) ≡ None
+row-pair = refl

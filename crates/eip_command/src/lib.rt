@@ -2,7 +2,11 @@
 #![tactic(auto)]
 
 pub mod fault;
+pub mod forms;
+pub mod options;
 pub mod words;
 
 pub use fault::fault_line;
+pub use forms::{Form, OptionRule, Rule};
+pub use options::value_of;
 pub use words::{Command, Path, WordsFault, read_words};

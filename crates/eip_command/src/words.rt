@@ -1,6 +1,8 @@
-ghost use Rattle.std.specs.Prelude.{◌≡◌, ◌↔◌, Some, None, IfOk, IsErrOf};
+ghost use Rattle.std.specs.Prelude.{◌≡◌, ◌↔◌, true, Some, None, IfOk, IsErrOf};
+ghost use Rattle.eip_command.specs.Forms.{admits, form_seen};
 ghost use Rattle.eip_command.specs.Words as spec;
 
+use crate::forms::{Form, Rule};
 use eip_text::{NoMemory, Text};
 use std::alloc::{AllocError, Global};
 use thiserror::Error;
@@ -53,40 +55,61 @@ impl From<NoMemory> for WordsFault {
     }
 }
 
-/// What the first word of a command asks for.
+/// A command without its operands.
 #[derive(Clone, Copy, Debug, PartialEq, Eq)]
 enum Verb {
     Drain,
     Check,
 }
 
+const VERBS: [Verb; 2] = [Verb::Drain, Verb::Check];
+
 impl Verb {
+    /// The form of the verb's words.
+    fn form(self) -> Form
+        ensures { form_seen result ≡ spec.form self }
+    {
+        match self {
+            Verb::Drain => Form {
+                word: "drain",
+                operands: &[Rule::Path],
+                options: &[],
+            },
+            Verb::Check => Form {
+                word: "check",
+                operands: &[Rule::Path],
+                options: &[],
+            },
+        }
+    }
+
     /// The verb that a word is.
     fn read(word: &str) -> Option<Verb>
         ensures { result ≡ spec.verb_of word.now }
     {
-        if word == "drain" {
-            Some(Verb::Drain)
-        } else if word == "check" {
-            Some(Verb::Check)
-        } else {
-            None
+        for verb in VERBS {
+            if verb.form().word == word {
+                return Some(verb);
+            }
         }
+        None
     }
 
-    /// Its command for the routes of a file.
-    fn command(self, routes: Path) -> Command
-        ensures { result ≡ spec.asked self routes }
+    /// Its command with these words behind it.
+    fn command(self, alloc: Global, words: &[Text]) -> Result<Command, NoMemory>
+        requires form { admits (spec.form self) words.now ≡ true }
+        ensures { IfOk result (λ c. c ≡ spec.asked self words.now) }
     {
-        match self {
+        let routes = Path::read(alloc, words[0].as_str())?;
+        Ok(match self {
             Verb::Drain => Command::Drain { routes },
             Verb::Check => Command::Check { routes },
-        }
+        })
     }
 }
 
-/// The command that words give: `drain ROUTES` or `check ROUTES`, where ROUTES is a path. A path isn't empty,
-/// doesn't begin with `-` and doesn't end with `/`. Its folder is what stands before its last `/`, or `.`
+/// The command that words give, by the form of each: `drain ROUTES` or `check ROUTES`, where ROUTES is a path. A path
+/// isn't empty, doesn't begin with `-` and doesn't end with `/`. Its folder is what stands before its last `/`, or `.`
 /// without one, or `/` where nothing stands before it; the name is what stands behind.
 /// `Refused` exactly for every other list of words.
 pub fn read_words(alloc: Global, words: &[Text]) -> Result<Command, WordsFault>
@@ -94,27 +117,16 @@ pub fn read_words(alloc: Global, words: &[Text]) -> Result<Command, WordsFault>
     ensures file { IfOk result (λ c. spec.IsCommand words.now c) }
     ensures refused { IsErrOf result WordsFault.Refused ↔ (spec.command_of words.now ≡ None) }
 {
-    match words {
-        [] | [_] | [_, _, _, ..] => Err(WordsFault::Refused),
-        [word, path] => {
-            let Some(verb) = Verb::read(word.as_str()) else {
-                return Err(WordsFault::Refused);
-            };
-            if !is_path(path.as_str()) {
-                return Err(WordsFault::Refused);
-            }
-            let routes = Path::read(alloc, path.as_str())?;
-            Ok(verb.command(routes))
-        }
+    let [word, behind @ ..] = words else {
+        return Err(WordsFault::Refused);
+    };
+    let Some(verb) = Verb::read(word.as_str()) else {
+        return Err(WordsFault::Refused);
+    };
+    if !verb.form().admits(behind) {
+        return Err(WordsFault::Refused);
     }
-}
-
-/// Whether a word may be a path.
-fn is_path(word: &str) -> bool
-    ensures { result ≡ spec.is_path word.now }
-{
-    let bytes = word.as_bytes();
-    !bytes.is_empty() && bytes[0] != b'-' && bytes[bytes.len() - 1] != b'/'
+    Ok(verb.command(alloc, behind)?)
 }
 
 impl Path {

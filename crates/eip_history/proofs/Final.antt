@@ -82,14 +82,19 @@ some-born s past x h = by_option (numbered (births s past) x) refl h
     by_option (Some b) e g = (b, e)
     by_option None e g = absurd (cc g)
 
+-- how who has ended ended, stays so
+pub ended-stays : (s : Plan) (w limit : ℕ) (e : Entry) (past : Past) (x : ℕ) → IsLegal s w limit (e ∷ past) → is_some (ended s past x) ≡ true
+    → ended s (e ∷ past) x ≡ ended s past x
+ended-stays s w limit e past x legal h =
+    let b = some-born s past x h in
+    ended-other s e past x b.0 b.1 (ended-final s w limit e past x b.0 legal b.1 (ap is_some (sym (ended-is s past x b.0 b.1)) ∙ h))
+
 pub ended-keeps : (s : Plan) (w limit : ℕ) (e : Entry) (past : Past) (x : ℕ) → IsLegal s w limit (e ∷ past) → is_some (ended s past x) ≡ true
     → is_some (ended s (e ∷ past) x) ≡ true
-ended-keeps s w limit e past x legal h =
-    let b = some-born s past x h in
-    let f = ended-final s w limit e past x b.0 legal b.1 (ap is_some (sym (ended-is s past x b.0 b.1)) ∙ h) in
-    ap is_some (ended-other s e past x b.0 b.1 f) ∙ h
+ended-keeps s w limit e past x legal h = ap is_some (ended-stays s w limit e past x legal h) ∙ h
 
-joined-keeps : (s : Plan) (w limit : ℕ) (e : Entry) (past : Past) (first count : ℕ) → IsLegal s w limit (e ∷ past)
+-- parts that have all ended, stay so
+pub joined-keeps : (s : Plan) (w limit : ℕ) (e : Entry) (past : Past) (first count : ℕ) → IsLegal s w limit (e ∷ past)
     → is_some (joined s past first count) ≡ true → is_some (joined s (e ∷ past) first count) ≡ true
 joined-keeps s w limit e past first zero legal h = refl
 joined-keeps s w limit e past first (suc k) legal h =

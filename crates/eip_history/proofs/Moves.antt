@@ -37,7 +37,7 @@ fate-unanswered s e past b a v = elim (cases_Bool (concerns b.number e.kind)) [
   | inr f ↦ ap (fate_by s b) (own-other b.number e past f)
 ]
 
-ends-nobody : (s : Plan) (e : Entry) (past : Past) → answer_in e.kind ≡ [] → is_starve e.kind ≡ false → EndsNone s e past
+pub ends-nobody : (s : Plan) (e : Entry) (past : Past) → answer_in e.kind ≡ [] → is_starve e.kind ≡ false → EndsNone s e past
 ends-nobody s e past a v x b at = ended-same s e past x b at (ap end_of (fate-unanswered s e past b a v))
 
 no-parent : (s : Plan) (past : Past) (b d : Birth) (n : ℕ) → numbered (births s past) n ≡ Some d → (IsParent s past b n → ⊥) → is_part_of b.number d.origin ≡ false

@@ -1,5 +1,5 @@
 -- Of each kind, an entry that breaks its rule is not allowed.
-use Rattle.std.proofs.Common.{◌++◌, [], ◌∷◌, codes, reverse, refl, arith, inl, inr}
+use Rattle.std.proofs.Common.{◌++◌, false, true, [], ◌∷◌, codes, reverse, refl, arith, inl, inr}
 use Rattle.eip_frames.specs.declared.answer.Answer.TheVariants as reply
 use Rattle.eip_frames.specs.declared.answer.Completion.TheVariants as by
 use Rattle.eip_ledger.specs.declared.entry.Kind.TheVariants as kind
@@ -9,7 +9,7 @@ use Rattle.eip_history.specs.Births.{story, fate}
 use Rattle.eip_history.specs.Place.{takes_out, pulls_out, place, place_of, ended, numbers_at, busy}
 use Rattle.eip_history.specs.Rules.{May, dues, served, holder_of}
 use Rattle.eip_history.specs.Example.{small, early, middle, past_of, plain, done}
-use Rattle.eip_history.specs.Histories.{pair, taken_in, entry}
+use Rattle.eip_history.specs.Histories.{pair, taken_in, entry, keyed, both_done}
 use Rattle.eip_history.proofs.AnswerFacts.{answers-to}
 
 -- a source is pulled that is out already
@@ -76,6 +76,12 @@ no_early_join may = cc (answers-to small 100 (past_of early) 0 1 (reply.Joined (
 pub no_second_holder : May pair 100 (entry 2 (kind.Answer 1 reply.Fresh) ∷ reverse taken_in) 1 (kind.Answer 2 reply.Fresh) → ⊥
 unfolding own story fate ended served holder_of
 no_second_holder may = cc (answers-to pair 100 (entry 2 (kind.Answer 1 reply.Fresh) ∷ reverse taken_in) 1 2 reply.Fresh _ may refl).content
+
+-- a duplicate's answer names a later holder than the least: both exchanges of a key that isn't eager have completed
+pub no_name_of_a_later_holder : May (keyed false true) 100 (entry 1 (kind.Accept 0 (codes "a2") (plain (codes "a"))) ∷ entry 1 (kind.Pull 0) ∷ both_done) 1 (kind.Answer 3 (reply.Duplicate 2)) → ⊥
+unfolding own story fate ended served holder_of
+no_name_of_a_later_holder may =
+    cc (answers-to (keyed false true) 100 (entry 1 (kind.Accept 0 (codes "a2") (plain (codes "a"))) ∷ entry 1 (kind.Pull 0) ∷ both_done) 1 3 (reply.Duplicate 2) _ may refl).content
 
 -- a send is answered by a worker that does not have the exchange in hand
 pub no_answer_by_another : May pair 100 (entry 1 (kind.Take 1) ∷ entry 2 (kind.Answer 1 reply.Fresh) ∷ reverse taken_in) 2 (kind.Answer 1 reply.Done) → ⊥

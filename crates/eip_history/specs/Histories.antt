@@ -1,5 +1,5 @@
 -- More small histories, computed: two sources with one key, a starved exchange, a log, and the texts of each.
-use Rattle.std.specs.Prelude.{◌≡◌, ℕ, zero, suc, ◌++◌, true, false, nat_lt, List, [], ◌∷◌, map, reverse, codes, length, Some, None, refl}
+use Rattle.std.specs.Prelude.{◌≡◌, ℕ, zero, suc, ◌++◌, Bool, true, false, nat_lt, List, [], ◌∷◌, map, reverse, codes, length, Some, None, refl}
 use Rattle.std.specs.Fmt.{digits}
 use Rattle.eip_text.specs.Escapes.{escaped, quoted}
 use Rattle.eip_exchange.specs.declared.birth.Birth.{Birth}
@@ -21,7 +21,7 @@ use Rattle.eip_history.specs.Plan.{Plan, Gives}
 use Rattle.eip_history.specs.Own.{Past, own, source_state, clock, turns}
 use Rattle.eip_history.specs.Births.{story, fate, births}
 use Rattle.eip_history.specs.Place.{place_of, ended, numbers_at, count_at, busy, pulls_out, takes_out}
-use Rattle.eip_history.specs.Rules.{served, holder_of, unfinished, startable, dues}
+use Rattle.eip_history.specs.Rules.{served, holders, holder_of, unfinished, startable, dues}
 use Rattle.eip_history.specs.Stop.{first_fault, is_over, stop_of}
 use Rattle.eip_history.specs.Texts.{Sent, calls, Item, Bad, given}
 use Rattle.eip_history.specs.Counts.{accepted_count, refused_count}
@@ -206,3 +206,52 @@ stop_lines = refl
 pub failed_line : exchange_line small_names 1 (from.Source 0 (codes "1")) (place_is.Ended (end.Failed (fault (codes "QueueFull") (codes "seda:q 2")))) ≡ codes "exchange 1 source in failed QueueFull \"seda:q 2\"\n"
 unfolding digits quoted escaped
 failed_line = refl
+
+-- ---- keys that aren't eager, and keys that failure doesn't give up
+
+-- each exchange offers one key, by these two flags, and then sends
+abbrev pub key_by : Bool → Bool → List Request
+key_by eager remove = request.Idem (codes "r") (codes "k") eager remove ∷ request.Send (target.Lane (codes "x")) (plain (codes "sent")) ∷ []
+
+abbrev pub keyed : Bool → Bool → Plan
+keyed eager remove = record pair { mean = λ b given. asks_at (key_by eager remove) (length given) b.message }
+
+-- both exchanges find a key free that isn't eager; the second ends first, then a third offers it
+abbrev pub both_fresh : List Entry
+both_fresh = entry 1 (kind.Answer 1 reply.Fresh) ∷ entry 1 (kind.Answer 2 reply.Fresh) ∷ []
+
+abbrev pub ends_done : ℕ → List Entry
+ends_done x = entry 1 (kind.Take x) ∷ entry 1 (kind.Answer x reply.Done) ∷ entry 1 (kind.Answer x reply.Finished) ∷ []
+
+pub lazy_is_free : holders (keyed false true) (reverse (taken_in ++ both_fresh)) (codes "r") (codes "k") ≡ []
+unfolding own story fate ended served
+lazy_is_free = refl
+
+pub later_holds : holder_of (keyed false true) (reverse (taken_in ++ (both_fresh ++ ends_done 2))) (codes "r") (codes "k") ≡ Some 2
+unfolding own story fate ended served holder_of
+later_holds = refl
+
+-- where both have completed, both hold the key, and the least is named
+abbrev pub both_done : Past
+both_done = reverse (taken_in ++ (both_fresh ++ (ends_done 2 ++ ends_done 1)))
+
+pub both_hold : holders (keyed false true) both_done (codes "r") (codes "k") ≡ 1 ∷ 2 ∷ []
+unfolding own story fate ended served
+both_hold = refl
+
+pub least_is_named : holder_of (keyed false true) both_done (codes "r") (codes "k") ≡ Some 1
+unfolding own story fate ended served holder_of
+least_is_named = refl
+
+-- a starved exchange gives its key up, save where it isn't to be removed
+pub starved_keeps : holder_of (keyed true false) (past_of starving) (codes "r") (codes "k") ≡ Some 1
+unfolding own story fate ended served holder_of
+starved_keeps = refl
+
+pub starved_takes : holder_of (keyed false false) (past_of starving) (codes "r") (codes "k") ≡ Some 1
+unfolding own story fate ended served holder_of
+starved_takes = refl
+
+pub starved_takes_none : holder_of (keyed false true) (past_of starving) (codes "r") (codes "k") ≡ None
+unfolding own story fate ended served holder_of
+starved_takes_none = refl

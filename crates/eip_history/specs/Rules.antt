@@ -1,5 +1,5 @@
 -- Where each entry may come.
-use Rattle.std.specs.Prelude.{ℕ, ◌≡◌, ◌+◌, ◌<◌, ◌≤◌, ◌&&◌, ◌||◌, not, min, bytes_eq, Bool, true, false, List, [], ◌∷◌, ◌++◌, Option, Some, None, length, filter_map, find, ◌⊎◌}
+use Rattle.std.specs.Prelude.{ℕ, ◌≡◌, ◌+◌, ◌<◌, ◌≤◌, ◌&&◌, ◌||◌, not, min, bytes_eq, Bool, true, false, List, [], ◌∷◌, ◌++◌, Option, Some, None, length, filter, filter_map, map, find, ◌⊎◌}
 use Rattle.eip_exchange.specs.declared.end.Ended.{Ended as Finished}
 use Rattle.eip_exchange.specs.declared.end.End.TheVariants as end
 use Rattle.eip_exchange.specs.declared.end.End.{End}
@@ -41,15 +41,18 @@ unfoldable pub served : Plan → Past → List Served
 served s [] = []
 served s (e ∷ past) = served s past ++ served_in s past e.worker e.kind
 
--- an exchange's claim to a key of a repository
+-- an exchange's claim to a key of a repository: an eager one holds the key at once, one that isn't eager from its exchange's
+-- end on; where `remove` is set, an end that doesn't complete gives it up
 pub record Claim : Type 0 where
   pub number : ℕ
   pub repository : List ℕ
   pub key : List ℕ
+  pub eager : Bool
+  pub remove : Bool
 
 -- a Fresh answer to an offered key is a claim
 abbrev pub claim_for : ℕ → Request → Reply → Option Claim
-claim_for x (Idem r k eager remove) reply.Fresh = Some (record { number = x; repository = r; key = k })
+claim_for x (Idem r k eager remove) reply.Fresh = Some (record { number = x; repository = r; key = k; eager = eager; remove = remove })
 claim_for x _ _ = None
 
 -- the claim that an answer makes
@@ -60,28 +63,58 @@ claim_of v = claim_for v.asked.birth.number v.asked.request v.answer
 abbrev pub claims : Plan → Past → List Claim
 claims s past = filter_map claim_of (served s past)
 
--- only who completes keeps its key
-abbrev pub keeps_end : End → Bool
-keeps_end end.Completed = true
-keeps_end _ = false
+-- the end of who completes
+abbrev pub completes : End → Bool
+completes end.Completed = true
+completes _ = false
 
--- who hasn't ended keeps its key too
-abbrev pub keeps : Option Finished → Bool
-keeps None = true
-keeps (Some f) = keeps_end f.end
+-- a claim lasts beyond an end at which its exchange completes, and beyond every end where it isn't to be removed
+abbrev pub lasts : Claim → Finished → Bool
+lasts c f = completes f.end || not c.remove
 
--- a claim to this key that is still kept
+-- a claim that hasn't been given up, by how its exchange ended
+abbrev pub keeps : Claim → Option Finished → Bool
+keeps c None = true
+keeps c (Some f) = lasts c f
+
+-- a claim that holds its key, by how its exchange ended: before the end only an eager one does
+abbrev pub holds : Claim → Option Finished → Bool
+holds c None = c.eager
+holds c (Some f) = lasts c f
+
+-- a claim to this key
+abbrev pub is_key : List ℕ → List ℕ → Claim → Bool
+is_key r k c = bytes_eq c.repository r && bytes_eq c.key k
+
+-- a claim that holds its key behind a past
+abbrev pub is_holding : Plan → Past → Claim → Bool
+is_holding s past c = holds c (ended s past c.number)
+
+-- a claim to this key that holds it
 abbrev pub is_claim_of : Plan → Past → List ℕ → List ℕ → Claim → Bool
-is_claim_of s past r k c = (bytes_eq c.repository r && bytes_eq c.key k) && keeps (ended s past c.number)
+is_claim_of s past r k c = is_key r k c && is_holding s past c
 
 -- whose claim it is
-abbrev pub claimer : Option Claim → Option ℕ
-claimer (Some c) = Some c.number
-claimer None = None
+abbrev pub claimer : Claim → ℕ
+claimer c = c.number
 
--- who holds a key
+-- the lesser of a number and another, if there is one
+abbrev pub or_least : ℕ → Option ℕ → Option ℕ
+or_least x None = Some x
+or_least x (Some y) = Some (min x y)
+
+-- the least number
+abbrev pub least : List ℕ → Option ℕ
+least [] = None
+least (x ∷ xs) = or_least x (least xs)
+
+-- the holders of a key, in the order of their claims: several where claims weren't eager
+abbrev pub holders : Plan → Past → List ℕ → List ℕ → List ℕ
+holders s past r k = map claimer (filter (is_claim_of s past r k) (claims s past))
+
+-- the least holder of a key, whom an answer names
 unfoldable pub holder_of : Plan → Past → List ℕ → List ℕ → Option ℕ
-holder_of s past r k = claimer (find (is_claim_of s past r k) (claims s past))
+holder_of s past r k = least (holders s past r k)
 
 -- the message of a group before one more arrival, or none
 abbrev pub message_so_far : Plan → Option Group → Option Message
@@ -164,16 +197,6 @@ pub record IsQuiet (s : Plan) (past : Past) : Type 0 where
 abbrev pub retry_due : Place → Option ℕ
 retry_due (place_is.Retry d) = Some d
 retry_due _ = None
-
--- the lesser of a number and another, if there is one
-abbrev pub or_least : ℕ → Option ℕ → Option ℕ
-or_least x None = Some x
-or_least x (Some y) = Some (min x y)
-
--- the least number
-abbrev pub least : List ℕ → Option ℕ
-least [] = None
-least (x ∷ xs) = or_least x (least xs)
 
 -- the moments at which somebody is due
 unfoldable pub dues : Plan → Past → List ℕ

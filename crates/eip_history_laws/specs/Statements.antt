@@ -1,19 +1,22 @@
 -- What is always true of a legal journal.
-use Rattle.std.specs.Prelude.{ℕ, ◌≡◌, ◌≢◌, ◌+◌, ◌<◌, ◌≤◌, ◌⊎◌, true, List, ◌∷◌, None, is_some, length, filter, map}
+use Rattle.std.specs.Prelude.{ℕ, ◌≡◌, ◌≢◌, ◌+◌, ◌<◌, ◌≤◌, ◌⊎◌, Bool, true, List, ◌∷◌, Some, None, is_some, length, filter, map}
 use Rattle.std.specs.List.{flat_map}
+use Rattle.eip_frames.specs.declared.answer.Answer.{Answer as Reply}
+use Rattle.eip_frames.specs.declared.request.Request.TheVariants.{Idem}
 use Rattle.eip_ledger.specs.declared.entry.Entry.{Entry}
 use Rattle.eip_ledger.specs.declared.entry.Kind.{Kind}
-use Rattle.eip_ledger.specs.declared.entry.Kind.TheVariants.{Return}
+use Rattle.eip_ledger.specs.declared.entry.Kind.TheVariants.{Answer, Return}
 use Rattle.eip_history.specs.Counts.{completed_count, handled_count, failed_count, waiting_count, total_count}
 use Rattle.eip_history.specs.Laws.{PlanLaws}
 use Rattle.eip_history.specs.Own.{Past, turns}
 use Rattle.eip_history.specs.Owner.{owner}
 use Rattle.eip_history.specs.Groups.{Group}
-use Rattle.eip_history.specs.Births.{groups}
+use Rattle.eip_history.specs.Births.{Asked, asked, groups}
 use Rattle.eip_history.specs.Pieces.{Mark, marked, is_of_key}
 use Rattle.eip_history.specs.Place.{ended, hands}
 use Rattle.eip_history.specs.Plan.{Plan}
-use Rattle.eip_history.specs.Rules.{IsLegal, IsBelow, claims, is_claim_of}
+use Rattle.eip_history.specs.Rules.{IsLegal, IsBelow, Claim, claims, is_holding}
+use Rattle.eip_history.specs.Keys.{IsKeyAnswer, is_eager_of}
 use Rattle.eip_history.specs.Stop.{stop_of}
 use Rattle.eip_history.specs.Work.{work}
 use Rattle.eip_history.proofs.Waits.{Acts}
@@ -34,10 +37,21 @@ abbrev pub EndsOnce : Type 0
 EndsOnce = (s : Plan) (workers limit : ℕ) (e : Entry) (past : Past) (x : ℕ) → IsLegal s workers limit (e ∷ past) → is_some (ended s past x) ≡ true
     → is_some (ended s (e ∷ past) x) ≡ true
 
--- no two claims of one key are kept
-abbrev pub OneHolder : Type 0
-OneHolder = (s : Plan) (workers limit : ℕ) (past : Past) (repository key : List ℕ) → IsLegal s workers limit past
-    → length (filter (is_claim_of s past repository key) (claims s past)) ≤ 1
+-- no two eager claims hold one key
+abbrev pub OneEagerHolder : Type 0
+OneEagerHolder = (s : Plan) (workers limit : ℕ) (past : Past) (repository key : List ℕ) → IsLegal s workers limit past
+    → length (filter (is_eager_of s past repository key) (claims s past)) ≤ 1
+
+-- an offered key is answered Fresh where nobody holds it, else Duplicate of its least holder
+abbrev pub KeysAnswered : Type 0
+KeysAnswered = (s : Plan) (workers limit worker x : ℕ) (a : Reply) (past : Past) (k : Asked) (repository key : List ℕ) (eager remove : Bool)
+    → IsLegal s workers limit ((record { worker = worker; kind = Answer x a }) ∷ past) → asked s past x ≡ Some k
+    → k.request ≡ Idem repository key eager remove → IsKeyAnswer s past repository key a
+
+-- whether a claim of who has ended holds its key, no further entry changes
+abbrev pub HeldForEver : Type 0
+HeldForEver = (s : Plan) (workers limit : ℕ) (e : Entry) (past : Past) (c : Claim) → IsLegal s workers limit (e ∷ past)
+    → is_some (ended s past c.number) ≡ true → is_holding s (e ∷ past) c ≡ is_holding s past c
 
 -- the parts of the groups of an aggregator and key, group by group, are its arrivals in the journal's order
 abbrev pub EachArrivalOnce : Type 0

@@ -1,4 +1,4 @@
-ghost use Rattle.eip_history_laws.specs.Statements.{SomebodyActs, TurnOrProgress, EndsOnce, OneHolder, EachArrivalOnce, TotalsAddUp, OwnersAreWorkers};
+ghost use Rattle.eip_history_laws.specs.Statements.{SomebodyActs, TurnOrProgress, EndsOnce, OneEagerHolder, KeysAnswered, HeldForEver, EachArrivalOnce, TotalsAddUp, OwnersAreWorkers};
 
 /// No run gets stuck: where nobody holds anything and the run has no stop, there are turns left, and an exchange is Ready,
 /// or a queue or a source has something to give, or a moment is due, or groups are closed by force. So a request that
@@ -17,9 +17,21 @@ pub fn ending_law()
     ensures { EndsOnce }
 {}
 
-/// At most one exchange holds a key of a repository (Camel manual, *Idempotent Consumer EIP*). It does nothing.
+/// Of the claims to a key of a repository that are made when it is offered (Camel manual, *Idempotent Consumer EIP*, `eager`)
+/// at most one holds it. It does nothing.
 pub fn holder_law()
-    ensures { OneHolder }
+    ensures { OneEagerHolder }
+{}
+
+/// An exchange that offers a key is answered that it is fresh exactly where nobody holds it, else the least holder's number
+/// (Camel manual, *Idempotent Consumer EIP*). It does nothing.
+pub fn key_law()
+    ensures { KeysAnswered }
+{}
+
+/// An exchange that has ended holds the keys for ever that it holds then, and no other. It does nothing.
+pub fn held_law()
+    ensures { HeldForEver }
 {}
 
 /// Each arrival of an aggregator and key stands in exactly one group (Camel manual, *Aggregate EIP*): the groups one behind

@@ -1,12 +1,13 @@
 -- Steps as they nest, before their blocks have numbers: how blocks are numbered, and back from numbered blocks.
-use Rattle.std.specs.Prelude.{ℕ, Bool, cond, ◌+◌, nat_eq, length, List, [], ◌∷◌, ◌++◌, Option, Some, None, codes, decimal, bytes_eq}
+use Rattle.std.specs.Prelude.{◌≡◌, ℕ, Bool, true, false, cond, ◌+◌, nat_eq, length, List, [], ◌∷◌, ◌++◌, Option, Some, None, is_some, codes, decimal, bytes_eq}
 use Rattle.eip_exchange.specs.declared.setting.Clause.{Clause}
 use Rattle.eip_exchange.specs.declared.setting.How.{How}
 use Rattle.eip_exchange.specs.declared.setting.Policy.{Policy}
 use Rattle.eip_exchange.specs.declared.setting.Strategy.{Strategy}
 use Rattle.eip_simple_read.specs.declared.tree.Predicate.{Predicate}
-use Rattle.eip_simple_read.specs.declared.tree.Template.{Template}
+use Rattle.eip_text.specs.Names.{is_name}
 use Rattle.eip_uri.specs.declared.uri.Uri.{Uri}
+use Rattle.eip_route.specs.Faults.{case_numbers, last_number}
 use Rattle.eip_route.specs.declared.route.Block.{Block}
 use Rattle.eip_route.specs.declared.route.Handler.{Handler}
 use Rattle.eip_route.specs.declared.route.Names.{Names}
@@ -30,38 +31,36 @@ pub record Gathering : Type 0 where
   pub timeout : Option ℕ
   pub force : Bool
 
+-- a step that holds blocks, without them and their numbers
+pub data Frame : Type 0 where
+  -- the checks of its cases, and whether there is a block for where none of them holds
+  chooses : List Check → Bool → Frame
+  filters : Check → Frame
+  splits : How → Fan → Frame
+  multicasts : Fan → Frame
+  aggregates : Gathering → Frame
+  -- the key, the repository's name where one is given, and the flags skip, eager and remove
+  runs_once : Expr → Option (List ℕ) → Bool → Bool → Bool → Frame
+
 mutual
   pub data NestedStep : Type 0 where
-    sets_body : Expr → NestedStep
-    sets_header : List ℕ → Expr → NestedStep
-    sets_property : List ℕ → Expr → NestedStep
-    removes_header : List ℕ → NestedStep
-    goes_to : Uri → NestedStep
-    logs : Option (List ℕ) → Template → NestedStep
-    throws : List ℕ → Template → NestedStep
-    processes : List ℕ → NestedStep
-    chooses : NestedCases → NestedLast → NestedStep
-    filters : Check → NestedSteps → NestedStep
-    splits : How → Fan → NestedSteps → NestedStep
-    -- each step is a branch
-    multicasts : Fan → NestedSteps → NestedStep
-    sends_to_list : Expr → List ℕ → Fan → NestedStep
-    aggregates : Gathering → NestedSteps → NestedStep
-    -- the key, the repository's name where one is given, and the flags skip, eager and remove
-    runs_once : Expr → Option (List ℕ) → Bool → Bool → Bool → NestedSteps → NestedStep
+    -- a step without blocks
+    leaf : Step → NestedStep
+    -- a step with a group of steps for each of its blocks
+    holds : Frame → NestedGroups → NestedStep
 
   pub data NestedSteps : Type 0 where
     none : NestedSteps
     more : NestedStep → NestedSteps → NestedSteps
 
-  pub data NestedCases : Type 0 where
-    no_case : NestedCases
-    more_case : Check → NestedSteps → NestedCases → NestedCases
+  pub data NestedGroups : Type 0 where
+    no_group : NestedGroups
+    group : NestedSteps → NestedGroups → NestedGroups
 
-  -- steps that may be absent
-  pub data NestedLast : Type 0 where
-    no_last : NestedLast
-    last : NestedSteps → NestedLast
+-- steps that may be absent
+pub data NestedLast : Type 0 where
+  no_last : NestedLast
+  last : NestedSteps → NestedLast
 
 pub record NestedClause : Type 0 where
   pub names : List (List ℕ)
@@ -81,6 +80,95 @@ pub record NestedSet : Type 0 where
   pub handler : Handler
   pub clauses : List NestedClause
 
+abbrev pub count : NestedGroups → ℕ
+count no_group = 0
+count (group ss gs) = count gs + 1
+
+-- ---- frames, and the steps that they are with the numbers of their blocks
+
+abbrev pub of_last : Bool → ℕ
+of_last true = 1
+of_last false = 0
+
+-- so many groups may stand in this frame
+abbrev pub HasGroups : Frame → ℕ → Type 0
+HasGroups (chooses cs l) k = k ≡ length cs + of_last l
+HasGroups (multicasts fan) k = Unit {0}
+HasGroups _ k = k ≡ 1
+
+-- a repository that is named has a Name
+abbrev pub IsNamed : Option (List ℕ) → Type 0
+IsNamed None = Unit {0}
+IsNamed (Some name) = is_name name ≡ true
+
+abbrev pub FrameNamed : Frame → Type 0
+FrameNamed (runs_once e name skip eager remove) = IsNamed name
+FrameNamed _ = Unit {0}
+
+-- 0 where there is none
+abbrev pub first_of : List ℕ → ℕ
+first_of [] = 0
+first_of (n ∷ ns) = n
+
+abbrev pub rest_of : {A : Type 0} → List A → List A
+rest_of [] = []
+rest_of (x ∷ xs) = xs
+
+-- what stands behind as many as these
+abbrev pub past : {A B : Type 0} → List A → List B → List B
+past [] ys = ys
+past (x ∷ xs) ys = past xs (rest_of ys)
+
+-- cases of these checks, whose blocks have these numbers
+abbrev pub cases_with : List Check → List ℕ → List (Check × ℕ)
+cases_with [] ns = []
+cases_with (c ∷ cs) ns = (c, first_of ns) ∷ cases_with cs (rest_of ns)
+
+abbrev pub last_with : Bool → List ℕ → Option ℕ
+last_with false ns = None
+last_with true ns = Some (first_of ns)
+
+abbrev pub checks_of : List (Check × ℕ) → List Check
+checks_of [] = []
+checks_of (c ∷ cs) = c.0 ∷ checks_of cs
+
+abbrev pub with_block : Gathering → ℕ → Aggregate
+with_block g n = record { key = g.key; strategy = g.strategy; predicate = g.predicate; size = g.size; timeout = g.timeout; force = g.force; block = n }
+
+abbrev pub without_block : Aggregate → Gathering
+without_block a = record { key = a.key; strategy = a.strategy; predicate = a.predicate; size = a.size; timeout = a.timeout; force = a.force }
+
+-- the repository of an idempotent consumer that names none: its own, by the number of its block
+unfoldable pub own_repository : ℕ → List ℕ
+own_repository n = codes "#" ++ decimal n
+
+abbrev pub repository_of : ℕ → Option (List ℕ) → List ℕ
+repository_of n None = own_repository n
+repository_of n (Some name) = name
+
+-- the name of a repository, or none where it is the block's own
+abbrev pub name_given : ℕ → List ℕ → Option (List ℕ)
+name_given b repository = cond (bytes_eq repository (own_repository b)) None (Some repository)
+
+-- the step of a frame whose blocks have these numbers
+abbrev pub fill : Frame → List ℕ → Step
+fill (chooses cs l) ns = step.Choice (cases_with cs ns) (last_with l (past cs ns))
+fill (filters check) ns = step.Filter check (first_of ns)
+fill (splits how fan) ns = step.Split how fan (first_of ns)
+fill (multicasts fan) ns = step.Multicast fan ns
+fill (aggregates g) ns = step.Aggregate (with_block g (first_of ns))
+fill (runs_once e name skip eager remove) ns = step.Idempotent e (repository_of (first_of ns) name) skip eager remove (first_of ns)
+
+-- and back: the frame of a step and the numbers of its blocks, where it holds blocks
+abbrev pub held : Step → Option (Frame × List ℕ)
+held (step.Choice cases l) = Some (chooses (checks_of cases) (is_some l), case_numbers cases ++ last_number l)
+held (step.Filter check b) = Some (filters check, b ∷ [])
+held (step.Split how fan b) = Some (splits how fan, b ∷ [])
+held (step.Multicast fan bs) = Some (multicasts fan, bs)
+held (step.Aggregate a) = Some (aggregates (without_block a), a.block ∷ [])
+held (step.Idempotent e repository skip eager remove b) = Some (runs_once e (name_given b repository) skip eager remove, b ∷ [])
+held _ = None
+
 -- ---- numbered: each with the blocks nested in it, in their order
 
 pub record FlatStep : Type 0 where
@@ -91,11 +179,7 @@ pub record FlatSteps : Type 0 where
   pub steps : List Step
   pub blocks : List Block
 
-pub record FlatCases : Type 0 where
-  pub cases : List (Check × ℕ)
-  pub blocks : List Block
-
-pub record FlatBranches : Type 0 where
+pub record FlatGroups : Type 0 where
   pub numbers : List ℕ
   pub blocks : List Block
 
@@ -111,25 +195,13 @@ pub record FlatRoutes : Type 0 where
 abbrev pub headed : FlatSteps → List Block
 headed r = record { steps = r.steps } ∷ r.blocks
 
--- a branch: the block of one step
-abbrev pub branch : FlatStep → List Block
-branch s = record { steps = s.step ∷ [] } ∷ s.blocks
-
-abbrev pub leaf : Step → FlatStep
-leaf s = record { step = s; blocks = [] }
-
 abbrev pub first_step : ℕ → FlatStep → (ℕ → FlatSteps) → FlatSteps
 first_step n s next =
     let r = next (n + length s.blocks) in
     record { steps = s.step ∷ r.steps; blocks = s.blocks ++ r.blocks }
 
-abbrev pub first_case : ℕ → Check → List Block → (ℕ → FlatCases) → FlatCases
-first_case n check blocks next =
-    let r = next (n + length blocks) in
-    record { cases = (check, n) ∷ r.cases; blocks = blocks ++ r.blocks }
-
-abbrev pub first_branch : ℕ → List Block → (ℕ → FlatBranches) → FlatBranches
-first_branch n blocks next =
+abbrev pub first_group : ℕ → List Block → (ℕ → FlatGroups) → FlatGroups
+first_group n blocks next =
     let r = next (n + length blocks) in
     record { numbers = n ∷ r.numbers; blocks = blocks ++ r.blocks }
 
@@ -138,24 +210,8 @@ abbrev pub number_of : ℕ → List Block → Option ℕ
 number_of n [] = None
 number_of n (b ∷ bs) = Some n
 
-abbrev pub flat_choice : ℕ → FlatCases → (ℕ → List Block) → FlatStep
-flat_choice n cs next =
-    let bs = next (n + length cs.blocks) in
-    record { step = step.Choice cs.cases (number_of (n + length cs.blocks) bs); blocks = cs.blocks ++ bs }
-
-abbrev pub flat_multicast : Fan → FlatBranches → FlatStep
-flat_multicast fan r = record { step = step.Multicast fan r.numbers; blocks = r.blocks }
-
-abbrev pub with_block : Gathering → ℕ → Aggregate
-with_block g n = record { key = g.key; strategy = g.strategy; predicate = g.predicate; size = g.size; timeout = g.timeout; force = g.force; block = n }
-
--- the repository of an idempotent consumer that names none: its own, by the number of its block
-unfoldable pub own_repository : ℕ → List ℕ
-own_repository n = codes "#" ++ decimal n
-
-abbrev pub repository_of : ℕ → Option (List ℕ) → List ℕ
-repository_of n None = own_repository n
-repository_of n (Some name) = name
+abbrev pub flat_frame : Frame → FlatGroups → FlatStep
+flat_frame f r = record { step = fill f r.numbers; blocks = r.blocks }
 
 -- nested blocks have the numbers from n
 abbrev mutual
@@ -164,33 +220,16 @@ abbrev mutual
   flat_steps n (more s ss) = first_step n (flat_step n s) (λ m. flat_steps m ss)
 
   pub flat_step : ℕ → NestedStep → FlatStep
-  flat_step n (sets_body e) = leaf (step.SetBody e)
-  flat_step n (sets_header name e) = leaf (step.SetHeader name e)
-  flat_step n (sets_property name e) = leaf (step.SetProperty name e)
-  flat_step n (removes_header name) = leaf (step.RemoveHeader name)
-  flat_step n (goes_to u) = leaf (step.To u)
-  flat_step n (logs name message) = leaf (step.Log name message)
-  flat_step n (throws kind message) = leaf (step.Throw kind message)
-  flat_step n (processes name) = leaf (step.Process name)
-  flat_step n (chooses cs l) = flat_choice n (flat_cases n cs) (λ m. flat_last m l)
-  flat_step n (filters check ss) = record { step = step.Filter check n; blocks = headed (flat_steps (n + 1) ss) }
-  flat_step n (splits how fan ss) = record { step = step.Split how fan n; blocks = headed (flat_steps (n + 1) ss) }
-  flat_step n (multicasts fan ss) = flat_multicast fan (flat_branches n ss)
-  flat_step n (sends_to_list e delimiter fan) = leaf (step.Recipients e delimiter fan)
-  flat_step n (aggregates g ss) = record { step = step.Aggregate (with_block g n); blocks = headed (flat_steps (n + 1) ss) }
-  flat_step n (runs_once e name skip eager remove ss) = record { step = step.Idempotent e (repository_of n name) skip eager remove n; blocks = headed (flat_steps (n + 1) ss) }
+  flat_step n (leaf s) = record { step = s; blocks = [] }
+  flat_step n (holds f gs) = flat_frame f (flat_groups n gs)
 
-  pub flat_cases : ℕ → NestedCases → FlatCases
-  flat_cases n no_case = record { cases = []; blocks = [] }
-  flat_cases n (more_case check ss cs) = first_case n check (headed (flat_steps (n + 1) ss)) (λ m. flat_cases m cs)
+  pub flat_groups : ℕ → NestedGroups → FlatGroups
+  flat_groups n no_group = record { numbers = []; blocks = [] }
+  flat_groups n (group ss gs) = first_group n (headed (flat_steps (n + 1) ss)) (λ m. flat_groups m gs)
 
-  pub flat_last : ℕ → NestedLast → List Block
-  flat_last n no_last = []
-  flat_last n (last ss) = headed (flat_steps (n + 1) ss)
-
-  pub flat_branches : ℕ → NestedSteps → FlatBranches
-  flat_branches n none = record { numbers = []; blocks = [] }
-  flat_branches n (more s ss) = first_branch n (branch (flat_step (n + 1) s)) (λ m. flat_branches m ss)
+abbrev pub flat_last : ℕ → NestedLast → List Block
+flat_last n no_last = []
+flat_last n (last ss) = headed (flat_steps (n + 1) ss)
 
 -- the block of these steps, with the number n, and those nested in it
 abbrev pub flat_block : ℕ → NestedSteps → List Block
@@ -225,46 +264,20 @@ flat_set names s =
 
 -- ---- and back: `nested` gives the steps of a block by its number
 
-abbrev pub un_cases : (ℕ → NestedSteps) → List (Check × ℕ) → NestedCases
-un_cases nested [] = no_case
-un_cases nested (c ∷ cs) = more_case c.0 (nested c.1) (un_cases nested cs)
+abbrev pub un_groups : (ℕ → NestedSteps) → List ℕ → NestedGroups
+un_groups nested [] = no_group
+un_groups nested (n ∷ ns) = group (nested n) (un_groups nested ns)
+
+abbrev pub un_held : (ℕ → NestedSteps) → Step → Option (Frame × List ℕ) → NestedStep
+un_held nested s None = leaf s
+un_held nested s (Some r) = holds r.0 (un_groups nested r.1)
+
+abbrev pub un_step : (ℕ → NestedSteps) → Step → NestedStep
+un_step nested s = un_held nested s (held s)
 
 abbrev pub un_last : (ℕ → NestedSteps) → Option ℕ → NestedLast
 un_last nested None = no_last
 un_last nested (Some b) = last (nested b)
-
-abbrev pub joined : NestedSteps → NestedSteps → NestedSteps
-joined none after = after
-joined (more s ss) after = more s (joined ss after)
-
--- the steps of the branches
-abbrev pub un_branches : (ℕ → NestedSteps) → List ℕ → NestedSteps
-un_branches nested [] = none
-un_branches nested (b ∷ bs) = joined (nested b) (un_branches nested bs)
-
-abbrev pub without_block : Aggregate → Gathering
-without_block a = record { key = a.key; strategy = a.strategy; predicate = a.predicate; size = a.size; timeout = a.timeout; force = a.force }
-
--- the name of a repository, or none where it is the block's own
-abbrev pub name_given : ℕ → List ℕ → Option (List ℕ)
-name_given b repository = cond (bytes_eq repository (own_repository b)) None (Some repository)
-
-abbrev pub un_step : (ℕ → NestedSteps) → Step → NestedStep
-un_step nested (step.SetBody e) = sets_body e
-un_step nested (step.SetHeader name e) = sets_header name e
-un_step nested (step.SetProperty name e) = sets_property name e
-un_step nested (step.RemoveHeader name) = removes_header name
-un_step nested (step.To u) = goes_to u
-un_step nested (step.Log name message) = logs name message
-un_step nested (step.Throw kind message) = throws kind message
-un_step nested (step.Process name) = processes name
-un_step nested (step.Choice cs l) = chooses (un_cases nested cs) (un_last nested l)
-un_step nested (step.Filter check b) = filters check (nested b)
-un_step nested (step.Split how fan b) = splits how fan (nested b)
-un_step nested (step.Multicast fan bs) = multicasts fan (un_branches nested bs)
-un_step nested (step.Recipients e delimiter fan) = sends_to_list e delimiter fan
-un_step nested (step.Aggregate a) = aggregates (without_block a) (nested a.block)
-un_step nested (step.Idempotent e repository skip eager remove b) = runs_once e (name_given b repository) skip eager remove (nested b)
 
 abbrev pub un_steps : (ℕ → NestedSteps) → List Step → NestedSteps
 un_steps nested [] = none

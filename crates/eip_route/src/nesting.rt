@@ -147,15 +147,7 @@ fn find_in_step(blocks: &[Block], wanted: Wanted, step: &Step) -> Option<u32>
             blocks: branches,
             ..
         } => find_in_branches(blocks, wanted, branches.items()),
-        Step::SetBody(_)
-        | Step::SetHeader { .. }
-        | Step::SetProperty { .. }
-        | Step::RemoveHeader(_)
-        | Step::To(_)
-        | Step::Log { .. }
-        | Step::Throw { .. }
-        | Step::Process(_)
-        | Step::Recipients { .. } => None,
+        _ => None,
     }
 }
 

@@ -24,9 +24,9 @@ use Rattle.eip_route_grammar.specs.declared.table.Rule.TheVariants as rule
 use Rattle.eip_route_validity.specs.Fit.{ClauseFits, DeadFits, HandlerFits, RouteFits, SetFits}
 use Rattle.eip_route_canonical.specs.Canonical.{Pairs, object_of, list_of, one, words, where_any, steps_json, last_json, clause_json, route_json, policy_pairs, policy_in, default_items, dead_items, handler_items, clauses_json, routes_json}
 use Rattle.eip_route_again.proofs.Fine.{Fine, MayBeFine, ItemsFine, no_items_fine, item_fine, word_fine, object_fine, alone_fine}
-use Rattle.eip_route_again.proofs.FineBlocks.{block_fine, filled_list_fine}
+use Rattle.eip_route_again.proofs.Frames.{block_fine, filled_list_fine}
 use Rattle.eip_route_again.proofs.FineNested.{steps_fine, last_fine}
-use Rattle.eip_route_again.proofs.FineSteps.{named_fine}
+use Rattle.eip_route_again.proofs.Leaves.{named_fine}
 use Rattle.eip_route_again.proofs.Keyed.{keys_fine}
 use Rattle.eip_route_again.proofs.Objects.{object_value, policy_slots, policy_puts, dead_slots, dead_puts, clause_slots, clause_puts}
 use Rattle.eip_route_again.proofs.Sets.{outcome_again}

@@ -3,7 +3,7 @@ pub mod Ordered
 pub mod OrderedParts
 pub mod OrderedSteps
 pub mod OrderedFile
-pub mod NamedSteps
+pub mod FormedSteps
 pub mod ReadAgain
 pub mod Slots
 pub mod Keyed
@@ -11,13 +11,11 @@ pub mod Fine
 pub mod Objects
 pub mod Nested
 pub mod Parts
-pub mod Steps
-pub mod Blocks
+pub mod Leaves
+pub mod Frames
 pub mod Again
 pub mod Sets
 pub mod Values
-pub mod FineSteps
-pub mod FineBlocks
 pub mod FineNested
 pub mod FineItems
 pub mod FineLater

@@ -16,7 +16,7 @@ use Rattle.eip_route_canonical.specs.Canonical.{list_of, set_items, set_json, ca
 use Rattle.eip_route_print.proofs.Floats.{floatless}
 use Rattle.eip_route_again.proofs.LineRead.{line_read}
 use Rattle.eip_route_again.proofs.OrderedFile.{set_canonical, set_shallow}
-use Rattle.eip_route_again.proofs.NamedSteps.{back_fitting}
+use Rattle.eip_route_again.proofs.FormedSteps.{back_fitting}
 
 -- ---- bytes without a fault
 
@@ -35,10 +35,6 @@ tree_of n (Some t) h = (t, (refl, h))
 bytes_tree : (n : Names) (bytes : List ℕ) → first_fault (byte_sites n bytes) ≡ None → (t : Json) × ((json_read bytes ≡ Some t) × (first_fault (file_sites n t) ≡ None))
 unfolding byte_sites
 bytes_tree n bytes h = tree_of n (json_read bytes) (not_long (is_too_long bytes) (tree_sites n (json_read bytes)) h)
-
-tree_sites_of : (n : Names) (text : List ℕ) (j : Json) → is_too_long text ≡ false → json_read text ≡ Some j → byte_sites n text ≡ file_sites n j
-unfolding byte_sites
-tree_sites_of n text j short e = ap (λ b. if b then whole_file cause.TooLong else tree_sites n (json_read text)) short ∙ ap (tree_sites n) e
 
 tree_set_of : (n : Names) (bytes : List ℕ) (t : Json) → json_read bytes ≡ Some t → set_of n bytes ≡ flat_set n (nest t)
 unfolding set_of
@@ -64,14 +60,15 @@ pub read_again :
     ((n : Names) (t : Json) → first_fault (file_sites n t) ≡ None → SetFits n (nest t)) →
     ((n : Names) (x : NestedSet) → SetFits n x → nest (list_of (set_items x)) ≡ x) →
     ((n : Names) (x : NestedSet) → SetFits n x → first_fault (file_sites n (list_of (set_items x))) ≡ None) →
-    (names : Names) (bytes text : List ℕ) → first_fault (byte_sites names bytes) ≡ None → text ≡ canonical_text (set_of names bytes) → IsUtf8 text → is_too_long text ≡ false →
-    (first_fault (byte_sites names text) ≡ None) × (set_of names text ≡ set_of names bytes)
-read_again file_fits nested_again faultless_again names bytes text faultless printed utf8 short =
+    (names : Names) (bytes text : List ℕ) → first_fault (byte_sites names bytes) ≡ None → text ≡ canonical_text (set_of names bytes) → IsUtf8 text →
+    (tree : Json) × (json_read text ≡ Some tree) × (first_fault (file_sites names tree) ≡ None) × (flat_set names (nest tree) ≡ set_of names bytes)
+read_again file_fits nested_again faultless_again names bytes text faultless printed utf8 =
     let tree = bytes_tree names bytes faultless in
     let x = nest tree.0 in
     let fits : SetFits names x = file_fits names tree.0 tree.1.1 in
-    let set : set_of names bytes ≡ flat_set names x = tree_set_of names bytes tree.0 tree.1.0 in
-    let read : json_read text ≡ Some (list_of (set_items x)) = text_read names x text fits (printed ∙ ap canonical_text set) utf8 in (
-      ap first_fault (tree_sites_of names text (list_of (set_items x)) short read) ∙ faultless_again names x fits,
-      tree_set_of names text (list_of (set_items x)) read ∙ ap (flat_set names) (nested_again names x fits) ∙ sym set,
+    let set : set_of names bytes ≡ flat_set names x = tree_set_of names bytes tree.0 tree.1.0 in (
+      list_of (set_items x),
+      text_read names x text fits (printed ∙ ap canonical_text set) utf8,
+      faultless_again names x fits,
+      ap (flat_set names) (nested_again names x fits) ∙ sym set,
     )

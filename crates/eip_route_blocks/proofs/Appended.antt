@@ -3,18 +3,14 @@ use Rattle.std.proofs.Common.{ℕ, List, ◌++◌}
 use Rattle.eip_exchange.specs.declared.setting.Clause.{Clause}
 use Rattle.eip_route.specs.declared.route.Block.{Block}
 use Rattle.eip_route.specs.declared.route.Route.{Route}
-use Rattle.eip_route.specs.declared.step.Check.{Check}
 use Rattle.eip_route.specs.declared.step.Step.{Step}
-use Rattle.eip_route.specs.Nest.{FlatSteps, FlatCases, FlatBranches, FlatClauses, FlatRoutes}
+use Rattle.eip_route.specs.Nest.{FlatSteps, FlatGroups, FlatClauses, FlatRoutes}
 
 abbrev pub with_steps : List Step → List Block → FlatSteps → FlatSteps
 with_steps ss bs r = record { steps = ss ++ r.steps; blocks = bs ++ r.blocks }
 
-abbrev pub with_cases : List (Check × ℕ) → List Block → FlatCases → FlatCases
-with_cases cs bs r = record { cases = cs ++ r.cases; blocks = bs ++ r.blocks }
-
-abbrev pub with_branches : List ℕ → List Block → FlatBranches → FlatBranches
-with_branches ns bs r = record { numbers = ns ++ r.numbers; blocks = bs ++ r.blocks }
+abbrev pub with_groups : List ℕ → List Block → FlatGroups → FlatGroups
+with_groups ns bs r = record { numbers = ns ++ r.numbers; blocks = bs ++ r.blocks }
 
 abbrev pub with_clauses : List Clause → List Block → FlatClauses → FlatClauses
 with_clauses cs bs r = record { clauses = cs ++ r.clauses; blocks = bs ++ r.blocks }

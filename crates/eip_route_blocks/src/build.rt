@@ -1,26 +1,58 @@
-#![tactic(auto, using(eip_text::proofs::Levels::json_levels))]
+#![tactic(auto, using(eip_text::proofs::Levels::json_levels, crate::proofs::Groups::grouped))]
 
-ghost use Rattle.std.specs.Prelude.{◌≡◌, [], IfOk};
+ghost use Rattle.std.specs.Prelude.{◌≡◌, [], ◌∷◌, IfOk};
 ghost use Rattle.eip_text.specs.Json.{json, items_json, members_json};
 ghost use Rattle.eip_route.specs.Nest as nest;
-ghost use Rattle.eip_route_values.specs.Built.{IsStep, AreSteps, AreCases, AreBranches};
+ghost use Rattle.eip_route_values.specs.Built.{IsStep, AreSteps, AreGroups};
 ghost use Rattle.eip_route_values.specs.Nesting as spec;
+ghost use Rattle.eip_route_values.specs.Places.{places};
 
-use crate::holders::{aggregate, filter, idempotent, multicast, split};
-use eip_route::{Block, Check, Step};
+use crate::frames::step_of;
+use eip_route::{Block, Step};
 use eip_route_grammar::keys::Key;
 use eip_route_grammar::known::Known;
 use eip_route_values::built::{
-    BuiltBranches, BuiltCases, BuiltStep, BuiltSteps, after, branch, empty_block, headed, number_at,
+    BuiltGroups, BuiltStep, BuiltSteps, after, branch, empty_block, headed,
 };
-use eip_route_values::kinds::StepKind;
-use eip_route_values::parts::check_in;
-use eip_route_values::steps::{
-    log, nothing, process, recipients, remove_header, set_body, set_header, set_property,
-    text_step, throw, to,
-};
-use eip_text::{NoMemory, Series, Text, Tree};
+use eip_route_values::places::{Place, step_key};
+use eip_route_values::steps::{nothing, text_said};
+use eip_text::{NoMemory, Text, Tree};
 use std::alloc::Global;
+
+/// A step that holds no others.
+fn bare(alloc: Global, step: Step) -> Result<BuiltStep, NoMemory>
+    ensures { IfOk result (λ b. IsStep b (record { step = step; blocks = [] })) }
+{
+    Ok(BuiltStep {
+        step,
+        blocks: Vec::new(alloc),
+    })
+}
+
+/// What stands for no step, in a file with a fault.
+fn no_step(alloc: Global) -> Result<BuiltStep, NoMemory>
+    ensures { IfOk result (λ b. IsStep b (record { step = spec.no_step; blocks = [] })) }
+{
+    bare(alloc, nothing(alloc)?)
+}
+
+fn no_groups(alloc: Global) -> BuiltGroups
+    ensures { AreGroups result (record { numbers = []; blocks = [] }) }
+{
+    BuiltGroups {
+        numbers: Vec::new(alloc),
+        blocks: Vec::new(alloc),
+    }
+}
+
+/// One group, with the block of its steps and those nested in it.
+fn one_group(alloc: Global, n: u32, blocks: Vec<Block>) -> Result<BuiltGroups, NoMemory>
+    ensures { IfOk result (λ b. AreGroups b (record { numbers = n ∷ []; blocks = blocks.items })) }
+{
+    let mut numbers = Vec::new(alloc);
+    numbers.push(n)?;
+    Ok(BuiltGroups { numbers, blocks })
+}
 
 /// The block of a list of steps, with the number n, and those nested in it.
 #[cycle(build)]
@@ -80,12 +112,12 @@ fn build_step(alloc: Global, n: u32, known: &mut Known, tree: &Tree) -> Result<B
             let step = build_only(alloc, n, known, members.items())?;
             Ok(step)
         }
-        Tree::Null => nothing(alloc),
-        Tree::Flag(_) => nothing(alloc),
-        Tree::Whole(_) => nothing(alloc),
-        Tree::Float => nothing(alloc),
-        Tree::Word(_) => nothing(alloc),
-        Tree::List(_) => nothing(alloc),
+        Tree::Null => no_step(alloc),
+        Tree::Flag(_) => no_step(alloc),
+        Tree::Whole(_) => no_step(alloc),
+        Tree::Float => no_step(alloc),
+        Tree::Word(_) => no_step(alloc),
+        Tree::List(_) => no_step(alloc),
     }
 }
 
@@ -99,116 +131,96 @@ fn build_only(
     ensures { IfOk result (λ b. IsStep b (nest.flat_step n (spec.nest_only (members_json members.now)))) }
 {
     for member in members {
-        let kind = StepKind::of(member.0.as_str());
-        let step = build_kind(alloc, n, known, kind, &member.1)?;
+        let key = step_key(member.0.as_str());
+        let step = build_value(alloc, n, known, key, &member.1)?;
         return Ok(step);
     }
-    nothing(alloc)
+    no_step(alloc)
 }
 
 #[cycle(build)]
-fn build_kind(
+fn build_value(
     alloc: Global,
     n: u32,
     known: &mut Known,
-    kind: Option<StepKind>,
+    key: Option<Key>,
     tree: &Tree,
 ) -> Result<BuiltStep, NoMemory>
-    ensures { IfOk result (λ b. IsStep b (nest.flat_step n (spec.nest_kind kind (json tree.now)))) }
+    ensures { IfOk result (λ b. IsStep b (nest.flat_step n (spec.nest_value key (json tree.now)))) }
 {
-    let Some(kind) = kind else {
-        return nothing(alloc);
+    let Some(key) = key else {
+        return no_step(alloc);
     };
     match tree {
-        Tree::Object(members) => {
-            let step = build_object(alloc, n, known, kind, members.items())?;
-            Ok(step)
-        }
-        Tree::Word(text) => text_step(alloc, n, kind, text.as_str()),
-        Tree::Null => nothing(alloc),
-        Tree::Flag(_) => nothing(alloc),
-        Tree::Whole(_) => nothing(alloc),
-        Tree::Float => nothing(alloc),
-        Tree::List(_) => nothing(alloc),
+        Tree::Object(members) => Ok(build_object(alloc, n, known, key, members.items())?),
+        Tree::Word(text) => bare(alloc, text_said(alloc, key, text.as_str())?),
+        Tree::Null => no_step(alloc),
+        Tree::Flag(_) => no_step(alloc),
+        Tree::Whole(_) => no_step(alloc),
+        Tree::Float => no_step(alloc),
+        Tree::List(_) => no_step(alloc),
     }
 }
 
-/// A step that is given by an object.
+/// A step that is given by an object: first the blocks of the steps that it holds.
 #[cycle(build)]
 fn build_object(
     alloc: Global,
     n: u32,
     known: &mut Known,
-    kind: StepKind,
+    key: Key,
     members: &[(Text, Tree)],
 ) -> Result<BuiltStep, NoMemory>
     ensures { let ms = members_json members.now in
-        let step = spec.object_step kind ms (spec.nest_in ms) (spec.nest_cases_in ms) (spec.nest_last_in ms) in
+        let step = spec.with_groups (spec.said key ms) (spec.at_places (spec.nest_at ms) (places key)) in
         IfOk result (λ b. IsStep b (nest.flat_step n step)) }
 {
-    match kind {
-        StepKind::SetBody => set_body(alloc, members),
-        StepKind::SetHeader => set_header(alloc, members),
-        StepKind::SetProperty => set_property(alloc, members),
-        StepKind::RemoveHeader => remove_header(alloc, members),
-        StepKind::To => to(alloc, members),
-        StepKind::Log => log(alloc, members),
-        StepKind::ThrowException => throw(alloc, members),
-        StepKind::Process => process(alloc, members),
-        StepKind::Choice => Ok(build_choice(alloc, n, known, members)?),
-        StepKind::Filter => filter(
-            alloc,
-            n,
-            build_in(alloc, n, known, members)?,
-            known,
-            members,
-        ),
-        StepKind::Split => split(alloc, n, build_in(alloc, n, known, members)?, members),
-        StepKind::Multicast => multicast(
-            alloc,
-            build_branches_in(alloc, n, known, members)?,
-            members,
-        ),
-        StepKind::RecipientList => recipients(alloc, members),
-        StepKind::Aggregate => aggregate(
-            alloc,
-            n,
-            build_in(alloc, n, known, members)?,
-            known,
-            members,
-        ),
-        StepKind::IdempotentConsumer => idempotent(
-            alloc,
-            n,
-            build_in(alloc, n, known, members)?,
-            members,
-        ),
+    let BuiltGroups { numbers, blocks } = build_places(alloc, n, known, Place::of(key), members)?;
+    let step = step_of(alloc, known, key, members, numbers)?;
+    Ok(BuiltStep { step, blocks })
+}
+
+/// The groups of steps that an object holds at these places.
+#[cycle(build)]
+fn build_places(
+    alloc: Global,
+    first: u32,
+    known: &mut Known,
+    places: &[Place],
+    members: &[(Text, Tree)],
+) -> Result<BuiltGroups, NoMemory>
+    ensures { let groups = spec.at_places (spec.nest_at (members_json members.now)) places.now in
+        IfOk result (λ b. AreGroups b (nest.flat_groups first groups)) }
+{
+    let mut numbers = Vec::new(alloc);
+    let mut blocks = Vec::new(alloc);
+    let mut n = first;
+    for place in places {
+        let mut more = build_place(alloc, n, known, *place, members)?;
+        n = after(n, more.blocks.len())?;
+        numbers.append(&mut more.numbers)?;
+        blocks.append(&mut more.blocks)?;
     }
+    Ok(BuiltGroups { numbers, blocks })
 }
 
 #[cycle(build)]
-fn build_choice(
+fn build_place(
     alloc: Global,
     n: u32,
     known: &mut Known,
+    place: Place,
     members: &[(Text, Tree)],
-) -> Result<BuiltStep, NoMemory>
-    ensures { let ms = members_json members.now in
-        let step = nest.chooses (spec.nest_cases_in ms) (spec.nest_last_in ms) in
-        IfOk result (λ b. IsStep b (nest.flat_step n step)) }
+) -> Result<BuiltGroups, NoMemory>
+    ensures { let groups = spec.nest_at (members_json members.now) place in
+        IfOk result (λ b. AreGroups b (nest.flat_groups n groups)) }
 {
-    let BuiltCases { cases, mut blocks } = build_cases_in(alloc, n, known, members)?;
-    let m = after(n, blocks.len())?;
-    let mut last = build_last_in(alloc, m, known, members)?;
-    let otherwise = number_at(m, last.as_slice());
-    blocks.append(&mut last)?;
-    Ok(BuiltStep {
-        step: Step::Choice {
-            cases: Series::of(cases),
-            otherwise,
-        },
-        blocks,
-    })
+    match place {
+        Place::Steps => one_group(alloc, n, build_in(alloc, n, known, members)?),
+        Place::Branches => Ok(build_branches_in(alloc, n, known, members)?),
+        Place::Each(key) => Ok(build_each_in(alloc, n, known, key, members)?),
+        Place::One(key) => Ok(build_one_in(alloc, n, known, key, members)?),
+    }
 }
 
 /// The block of an object's `steps`, and those nested in it.
@@ -231,102 +243,15 @@ fn build_in(
     empty_block(alloc)
 }
 
+/// The block of the `steps` of an object by its value, and those nested in it.
 #[cycle(build)]
-fn build_cases_in(
-    alloc: Global,
-    n: u32,
-    known: &mut Known,
-    members: &[(Text, Tree)],
-) -> Result<BuiltCases, NoMemory>
-    ensures { IfOk result (λ b. AreCases b
-        (nest.flat_cases n (spec.nest_cases_in (members_json members.now)))) }
-{
-    for member in members {
-        if Key::When.is(member.0.as_str()) {
-            let cases = build_case_list(alloc, n, known, &member.1)?;
-            return Ok(cases);
-        }
-    }
-    Ok(no_cases(alloc))
-}
-
-fn no_cases(alloc: Global) -> BuiltCases
-    ensures { AreCases result (record { cases = []; blocks = [] }) }
-{
-    BuiltCases {
-        cases: Vec::new(alloc),
-        blocks: Vec::new(alloc),
-    }
-}
-
-#[cycle(build)]
-fn build_case_list(
+fn build_inner(
     alloc: Global,
     n: u32,
     known: &mut Known,
     tree: &Tree,
-) -> Result<BuiltCases, NoMemory>
-    ensures { IfOk result (λ b. AreCases b (nest.flat_cases n (spec.nest_case_list (json tree.now)))) }
-{
-    match tree {
-        Tree::List(items) => Ok(build_cases(alloc, n, known, items.items())?),
-        Tree::Null => Ok(no_cases(alloc)),
-        Tree::Flag(_) => Ok(no_cases(alloc)),
-        Tree::Whole(_) => Ok(no_cases(alloc)),
-        Tree::Float => Ok(no_cases(alloc)),
-        Tree::Word(_) => Ok(no_cases(alloc)),
-        Tree::Object(_) => Ok(no_cases(alloc)),
-    }
-}
-
-#[cycle(build)]
-fn build_cases(
-    alloc: Global,
-    first: u32,
-    known: &mut Known,
-    items: &[Tree],
-) -> Result<BuiltCases, NoMemory>
-    ensures { IfOk result (λ b. AreCases b
-        (nest.flat_cases first (spec.nest_cases (items_json items.now)))) }
-{
-    let mut cases = Vec::new(alloc);
-    let mut blocks = Vec::new(alloc);
-    let mut n = first;
-    for item in items {
-        let check = case_check(alloc, known, item)?;
-        let mut more = build_case(alloc, n, known, item)?;
-        cases.push((check, n))?;
-        n = after(n, more.len())?;
-        blocks.append(&mut more)?;
-    }
-    Ok(BuiltCases { cases, blocks })
-}
-
-fn stored_nothing(alloc: Global) -> Result<Check, NoMemory>
-    ensures { IfOk result (λ c. c ≡ Check.Stored []) }
-{
-    Ok(Check::Stored(Text::of_str(alloc, "")?))
-}
-
-/// What a case of a choice asks.
-fn case_check(alloc: Global, known: &mut Known, tree: &Tree) -> Result<Check, NoMemory>
-    ensures { IfOk result (λ c. c ≡ spec.case_check (json tree.now)) }
-{
-    match tree {
-        Tree::Object(members) => check_in(alloc, known, members.items()),
-        Tree::Null => stored_nothing(alloc),
-        Tree::Flag(_) => stored_nothing(alloc),
-        Tree::Whole(_) => stored_nothing(alloc),
-        Tree::Float => stored_nothing(alloc),
-        Tree::Word(_) => stored_nothing(alloc),
-        Tree::List(_) => stored_nothing(alloc),
-    }
-}
-
-/// The block of an object of a choice, and those nested in it.
-#[cycle(build)]
-fn build_case(alloc: Global, n: u32, known: &mut Known, tree: &Tree) -> Result<Vec<Block>, NoMemory>
-    ensures { IfOk result (λ bs. bs.items ≡ nest.flat_block n (spec.nest_case (json tree.now))) }
+) -> Result<Vec<Block>, NoMemory>
+    ensures { IfOk result (λ bs. bs.items ≡ nest.flat_block n (spec.nest_inner (json tree.now))) }
 {
     match tree {
         Tree::Object(members) => Ok(build_in(alloc, n, known, members.items())?),
@@ -339,35 +264,15 @@ fn build_case(alloc: Global, n: u32, known: &mut Known, tree: &Tree) -> Result<V
     }
 }
 
-/// The block of `otherwise`, where it is there, and those nested in it.
-#[cycle(build)]
-fn build_last_in(
-    alloc: Global,
-    n: u32,
-    known: &mut Known,
-    members: &[(Text, Tree)],
-) -> Result<Vec<Block>, NoMemory>
-    ensures { IfOk result (λ bs. bs.items
-        ≡ nest.flat_last n (spec.nest_last_in (members_json members.now))) }
-{
-    for member in members {
-        if Key::Otherwise.is(member.0.as_str()) {
-            let blocks = build_case(alloc, n, known, &member.1)?;
-            return Ok(blocks);
-        }
-    }
-    Ok(Vec::new(alloc))
-}
-
 #[cycle(build)]
 fn build_branches_in(
     alloc: Global,
     n: u32,
     known: &mut Known,
     members: &[(Text, Tree)],
-) -> Result<BuiltBranches, NoMemory>
-    ensures { IfOk result (λ b. AreBranches b
-        (nest.flat_branches n (spec.nest_in (members_json members.now)))) }
+) -> Result<BuiltGroups, NoMemory>
+    ensures { IfOk result (λ b. AreGroups b
+        (nest.flat_groups n (spec.nest_branches_in (members_json members.now)))) }
 {
     for member in members {
         if Key::Steps.is(member.0.as_str()) {
@@ -375,16 +280,7 @@ fn build_branches_in(
             return Ok(branches);
         }
     }
-    Ok(no_branches(alloc))
-}
-
-fn no_branches(alloc: Global) -> BuiltBranches
-    ensures { AreBranches result (record { numbers = []; blocks = [] }) }
-{
-    BuiltBranches {
-        numbers: Vec::new(alloc),
-        blocks: Vec::new(alloc),
-    }
+    Ok(no_groups(alloc))
 }
 
 #[cycle(build)]
@@ -393,17 +289,17 @@ fn build_branch_list(
     n: u32,
     known: &mut Known,
     tree: &Tree,
-) -> Result<BuiltBranches, NoMemory>
-    ensures { IfOk result (λ b. AreBranches b (nest.flat_branches n (spec.nest_list (json tree.now)))) }
+) -> Result<BuiltGroups, NoMemory>
+    ensures { IfOk result (λ b. AreGroups b (nest.flat_groups n (spec.nest_branch_list (json tree.now)))) }
 {
     match tree {
         Tree::List(items) => Ok(build_branches(alloc, n, known, items.items())?),
-        Tree::Null => Ok(no_branches(alloc)),
-        Tree::Flag(_) => Ok(no_branches(alloc)),
-        Tree::Whole(_) => Ok(no_branches(alloc)),
-        Tree::Float => Ok(no_branches(alloc)),
-        Tree::Word(_) => Ok(no_branches(alloc)),
-        Tree::Object(_) => Ok(no_branches(alloc)),
+        Tree::Null => Ok(no_groups(alloc)),
+        Tree::Flag(_) => Ok(no_groups(alloc)),
+        Tree::Whole(_) => Ok(no_groups(alloc)),
+        Tree::Float => Ok(no_groups(alloc)),
+        Tree::Word(_) => Ok(no_groups(alloc)),
+        Tree::Object(_) => Ok(no_groups(alloc)),
     }
 }
 
@@ -414,9 +310,9 @@ fn build_branches(
     first: u32,
     known: &mut Known,
     items: &[Tree],
-) -> Result<BuiltBranches, NoMemory>
-    ensures { IfOk result (λ b. AreBranches b
-        (nest.flat_branches first (spec.nest_steps (items_json items.now)))) }
+) -> Result<BuiltGroups, NoMemory>
+    ensures { IfOk result (λ b. AreGroups b
+        (nest.flat_groups first (spec.nest_branches (items_json items.now)))) }
 {
     let mut numbers = Vec::new(alloc);
     let mut blocks = Vec::new(alloc);
@@ -428,5 +324,89 @@ fn build_branches(
         n = after(n, more.len())?;
         blocks.append(&mut more)?;
     }
-    Ok(BuiltBranches { numbers, blocks })
+    Ok(BuiltGroups { numbers, blocks })
+}
+
+#[cycle(build)]
+fn build_each_in(
+    alloc: Global,
+    n: u32,
+    known: &mut Known,
+    key: Key,
+    members: &[(Text, Tree)],
+) -> Result<BuiltGroups, NoMemory>
+    ensures { IfOk result (λ b. AreGroups b
+        (nest.flat_groups n (spec.nest_each_in key (members_json members.now)))) }
+{
+    for member in members {
+        if key.is(member.0.as_str()) {
+            let groups = build_each_list(alloc, n, known, &member.1)?;
+            return Ok(groups);
+        }
+    }
+    Ok(no_groups(alloc))
+}
+
+#[cycle(build)]
+fn build_each_list(
+    alloc: Global,
+    n: u32,
+    known: &mut Known,
+    tree: &Tree,
+) -> Result<BuiltGroups, NoMemory>
+    ensures { IfOk result (λ b. AreGroups b (nest.flat_groups n (spec.nest_each_list (json tree.now)))) }
+{
+    match tree {
+        Tree::List(items) => Ok(build_each(alloc, n, known, items.items())?),
+        Tree::Null => Ok(no_groups(alloc)),
+        Tree::Flag(_) => Ok(no_groups(alloc)),
+        Tree::Whole(_) => Ok(no_groups(alloc)),
+        Tree::Float => Ok(no_groups(alloc)),
+        Tree::Word(_) => Ok(no_groups(alloc)),
+        Tree::Object(_) => Ok(no_groups(alloc)),
+    }
+}
+
+/// The `steps` of each object as a block.
+#[cycle(build)]
+fn build_each(
+    alloc: Global,
+    first: u32,
+    known: &mut Known,
+    items: &[Tree],
+) -> Result<BuiltGroups, NoMemory>
+    ensures { IfOk result (λ b. AreGroups b
+        (nest.flat_groups first (spec.nest_each (items_json items.now)))) }
+{
+    let mut numbers = Vec::new(alloc);
+    let mut blocks = Vec::new(alloc);
+    let mut n = first;
+    for item in items {
+        let mut more = build_inner(alloc, n, known, item)?;
+        numbers.push(n)?;
+        n = after(n, more.len())?;
+        blocks.append(&mut more)?;
+    }
+    Ok(BuiltGroups { numbers, blocks })
+}
+
+/// The block of the `steps` of a key's object, where it is there.
+#[cycle(build)]
+fn build_one_in(
+    alloc: Global,
+    n: u32,
+    known: &mut Known,
+    key: Key,
+    members: &[(Text, Tree)],
+) -> Result<BuiltGroups, NoMemory>
+    ensures { IfOk result (λ b. AreGroups b
+        (nest.flat_groups n (spec.nest_one_in key (members_json members.now)))) }
+{
+    for member in members {
+        if key.is(member.0.as_str()) {
+            let blocks = build_inner(alloc, n, known, &member.1)?;
+            return one_group(alloc, n, blocks);
+        }
+    }
+    Ok(no_groups(alloc))
 }

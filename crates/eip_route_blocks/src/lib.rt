@@ -2,6 +2,6 @@
 #![tactic(auto)]
 
 pub mod build;
-mod holders;
+mod frames;
 
 pub use build::build_list;

@@ -5,7 +5,7 @@ use Rattle.eip_text.specs.declared.tree.Tree.{Tree}
 use Rattle.eip_text.specs.declared.tree.Tree.TheVariants as tree
 use Rattle.eip_text.proofs.Levels.{json_list, json_object, json_flag, json_whole, json_word}
 use Rattle.eip_route_canonical.specs.Canonical.{is_none}
-use Rattle.eip_route_canonical.specs.Trees.{pairs_of, values_of}
+use Rattle.eip_route_canonical.specs.Trees.{pairs_of, values_of, groups_of}
 
 members_same : (ms : List (List ℕ × Tree)) → members_json ms ≡ members_of (pairs_of ms)
 members_same [] = refl
@@ -29,6 +29,10 @@ pub values_push : (ts us : List Tree) → values_of (ts ++ us) ≡ values_of ts 
 values_push [] us = refl
 values_push (t ∷ ts) us = ap (λ js. json t ∷ js) (values_push ts us)
 
+pub groups_push : (gs hs : List (List Tree)) → groups_of (gs ++ hs) ≡ groups_of gs ++ groups_of hs
+groups_push [] hs = refl
+groups_push (ts ∷ gs) hs = ap (λ gs. values_of ts ∷ gs) (groups_push gs hs)
+
 pub one_more : (ts : List Tree) (t : Tree) (js : List Json) → values_of (ts ++ t ∷ []) ++ js ≡ values_of ts ++ (json t ∷ js)
 one_more [] t js = refl
 one_more (u ∷ ts) t js = ap (λ ks. json u ∷ ks) (one_more ts t js)
@@ -37,4 +41,4 @@ pub none_made : (ms : List (List ℕ × Tree)) (n : ℕ) → n ≡ length ms →
 none_made [] n e = rw e refl
 none_made (m ∷ ms) n e = rw e (search rules)
 
-pub ruleset trees = (object_tree, list_tree, pairs_push, values_push, one_more, json_flag, json_whole, json_word)
+pub ruleset trees = (object_tree, list_tree, pairs_push, values_push, groups_push, one_more, json_flag, json_whole, json_word)

@@ -12,7 +12,7 @@ use Rattle.eip_text.specs.Json.{Json, flag, whole, word, list, object, items_of,
 use Rattle.eip_text.specs.JsonText.{json_text}
 use Rattle.eip_uri.specs.Printed.{printed}
 use Rattle.eip_uri.specs.declared.uri.Uri.{Uri}
-use Rattle.eip_route.specs.Nest.{Gathering, NestedStep, NestedSteps, NestedCases, NestedLast, NestedClause, NestedRoute, NestedSet, sets_body, sets_header, sets_property, removes_header, goes_to, logs, throws, processes, chooses, filters, splits, multicasts, sends_to_list, aggregates, runs_once, none, more, no_case, more_case, no_last, last, un_set}
+use Rattle.eip_route.specs.Nest.{Gathering, Frame, chooses, filters, splits, multicasts, aggregates, runs_once, NestedStep, NestedSteps, NestedGroups, NestedLast, NestedClause, NestedRoute, NestedSet, leaf, holds, none, more, no_group, group, no_last, last, rest_of, past, held, un_set}
 use Rattle.eip_route.specs.declared.route.Handler.{Handler}
 use Rattle.eip_route.specs.declared.route.RouteSet.{RouteSet}
 use Rattle.eip_route.specs.declared.step.Check.{Check}
@@ -20,6 +20,8 @@ use Rattle.eip_route.specs.declared.step.Check.TheVariants as check
 use Rattle.eip_route.specs.declared.step.Expr.{Expr}
 use Rattle.eip_route.specs.declared.step.Expr.TheVariants as expr
 use Rattle.eip_route.specs.declared.step.Fan.{Fan}
+use Rattle.eip_route.specs.declared.step.Step.{Step}
+use Rattle.eip_route.specs.declared.step.Step.TheVariants as step
 
 -- ---- the members of an object, in their order
 
@@ -218,6 +220,55 @@ abbrev pub otherwise_pairs : Option Json → Pairs
 otherwise_pairs None = []
 otherwise_pairs (Some steps) = one (codes "otherwise") (alone (codes "steps") steps)
 
+-- ---- by the printed steps of each group
+
+abbrev pub first_json : List (List Json) → List Json
+first_json [] = []
+first_json (js ∷ gs) = js
+
+-- those of all groups, one behind the other
+abbrev pub all_json : List (List Json) → List Json
+all_json [] = []
+all_json (js ∷ gs) = js ++ all_json gs
+
+-- each case with a group
+abbrev pub cases_json : List Check → List (List Json) → List Json
+cases_json [] gs = []
+cases_json (c ∷ cs) gs = guarded_json c (list_of (first_json gs)) ∷ cases_json cs (rest_of gs)
+
+abbrev pub otherwise_json : Bool → List (List Json) → Option Json
+otherwise_json false gs = None
+otherwise_json true gs = Some (list_of (first_json gs))
+
+abbrev pub frame_json : Frame → List (List Json) → Json
+frame_json (chooses cs l) gs = choice_json (otherwise_pairs (otherwise_json l (past cs gs))) (list_of (cases_json cs gs))
+frame_json (filters check) gs = alone (codes "filter") (guarded_json check (list_of (first_json gs)))
+frame_json (splits how fan) gs = split_json how fan (list_of (first_json gs))
+frame_json (multicasts fan) gs = multicast_json fan (list_of (all_json gs))
+frame_json (aggregates g) gs = aggregate_json g (list_of (first_json gs))
+frame_json (runs_once e name skip eager remove) gs = idempotent_json e name skip eager remove (list_of (first_json gs))
+
+-- a step without blocks
+abbrev pub leaf_json : Step → Json
+leaf_json (step.SetBody e) = set_body_json e
+leaf_json (step.SetHeader name e) = named_value_json (codes "setHeader") name e
+leaf_json (step.SetProperty name e) = named_value_json (codes "setProperty") name e
+leaf_json (step.RemoveHeader name) = text_json (codes "removeHeader") name
+leaf_json (step.To u) = text_json (codes "to") (printed u)
+leaf_json (step.Log name message) = log_json name message
+leaf_json (step.Throw kind message) = throw_json kind message
+leaf_json (step.Process name) = text_json (codes "process") name
+leaf_json (step.Recipients e delimiter fan) = recipients_json e delimiter fan
+leaf_json _ = object_of []
+
+abbrev pub held_json : Step → Option (Frame × List ℕ) → List (List Json) → Json
+held_json s None gs = leaf_json s
+held_json s (Some r) gs = frame_json r.0 gs
+
+-- a step, where these are the printed steps of its blocks
+unfoldable pub step_with : Step → List (List Json) → Json
+step_with s gs = held_json s (held s) gs
+
 -- ---- nested
 
 abbrev mutual
@@ -226,29 +277,16 @@ abbrev mutual
   steps_json (more s ss) = step_json s ∷ steps_json ss
 
   pub step_json : NestedStep → Json
-  step_json (sets_body e) = set_body_json e
-  step_json (sets_header name e) = named_value_json (codes "setHeader") name e
-  step_json (sets_property name e) = named_value_json (codes "setProperty") name e
-  step_json (removes_header name) = text_json (codes "removeHeader") name
-  step_json (goes_to u) = text_json (codes "to") (printed u)
-  step_json (logs name message) = log_json name message
-  step_json (throws kind message) = throw_json kind message
-  step_json (processes name) = text_json (codes "process") name
-  step_json (chooses cs l) = choice_json (otherwise_pairs (last_json l)) (list_of (cases_json cs))
-  step_json (filters check ss) = alone (codes "filter") (guarded_json check (list_of (steps_json ss)))
-  step_json (splits how fan ss) = split_json how fan (list_of (steps_json ss))
-  step_json (multicasts fan ss) = multicast_json fan (list_of (steps_json ss))
-  step_json (sends_to_list e delimiter fan) = recipients_json e delimiter fan
-  step_json (aggregates g ss) = aggregate_json g (list_of (steps_json ss))
-  step_json (runs_once e name skip eager remove ss) = idempotent_json e name skip eager remove (list_of (steps_json ss))
+  step_json (leaf s) = leaf_json s
+  step_json (holds f gs) = frame_json f (groups_json gs)
 
-  pub cases_json : NestedCases → List Json
-  cases_json no_case = []
-  cases_json (more_case check ss cs) = guarded_json check (list_of (steps_json ss)) ∷ cases_json cs
+  pub groups_json : NestedGroups → List (List Json)
+  groups_json no_group = []
+  groups_json (group ss gs) = steps_json ss ∷ groups_json gs
 
-  pub last_json : NestedLast → Option Json
-  last_json no_last = None
-  last_json (last ss) = Some (list_of (steps_json ss))
+abbrev pub last_json : NestedLast → Option Json
+last_json no_last = None
+last_json (last ss) = Some (list_of (steps_json ss))
 
 -- ---- the file
 

@@ -1,28 +1,30 @@
 #![tactic(auto, using(crate::proofs::Objects::trees))]
 
-ghost use Rattle.std.specs.Prelude.{◌≡◌, ◌++◌, IfOk, OnOk, codes};
+ghost use Rattle.std.specs.Prelude.{◌≡◌, ◌++◌, Bool, IfOk, OnOk, codes};
 ghost use Rattle.std.specs.Option.{option_map};
 ghost use Rattle.eip_text.specs.Json.{json};
 ghost use Rattle.eip_uri.specs.Printed.{printed};
-ghost use Rattle.eip_route.specs.Nest.{without_block};
+ghost use Rattle.eip_route.specs.Faults.{case_numbers, step_numbers};
+ghost use Rattle.eip_route.specs.Nest.{chooses, checks_of, name_given, past, without_block};
 ghost use Rattle.eip_route_canonical.specs.Canonical as spec;
 ghost use Rattle.eip_route_canonical.specs.Trees as trees;
 
+use crate::groups::Groups;
 use crate::object::{Object, alone, word};
 use crate::parts::{
     expr_tree, put_check, put_constant, put_count, put_delimiter, put_group_strategy,
     put_json_path, put_named, put_predicate, put_simple, put_strategy, put_token,
 };
 use eip_exchange::How;
-use eip_route::{Aggregate, Check, Expr, Fan};
+use eip_route::{Aggregate, Check, Expr, Fan, Step, own_repository};
 use eip_simple_read::{Template, print_template};
-use eip_text::{NoMemory, Text, Tree};
+use eip_text::{NoMemory, Series, Text, Tree};
 use eip_uri::Uri;
 use std::alloc::Global;
 
 /// `setBody`.
 #[tactic(auto, unfolding(crate::specs::Canonical::set_body_json), using(crate::proofs::Objects::trees))]
-pub fn set_body(alloc: Global, value: &Expr) -> Result<Tree, NoMemory>
+fn set_body(alloc: Global, value: &Expr) -> Result<Tree, NoMemory>
     ensures { IfOk result (λ t. json t ≡ spec.set_body_json value.now) }
 {
     let value = expr_tree(alloc, value)?;
@@ -31,7 +33,7 @@ pub fn set_body(alloc: Global, value: &Expr) -> Result<Tree, NoMemory>
 
 /// `setHeader` or `setProperty`.
 #[tactic(auto, unfolding(crate::specs::Canonical::named_value_json), using(crate::proofs::Objects::trees))]
-pub fn set(alloc: Global, key: &str, name: &Text, value: &Expr) -> Result<Tree, NoMemory>
+fn set(alloc: Global, key: &str, name: &Text, value: &Expr) -> Result<Tree, NoMemory>
     ensures { IfOk result (λ t. json t ≡ spec.named_value_json key.now name.now value.now) }
 {
     let mut object = Object::new(alloc);
@@ -43,7 +45,7 @@ pub fn set(alloc: Global, key: &str, name: &Text, value: &Expr) -> Result<Tree, 
 }
 
 /// A step that is written as a text.
-pub fn step_of_text(alloc: Global, key: &str, text: &Text) -> Result<Tree, NoMemory>
+fn step_of_text(alloc: Global, key: &str, text: &Text) -> Result<Tree, NoMemory>
     ensures { IfOk result (λ t. json t ≡ spec.text_json key.now text.now) }
 {
     let text = word(text)?;
@@ -51,7 +53,7 @@ pub fn step_of_text(alloc: Global, key: &str, text: &Text) -> Result<Tree, NoMem
 }
 
 /// `to`.
-pub fn to(alloc: Global, uri: &Uri) -> Result<Tree, NoMemory>
+fn to(alloc: Global, uri: &Uri) -> Result<Tree, NoMemory>
     ensures { IfOk result (λ t. json t ≡ spec.text_json (codes "to") (printed uri.now)) }
 {
     let uri = uri.print(alloc)?;
@@ -60,7 +62,7 @@ pub fn to(alloc: Global, uri: &Uri) -> Result<Tree, NoMemory>
 
 /// `log`: a text where it has no name.
 #[tactic(auto, unfolding(crate::specs::Canonical::log_json), using(crate::proofs::Objects::trees))]
-pub fn log(alloc: Global, name: &Option<Text>, message: &Template) -> Result<Tree, NoMemory>
+fn log(alloc: Global, name: &Option<Text>, message: &Template) -> Result<Tree, NoMemory>
     ensures { IfOk result (λ t. json t ≡ spec.log_json name.now message.now) }
 {
     let message = print_template(alloc, message)?;
@@ -77,7 +79,7 @@ pub fn log(alloc: Global, name: &Option<Text>, message: &Template) -> Result<Tre
 
 /// `throwException`.
 #[tactic(auto, unfolding(crate::specs::Canonical::throw_json), using(crate::proofs::Objects::trees))]
-pub fn throw(alloc: Global, kind: &Text, message: &Template) -> Result<Tree, NoMemory>
+fn throw(alloc: Global, kind: &Text, message: &Template) -> Result<Tree, NoMemory>
     ensures { IfOk result (λ t. json t ≡ spec.throw_json kind.now message.now) }
 {
     let message = print_template(alloc, message)?;
@@ -89,7 +91,7 @@ pub fn throw(alloc: Global, kind: &Text, message: &Template) -> Result<Tree, NoM
 
 /// The check and the steps of a `filter` or of a case.
 #[tactic(auto, unfolding(crate::specs::Canonical::guarded_json), using(crate::proofs::Objects::trees))]
-pub fn guarded(alloc: Global, check: &Check, steps: Tree) -> Result<Tree, NoMemory>
+fn guarded(alloc: Global, check: &Check, steps: Tree) -> Result<Tree, NoMemory>
     ensures { IfOk result (λ t. json t ≡ spec.guarded_json check.now (json steps)) }
 {
     let mut object = Object::new(alloc);
@@ -99,37 +101,61 @@ pub fn guarded(alloc: Global, check: &Check, steps: Tree) -> Result<Tree, NoMemo
 }
 
 /// `filter`.
-pub fn filter(alloc: Global, check: &Check, steps: Tree) -> Result<Tree, NoMemory>
+fn filter(alloc: Global, check: &Check, steps: Tree) -> Result<Tree, NoMemory>
     ensures { IfOk result (λ t. json t ≡ spec.alone (codes "filter") (spec.guarded_json check.now (json steps))) }
 {
     let inner = guarded(alloc, check, steps)?;
     Ok(alone(alloc, "filter", inner)?)
 }
 
-fn otherwise(alloc: Global, steps: Option<Tree>) -> Result<Object, NoMemory>
-    ensures { IfOk result (λ o. trees.made o ≡ spec.otherwise_pairs (option_map json steps)) }
+/// The cases of a choice, each with the steps of a group, which goes.
+#[tactic(auto, using(crate::proofs::Objects::trees, crate::proofs::Loops::case_pushed, crate::proofs::Loops::case_passed))]
+fn case_trees(alloc: Global, cases: &[(Check, u32)], groups: &mut Groups) -> Result<Tree, NoMemory>
+    ensures trees { IfOk result (λ t. json t ≡ spec.list_of (spec.cases_json (checks_of cases.now) (trees.left groups.old))) }
+    ensures rest { OnOk result (trees.left groups.new ≡ past (checks_of cases.now) (trees.left groups.old)) }
 {
+    let mut items = Vec::new(alloc);
+    for (check, _) in cases {
+        let steps = groups.next_list();
+        let tree = guarded(alloc, check, steps)?;
+        items.push(tree)?;
+    }
+    Ok(Tree::List(Series::of(items)))
+}
+
+/// What runs where no case holds, with the steps of the first group.
+fn otherwise(alloc: Global, is_there: bool, groups: Groups) -> Result<Object, NoMemory>
+    ensures { IfOk result (λ o. trees.made o ≡ spec.otherwise_pairs (spec.otherwise_json is_there (trees.left groups))) }
+{
+    let mut groups = groups;
     let mut object = Object::new(alloc);
-    if let Some(steps) = steps {
-        let steps = alone(alloc, "steps", steps)?;
+    if is_there {
+        let steps = alone(alloc, "steps", groups.next_list())?;
         object.put("otherwise", steps)?;
     }
     Ok(object)
 }
 
-/// `choice`, with the cases' tree and the steps of `otherwise`.
+/// `choice`.
 #[tactic(auto, unfolding(crate::specs::Canonical::choice_json), using(crate::proofs::Objects::trees))]
-pub fn choice(alloc: Global, steps: Option<Tree>, cases: Tree) -> Result<Tree, NoMemory>
-    ensures { IfOk result (λ t. json t ≡ spec.choice_json (spec.otherwise_pairs (option_map json steps)) (json cases)) }
+fn choice(
+    alloc: Global,
+    conditions: &[(Check, u32)],
+    has_last: bool,
+    groups: Groups,
+) -> Result<Tree, NoMemory>
+    ensures { IfOk result (λ t. json t ≡ spec.frame_json (chooses (checks_of conditions.now) has_last) (trees.left groups)) }
 {
-    let mut object = otherwise(alloc, steps)?;
+    let mut groups = groups;
+    let cases = case_trees(alloc, conditions, &mut groups)?;
+    let mut object = otherwise(alloc, has_last, groups)?;
     object.put("when", cases)?;
     Ok(alone(alloc, "choice", object.tree())?)
 }
 
 /// `split`.
 #[tactic(auto, unfolding(crate::specs::Canonical::split_json), using(crate::proofs::Objects::trees))]
-pub fn split(alloc: Global, how: &How, fan: &Fan, steps: Tree) -> Result<Tree, NoMemory>
+fn split(alloc: Global, how: &How, fan: &Fan, steps: Tree) -> Result<Tree, NoMemory>
     ensures { IfOk result (λ t. json t ≡ spec.split_json how.now fan.now (json steps)) }
 {
     let mut object = Object::new(alloc);
@@ -144,7 +170,7 @@ pub fn split(alloc: Global, how: &How, fan: &Fan, steps: Tree) -> Result<Tree, N
 
 /// `multicast`.
 #[tactic(auto, unfolding(crate::specs::Canonical::multicast_json), using(crate::proofs::Objects::trees))]
-pub fn multicast(alloc: Global, fan: &Fan, steps: Tree) -> Result<Tree, NoMemory>
+fn multicast(alloc: Global, fan: &Fan, steps: Tree) -> Result<Tree, NoMemory>
     ensures { IfOk result (λ t. json t ≡ spec.multicast_json fan.now (json steps)) }
 {
     let mut object = Object::new(alloc);
@@ -157,7 +183,7 @@ pub fn multicast(alloc: Global, fan: &Fan, steps: Tree) -> Result<Tree, NoMemory
 
 /// `recipientList`.
 #[tactic(auto, unfolding(crate::specs::Canonical::recipients_json), using(crate::proofs::Objects::trees))]
-pub fn recipients(alloc: Global, list: &Expr, delimiter: &Text, fan: &Fan) -> Result<Tree, NoMemory>
+fn recipients(alloc: Global, list: &Expr, delimiter: &Text, fan: &Fan) -> Result<Tree, NoMemory>
     ensures { IfOk result (λ t. json t ≡ spec.recipients_json list.now delimiter.now fan.now) }
 {
     let mut object = Object::new(alloc);
@@ -173,7 +199,7 @@ pub fn recipients(alloc: Global, list: &Expr, delimiter: &Text, fan: &Fan) -> Re
 
 /// `aggregate`.
 #[tactic(auto, unfolding(crate::specs::Canonical::aggregate_json), using(crate::proofs::Objects::trees))]
-pub fn aggregate(alloc: Global, setting: &Aggregate, steps: Tree) -> Result<Tree, NoMemory>
+fn aggregate(alloc: Global, setting: &Aggregate, steps: Tree) -> Result<Tree, NoMemory>
     ensures { IfOk result (λ t. json t ≡ spec.aggregate_json (without_block setting.now) (json steps)) }
 {
     let mut object = Object::new(alloc);
@@ -190,13 +216,13 @@ pub fn aggregate(alloc: Global, setting: &Aggregate, steps: Tree) -> Result<Tree
 
 /// What an idempotent consumer has beside its steps.
 #[derive(Clone, Copy)]
-pub struct Once<'a> {
-    pub key: &'a Expr,
+struct Once<'a> {
+    key: &'a Expr,
     /// The repository that it names.
-    pub repository: Option<&'a Text>,
-    pub skip: bool,
-    pub eager: bool,
-    pub remove: bool,
+    repository: Option<&'a Text>,
+    skip: bool,
+    eager: bool,
+    remove: bool,
 }
 
 fn put_repository(object: &mut Object, repository: Option<&Text>) -> Result<(), NoMemory>
@@ -211,7 +237,7 @@ fn put_repository(object: &mut Object, repository: Option<&Text>) -> Result<(), 
 
 /// `idempotentConsumer`.
 #[tactic(auto, unfolding(crate::specs::Canonical::idempotent_json), using(crate::proofs::Objects::trees))]
-pub fn idempotent(alloc: Global, once: Once<'_>, steps: Tree) -> Result<Tree, NoMemory>
+fn idempotent(alloc: Global, once: Once<'_>, steps: Tree) -> Result<Tree, NoMemory>
     ensures { IfOk result (λ t. json t ≡ spec.idempotent_json once.entry.key.now
         (option_map (λ t. t.now) once.entry.repository) once.entry.skip once.entry.eager once.entry.remove (json steps)) }
 {
@@ -225,4 +251,99 @@ pub fn idempotent(alloc: Global, once: Once<'_>, steps: Tree) -> Result<Tree, No
     object.put_unset("skipDuplicate", once.skip)?;
     object.put("steps", steps)?;
     Ok(alone(alloc, "idempotentConsumer", object.tree())?)
+}
+
+/// The name of a repository, where it isn't the block's own.
+fn name_given<'a>(
+    alloc: Global,
+    repository: &'a Text,
+    block: u32,
+) -> Result<Option<&'a Text>, NoMemory>
+    ensures { IfOk result (λ o. option_map (λ t. t.now) o ≡ name_given block repository.now) }
+{
+    let own = own_repository(alloc, block)?;
+    if repository.as_str() == own.as_str() {
+        Ok(None)
+    } else {
+        Ok(Some(repository))
+    }
+}
+
+fn push_cases(numbers: &mut Vec<u32>, cases: &[(Check, u32)]) -> Result<(), NoMemory>
+    ensures { OnOk result (numbers.new.items ≡ numbers.old.items ++ case_numbers cases.now) }
+{
+    for (_, block) in cases {
+        numbers.push(*block)?;
+    }
+    Ok(())
+}
+
+/// The numbers of a step's blocks, in the order of its groups.
+#[tactic(auto, unfolding(eip_route::specs::Faults::step_numbers))]
+pub fn block_numbers(alloc: Global, step: &Step) -> Result<Vec<u32>, NoMemory>
+    ensures { IfOk result (λ ns. ns.items ≡ step_numbers step.now) }
+{
+    let mut numbers = Vec::new(alloc);
+    match step {
+        Step::Choice { cases, otherwise } => {
+            push_cases(&mut numbers, cases.items())?;
+            if let Some(block) = otherwise {
+                numbers.push(*block)?;
+            }
+        }
+        Step::Filter { block, .. } | Step::Split { block, .. } | Step::Idempotent { block, .. } => {
+            numbers.push(*block)?;
+        }
+        Step::Multicast { blocks, .. } => numbers.extend_from_slice(blocks.items())?,
+        Step::Aggregate(setting) => numbers.push(setting.block)?,
+        _ => {}
+    }
+    Ok(numbers)
+}
+
+/// The tree of a step whose blocks are printed so.
+#[tactic(auto, unfolding(crate::specs::Canonical::step_with))]
+pub fn step_tree(alloc: Global, step: &Step, groups: Groups) -> Result<Tree, NoMemory>
+    ensures { IfOk result (λ t. json t ≡ spec.step_with step.now (trees.left groups)) }
+{
+    let mut groups = groups;
+    match step {
+        Step::SetBody(value) => set_body(alloc, value),
+        Step::SetHeader { name, value } => set(alloc, "setHeader", name, value),
+        Step::SetProperty { name, value } => set(alloc, "setProperty", name, value),
+        Step::RemoveHeader(name) => step_of_text(alloc, "removeHeader", name),
+        Step::To(uri) => to(alloc, uri),
+        Step::Log { name, message } => log(alloc, name, message),
+        Step::Throw { kind, message } => throw(alloc, kind, message),
+        Step::Process(name) => step_of_text(alloc, "process", name),
+        Step::Recipients {
+            list,
+            delimiter,
+            fan,
+        } => recipients(alloc, list, delimiter, fan),
+        Step::Choice { cases, otherwise } => {
+            choice(alloc, cases.items(), otherwise.is_some(), groups)
+        }
+        Step::Filter { check, .. } => filter(alloc, check, groups.next_list()),
+        Step::Split { how, fan, .. } => split(alloc, how, fan, groups.next_list()),
+        Step::Multicast { fan, .. } => multicast(alloc, fan, groups.all()?),
+        Step::Aggregate(setting) => aggregate(alloc, setting, groups.next_list()),
+        Step::Idempotent {
+            key,
+            repository,
+            skip,
+            eager,
+            remove,
+            block,
+        } => {
+            let once = Once {
+                key,
+                repository: name_given(alloc, repository, *block)?,
+                skip: *skip,
+                eager: *eager,
+                remove: *remove,
+            };
+            idempotent(alloc, once, groups.next_list())
+        }
+    }
 }

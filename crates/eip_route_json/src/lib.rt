@@ -1,8 +1,8 @@
 // Reads route files: the first fault of their bytes, or the set of routes that they say.
 #![tactic(auto)]
 
-pub mod read;
-pub mod sets;
+mod read;
+mod sets;
 
+pub use eip_route_grammar::{Cause, RouteFault};
 pub use read::{RouteRefusal, read_routes};
-pub use sets::build_routes;

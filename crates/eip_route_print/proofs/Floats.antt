@@ -13,7 +13,7 @@ use Rattle.eip_simple_read.specs.declared.tree.Template.{Template}
 use Rattle.eip_text.specs.Json.{Json, flag, whole, word, items_of, members_of}
 use Rattle.eip_text.specs.JsonText.{has_float, items_have_float, members_have_float}
 use Rattle.eip_uri.specs.declared.uri.Uri.{Uri}
-use Rattle.eip_route.specs.Nest.{Gathering, NestedStep, NestedSteps, NestedCases, NestedLast, NestedClause, NestedRoute, sets_body, sets_header, sets_property, removes_header, goes_to, logs, throws, processes, chooses, filters, splits, multicasts, sends_to_list, aggregates, runs_once, none, more, no_case, more_case, no_last, last, un_clauses, un_routes}
+use Rattle.eip_route.specs.Nest.{Gathering, Frame, chooses, filters, splits, multicasts, aggregates, runs_once, NestedStep, NestedSteps, NestedGroups, NestedLast, NestedClause, NestedRoute, leaf, holds, none, more, no_group, group, no_last, last, rest_of, past, un_clauses, un_routes}
 use Rattle.eip_route.specs.declared.route.Handler.{Handler}
 use Rattle.eip_route.specs.declared.route.RouteSet.{RouteSet}
 use Rattle.eip_route.specs.declared.step.Check.{Check}
@@ -21,7 +21,9 @@ use Rattle.eip_route.specs.declared.step.Check.TheVariants as check
 use Rattle.eip_route.specs.declared.step.Expr.{Expr}
 use Rattle.eip_route.specs.declared.step.Expr.TheVariants as expr
 use Rattle.eip_route.specs.declared.step.Fan.{Fan}
-use Rattle.eip_route_canonical.specs.Canonical.{Pairs, object_of, list_of, one, alone, where_set, where_unset, given_word, given_number, where_any, constant_pairs, named_pairs, simple_pairs, expr_pairs, check_pairs, strategy_text, this_strategy, strategy_pairs, group_pairs, predicate_pairs, delimiter_pairs, is_comma, json_path, token_pairs, backing_pairs, policy_pairs, policy_in, set_body_json, named_value_json, set_json, log_json, throw_json, guarded_json, choice_json, split_json, multicast_json, recipients_json, aggregate_json, idempotent_json, otherwise_pairs, steps_json, step_json, cases_json, last_json, words, steps_pairs, clause_json, route_json, default_items, dead_items, handler_items, clauses_json, routes_json}
+use Rattle.eip_route.specs.declared.step.Step.{Step}
+use Rattle.eip_route.specs.declared.step.Step.TheVariants as step
+use Rattle.eip_route_canonical.specs.Canonical.{Pairs, object_of, list_of, one, alone, where_set, where_unset, given_word, given_number, where_any, constant_pairs, named_pairs, simple_pairs, expr_pairs, check_pairs, strategy_text, this_strategy, strategy_pairs, group_pairs, predicate_pairs, delimiter_pairs, is_comma, json_path, token_pairs, backing_pairs, policy_pairs, policy_in, set_body_json, named_value_json, set_json, log_json, throw_json, guarded_json, choice_json, split_json, multicast_json, recipients_json, aggregate_json, idempotent_json, otherwise_pairs, first_json, all_json, cases_json, otherwise_json, frame_json, leaf_json, steps_json, step_json, groups_json, last_json, words, steps_pairs, clause_json, route_json, default_items, dead_items, handler_items, clauses_json, routes_json}
 
 either : (a b : Bool) → a ≡ false → b ≡ false → a || b ≡ false
 either true b h i = h
@@ -229,35 +231,68 @@ idempotent_plain : (e : Expr) (o : Option (List ℕ)) (skip eager remove : Bool)
 unfolding idempotent_json
 idempotent_plain e o skip eager remove j i = alone_plain (codes "idempotentConsumer") _ (object_plain _ (join _ _ (join _ _ (join _ _ (join _ _ (join _ _ (join _ _ (join _ _ (constant_plain e) (unset_plain (codes "eager") eager)) (named_plain e)) (word_plain (codes "idempotentRepository") o)) (unset_plain (codes "removeOnFailure") remove)) (simple_plain e)) (unset_plain (codes "skipDuplicate") skip)) (single (codes "steps") j i)))
 
+-- ---- by the printed steps of each group
+
+abbrev AllWhole : List (List Json) → Type 0
+AllWhole [] = Unit {0}
+AllWhole (js ∷ gs) = Whole js × AllWhole gs
+
+first_plain : (gs : List (List Json)) → AllWhole gs → Bare (list_of (first_json gs))
+first_plain [] h = list_plain [] no_items
+first_plain (js ∷ gs) h = list_plain js h.0
+
+rest_plain : (gs : List (List Json)) → AllWhole gs → AllWhole (rest_of gs)
+rest_plain [] h = tt
+rest_plain (js ∷ gs) h = h.1
+
+past_plain : (cs : List Check) (gs : List (List Json)) → AllWhole gs → AllWhole (past cs gs)
+past_plain [] gs h = h
+past_plain (c ∷ cs) gs h = past_plain cs (rest_of gs) (rest_plain gs h)
+
+all_plain : (gs : List (List Json)) → AllWhole gs → Whole (all_json gs)
+all_plain [] h = no_items
+all_plain (js ∷ gs) h = append js (all_json gs) h.0 (all_plain gs h.1)
+
+cases_plain : (cs : List Check) (gs : List (List Json)) → AllWhole gs → Whole (cases_json cs gs)
+cases_plain [] gs h = no_items
+cases_plain (c ∷ cs) gs h = items _ (cases_json cs (rest_of gs)) (guarded_plain c _ (first_plain gs h)) (cases_plain cs (rest_of gs) (rest_plain gs h))
+
+otherwise_plain : (l : Bool) (gs : List (List Json)) → AllWhole gs → Plain (otherwise_pairs (otherwise_json l gs))
+otherwise_plain false gs h = nothing
+otherwise_plain true gs h = single (codes "otherwise") _ (alone_plain (codes "steps") _ (first_plain gs h))
+
+frame_plain : (f : Frame) (gs : List (List Json)) → AllWhole gs → Bare (frame_json f gs)
+frame_plain (chooses cs l) gs h = choice_plain _ _ (otherwise_plain l (past cs gs) (past_plain cs gs h)) (list_plain (cases_json cs gs) (cases_plain cs gs h))
+frame_plain (filters c) gs h = alone_plain (codes "filter") _ (guarded_plain c _ (first_plain gs h))
+frame_plain (splits how fan) gs h = split_plain how fan _ (first_plain gs h)
+frame_plain (multicasts fan) gs h = multicast_plain fan _ (list_plain (all_json gs) (all_plain gs h))
+frame_plain (aggregates g) gs h = aggregate_plain g _ (first_plain gs h)
+frame_plain (runs_once e o skip eager remove) gs h = idempotent_plain e o skip eager remove _ (first_plain gs h)
+
+leaf_plain : (s : Step) → Bare (leaf_json s)
+leaf_plain (step.SetBody e) = body_plain e
+leaf_plain (step.SetHeader name e) = named_value_plain (codes "setHeader") name e
+leaf_plain (step.SetProperty name e) = named_value_plain (codes "setProperty") name e
+leaf_plain (step.RemoveHeader name) = alone_plain (codes "removeHeader") _ (bare_word name)
+leaf_plain (step.To u) = alone_plain (codes "to") _ (bare_word (printed u))
+leaf_plain (step.Log name message) = log_plain name message
+leaf_plain (step.Throw kind message) = throw_plain kind message
+leaf_plain (step.Process name) = alone_plain (codes "process") _ (bare_word name)
+leaf_plain (step.Recipients e d fan) = recipients_plain e d fan
+leaf_plain _ = object_plain [] nothing
+
 mutual
   steps_plain : (ss : NestedSteps) → Whole (steps_json ss)
   steps_plain none = no_items
   steps_plain (more s ss) = items (step_json s) (steps_json ss) (step_plain s) (steps_plain ss)
 
   step_plain : (s : NestedStep) → Bare (step_json s)
-  step_plain (sets_body e) = body_plain e
-  step_plain (sets_header name e) = named_value_plain (codes "setHeader") name e
-  step_plain (sets_property name e) = named_value_plain (codes "setProperty") name e
-  step_plain (removes_header name) = alone_plain (codes "removeHeader") _ (bare_word name)
-  step_plain (goes_to u) = alone_plain (codes "to") _ (bare_word (printed u))
-  step_plain (logs name message) = log_plain name message
-  step_plain (throws kind message) = throw_plain kind message
-  step_plain (processes name) = alone_plain (codes "process") _ (bare_word name)
-  step_plain (chooses cs l) = choice_plain _ _ (otherwise_plain l) (list_plain (cases_json cs) (cases_plain cs))
-  step_plain (filters c ss) = alone_plain (codes "filter") _ (guarded_plain c _ (list_plain (steps_json ss) (steps_plain ss)))
-  step_plain (splits h fan ss) = split_plain h fan _ (list_plain (steps_json ss) (steps_plain ss))
-  step_plain (multicasts fan ss) = multicast_plain fan _ (list_plain (steps_json ss) (steps_plain ss))
-  step_plain (sends_to_list e d fan) = recipients_plain e d fan
-  step_plain (aggregates g ss) = aggregate_plain g _ (list_plain (steps_json ss) (steps_plain ss))
-  step_plain (runs_once e o skip eager remove ss) = idempotent_plain e o skip eager remove _ (list_plain (steps_json ss) (steps_plain ss))
+  step_plain (leaf s) = leaf_plain s
+  step_plain (holds f gs) = frame_plain f (groups_json gs) (groups_plain gs)
 
-  cases_plain : (cs : NestedCases) → Whole (cases_json cs)
-  cases_plain no_case = no_items
-  cases_plain (more_case c ss cs) = items _ (cases_json cs) (guarded_plain c _ (list_plain (steps_json ss) (steps_plain ss))) (cases_plain cs)
-
-  otherwise_plain : (l : NestedLast) → Plain (otherwise_pairs (last_json l))
-  otherwise_plain no_last = nothing
-  otherwise_plain (last ss) = single (codes "otherwise") _ (alone_plain (codes "steps") _ (list_plain (steps_json ss) (steps_plain ss)))
+  groups_plain : (gs : NestedGroups) → AllWhole (groups_json gs)
+  groups_plain no_group = tt
+  groups_plain (group ss gs) = (steps_plain ss, groups_plain gs)
 
 -- ---- the file
 

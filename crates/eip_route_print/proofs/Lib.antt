@@ -1,4 +1,3 @@
 pub mod Opened
-pub mod Loops
 pub mod Floats
 pub mod Numbered

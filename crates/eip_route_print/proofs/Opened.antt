@@ -1,17 +1,18 @@
 -- What stands in a block, by its steps.
-use Rattle.std.proofs.Common.{◌≡◌, ℕ, zero, suc, ◌+◌, ◌<◌, ◌≤◌, List, [], ◌∷◌, ◌++◌, refl, ◌∙◌, ap, inl, inr, arith, cond, eqb, ltb, length, slice_index_or}
+use Rattle.std.proofs.Common.{◌≡◌, ℕ, zero, suc, ◌+◌, ◌<◌, ◌≤◌, List, [], ◌∷◌, ◌++◌, refl, sym, ◌∙◌, ap, inl, inr, arith, cond, eqb, ltb, length, slice_index_or}
 use Rattle.std.specs.Prelude.{Option, Some, None, true, false}
 use Rattle.std.proofs.Math.Path.{fun_ext}
 use Rattle.std.proofs.lemmas.Bool.{cases_lt, lt-ltb, le-ltb, eq-eqb, ne_eqb}
-use Rattle.eip_route.specs.Nest.{NestedSteps, none, more, joined, un_block, un_steps, un_cases, un_branches, un_last, un_clauses, un_routes}
+use Rattle.eip_route.proofs.Filled.{held_numbers, numbers_in}
+use Rattle.eip_route.specs.Faults.{step_numbers}
+use Rattle.eip_route.specs.Nest.{Frame, NestedSteps, none, held, un_block, un_groups, un_held, un_steps, un_last, un_clauses, un_routes}
 use Rattle.eip_exchange.specs.declared.setting.Clause.{Clause}
 use Rattle.eip_route.specs.declared.route.Block.{Block}
 use Rattle.eip_route.specs.declared.route.Route.{Route}
 use Rattle.eip_route.specs.declared.route.RouteSet.{RouteSet}
-use Rattle.eip_route.specs.declared.step.Check.{Check}
 use Rattle.eip_route.specs.declared.step.Step.{Step}
-use Rattle.eip_route_canonical.specs.Canonical.{steps_json, step_json, cases_json, last_json, list_of, handler_items, clause_json, clauses_json, routes_json, set_json}
-use Rattle.eip_route_print.specs.Seen.{seen, seen_json, block_json, step_in, steps_in, case_in, cases_in, branches_in, last_in, clause_steps, clause_in, clauses_in, route_in, routes_in}
+use Rattle.eip_route_canonical.specs.Canonical.{steps_json, step_json, groups_json, frame_json, held_json, step_with, last_json, list_of, handler_items, clause_json, clauses_json, routes_json, set_json}
+use Rattle.eip_route_print.specs.Seen.{seen, seen_json, block_json, step_in, steps_in, groups_in, clause_steps, clause_in, clauses_in, route_in, routes_in}
 
 -- ---- a block's equation: its steps see only the blocks behind it
 
@@ -92,26 +93,20 @@ pub seen_before : (bs : List Block) (j i : ℕ) → i ≤ j → seen_json bs j i
 unfolding seen_json seen
 seen_before bs j i h = ap (λ t. steps_json (cond t (un_block 0 bs i) none)) (le-ltb j i h)
 
--- ---- the parts of a step
+-- ---- a step, by what stands in its blocks
 
-pub cases_same : (bs : List Block) (j : ℕ) (cs : List (Check × ℕ)) → cases_json (un_cases (seen bs j) cs) ≡ cases_in bs j cs
-unfolding case_in seen_json
-cases_same bs j [] = refl
-cases_same bs j (c ∷ cs) = ap (λ js. case_in bs j c ∷ js) (cases_same bs j cs)
-
-joined_json : (x y : NestedSteps) → steps_json (joined x y) ≡ steps_json x ++ steps_json y
-joined_json none y = refl
-joined_json (more s ss) y = ap (λ js. step_json s ∷ js) (joined_json ss y)
-
-pub branches_same : (bs : List Block) (j : ℕ) (ns : List ℕ) → steps_json (un_branches (seen bs j) ns) ≡ branches_in bs j ns
+groups_same : (bs : List Block) (j : ℕ) (ns : List ℕ) → groups_json (un_groups (seen bs j) ns) ≡ groups_in bs j ns
 unfolding seen_json
-branches_same bs j [] = refl
-branches_same bs j (n ∷ ns) = joined_json (seen bs j n) (un_branches (seen bs j) ns) ∙ ap (λ js. seen_json bs j n ++ js) (branches_same bs j ns)
+groups_same bs j [] = refl
+groups_same bs j (n ∷ ns) = ap (λ gs. seen_json bs j n ∷ gs) (groups_same bs j ns)
 
-pub last_same : (bs : List Block) (j : ℕ) (o : Option ℕ) → last_json (un_last (seen bs j) o) ≡ last_in bs j o
-unfolding seen_json
-last_same bs j None = refl
-last_same bs j (Some n) = refl
+held_same : (bs : List Block) (j : ℕ) (s : Step) (o : Option (Frame × List ℕ)) → step_json (un_held (seen bs j) s o) ≡ held_json s o (groups_in bs j (numbers_in o))
+held_same bs j s None = refl
+held_same bs j s (Some r) = ap (frame_json r.0) (groups_same bs j r.1)
+
+pub step_same : (bs : List Block) (j : ℕ) (s : Step) → step_with s (groups_in bs j (step_numbers s)) ≡ step_in bs j s
+unfolding step_in step_with
+step_same bs j s = ap (λ ns. held_json s (held s) (groups_in bs j ns)) (held_numbers s) ∙ sym (held_same bs j s (held s))
 
 -- ---- clauses and routes
 

@@ -5,9 +5,8 @@ use Rattle.eip_route.specs.Nest.{NestedSteps, none, un_block, un_step}
 use Rattle.eip_exchange.specs.declared.setting.Clause.{Clause}
 use Rattle.eip_route.specs.declared.route.Block.{Block}
 use Rattle.eip_route.specs.declared.route.Route.{Route}
-use Rattle.eip_route.specs.declared.step.Check.{Check}
 use Rattle.eip_route.specs.declared.step.Step.{Step}
-use Rattle.eip_route_canonical.specs.Canonical.{steps_json, step_json, guarded_json, clause_json, route_json, list_of}
+use Rattle.eip_route_canonical.specs.Canonical.{steps_json, step_json, clause_json, route_json, list_of}
 
 -- the steps of block i, as block j sees them: only the blocks behind it are nested in it
 unfoldable pub seen : List Block → ℕ → ℕ → NestedSteps
@@ -28,20 +27,10 @@ abbrev pub steps_in : List Block → ℕ → List Step → List Json
 steps_in bs j [] = []
 steps_in bs j (s ∷ ss) = step_in bs j s ∷ steps_in bs j ss
 
-unfoldable pub case_in : List Block → ℕ → Check × ℕ → Json
-case_in bs j c = guarded_json c.0 (list_of (seen_json bs j c.1))
-
-abbrev pub cases_in : List Block → ℕ → List (Check × ℕ) → List Json
-cases_in bs j [] = []
-cases_in bs j (c ∷ cs) = case_in bs j c ∷ cases_in bs j cs
-
-abbrev pub branches_in : List Block → ℕ → List ℕ → List Json
-branches_in bs j [] = []
-branches_in bs j (b ∷ more) = seen_json bs j b ++ branches_in bs j more
-
-abbrev pub last_in : List Block → ℕ → Option ℕ → Option Json
-last_in bs j None = None
-last_in bs j (Some b) = Some (list_of (seen_json bs j b))
+-- and what stands in the blocks of these numbers
+abbrev pub groups_in : List Block → ℕ → List ℕ → List (List Json)
+groups_in bs j [] = []
+groups_in bs j (n ∷ ns) = seen_json bs j n ∷ groups_in bs j ns
 
 -- ---- what stands in a file
 

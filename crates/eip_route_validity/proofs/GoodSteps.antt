@@ -4,13 +4,16 @@ use Rattle.std.proofs.lemmas.Bool.{and_from, or_left, or_right}
 use Rattle.std.proofs.lemmas.Slice.Eq.{bytes_eq-Decides}
 use Rattle.std.proofs.lemmas.List.Elements.{All-nil, All-cons, All-append, All-head, All-tail}
 use Rattle.eip_exchange.specs.declared.setting.Clause.{Clause}
-use Rattle.eip_route.specs.Nest.{Gathering, NestedStep, NestedSteps, NestedCases, NestedLast, NestedClause, NestedRoute, sets_body, sets_header, sets_property, removes_header, goes_to, logs, throws, processes, chooses, filters, splits, multicasts, sends_to_list, aggregates, runs_once, none, more, no_case, more_case, no_last, last, FlatStep, FlatSteps, headed, branch, with_block, own_repository, repository_of, flat_steps, flat_step, flat_cases, flat_last, flat_branches, flat_block, flat_clauses, flat_routes, number_of}
+use Rattle.eip_route.specs.Nest.{Gathering, Frame, chooses, filters, splits, multicasts, aggregates, runs_once, NestedStep, NestedSteps, NestedGroups, NestedLast, NestedClause, NestedRoute, leaf, holds, none, more, no_group, group, no_last, last, first_of, rest_of, past, cases_with, fill, FlatSteps, headed, with_block, own_repository, repository_of, flat_steps, flat_step, flat_groups, flat_last, flat_block, flat_clauses, flat_routes, number_of}
 use Rattle.eip_route.specs.Valid.{is_filled, is_aggregate, is_given_name, is_repository, are_cases, is_step, are_steps, is_route, is_clause}
 use Rattle.eip_route.specs.declared.route.Block.{Block}
 use Rattle.eip_route.specs.declared.route.Names.{Names}
 use Rattle.eip_route.specs.declared.route.Route.{Route}
+use Rattle.eip_route.specs.declared.step.Check.{Check}
+use Rattle.eip_route.specs.declared.step.Step.{Step}
+use Rattle.eip_route.specs.declared.step.Step.TheVariants as step
 use Rattle.eip_route_validity.proofs.GoodParts.{good_target, good_source, good_expr, good_check}
-use Rattle.eip_route_validity.specs.Fit.{HasSteps, HasCases, GatheringFits, StepsFit, StepFits, CasesFit, LastFits, ClauseFits, RouteFits}
+use Rattle.eip_route_validity.specs.Fit.{GatheringFits, ChecksFit, LeafFits, FrameFits, FrameHolds, HasGroup, GroupsSuit, StepsFit, StepFits, GroupsFit, LastFits, ClauseFits, RouteFits}
 
 abbrev Good : Names → Block → Type 0
 Good n b = are_steps n b.steps ≡ true
@@ -24,18 +27,12 @@ no_blocks n = All-nil (Good n)
 pub both_blocks : (n : Names) (xs ys : List Block) → AreGood n xs → AreGood n ys → AreGood n (xs ++ ys)
 both_blocks n xs ys h t = All-append (Good n) xs ys h t
 
--- steps and the blocks nested in them; the same of one step
+-- steps and the blocks nested in them
 abbrev GoodSteps : Names → FlatSteps → Type 0
 GoodSteps n r = (are_steps n r.steps ≡ true) × AreGood n r.blocks
 
-abbrev GoodStep : Names → FlatStep → Type 0
-GoodStep n s = (is_step n s.step ≡ true) × AreGood n s.blocks
-
 good_headed : (n : Names) (r : FlatSteps) → GoodSteps n r → AreGood n (headed r)
 good_headed n r h = All-cons (Good n) (record { steps = r.steps }) r.blocks h.0 h.1
-
-good_branch : (n : Names) (s : FlatStep) → GoodStep n s → AreGood n (branch s)
-good_branch n s h = All-cons (Good n) (record { steps = s.step ∷ [] }) s.blocks (and_from _ _ h.0 refl) h.1
 
 -- ---- single steps
 
@@ -46,13 +43,43 @@ good_repository : (k : ℕ) (o : Option (List ℕ)) → is_given_name o ≡ true
 good_repository k None h = or_right _ _ ((bytes_eq-Decides (own_repository k) (own_repository k)).1 refl)
 good_repository k (Some name) h = or_left _ _ h
 
-filled_cases : (k : ℕ) (cs : NestedCases) → HasCases cs → is_filled (flat_cases k cs).cases ≡ true
-filled_cases k no_case h = absurd h
-filled_cases k (more_case check ss cs) h = le-leb 1 (length (flat_cases k (more_case check ss cs)).cases) (omega arith)
+filled_cases : (cs : List Check) (ns : List ℕ) → is_filled cs ≡ true → is_filled (cases_with cs ns) ≡ true
+filled_cases [] ns h = h
+filled_cases (c ∷ cs) ns h = le-leb 1 (length (cases_with (c ∷ cs) ns)) (omega arith)
 
-filled_branches : (k : ℕ) (ss : NestedSteps) → HasSteps ss → is_filled (flat_branches k ss).numbers ≡ true
-filled_branches k none h = absurd h
-filled_branches k (more s ss) h = le-leb 1 (length (flat_branches k (more s ss)).numbers) (omega arith)
+good_cases : (n : Names) (cs : List Check) (ns : List ℕ) → ChecksFit n cs → are_cases n (cases_with cs ns) ≡ true
+good_cases n [] ns h = refl
+good_cases n (c ∷ cs) ns h = and_from _ _ (good_check n c h.0) (good_cases n cs (rest_of ns) h.1)
+
+filled_groups : (k : ℕ) (gs : NestedGroups) → HasGroup gs → is_filled (flat_groups k gs).numbers ≡ true
+filled_groups k no_group h = absurd h
+filled_groups k (group ss gs) h = le-leb 1 (length (flat_groups k (group ss gs)).numbers) (omega arith)
+
+good_leaf : (n : Names) (s : Step) → LeafFits n s → is_step n s ≡ true
+good_leaf n (step.SetBody e) h = good_expr e h
+good_leaf n (step.SetHeader name e) h = and_from _ _ h.0 (good_expr e h.1)
+good_leaf n (step.SetProperty name e) h = and_from _ _ h.0 (good_expr e h.1)
+good_leaf n (step.RemoveHeader name) h = h
+good_leaf n (step.To u) h = good_target n u h
+good_leaf n (step.Log name message) h = h.0
+good_leaf n (step.Throw kind message) h = h.0
+good_leaf n (step.Process name) h = h.1
+good_leaf n (step.Recipients e delimiter fan) h = and_from _ _ (and_from _ _ (good_expr e h.0) h.1.0) h.1.1
+good_leaf n (step.Choice cases l) h = absurd h
+good_leaf n (step.Filter c b) h = absurd h
+good_leaf n (step.Split how fan b) h = absurd h
+good_leaf n (step.Multicast fan bs) h = absurd h
+good_leaf n (step.Aggregate a) h = absurd h
+good_leaf n (step.Idempotent e repository skip eager remove b) h = absurd h
+
+good_frame : (n : Names) (k : ℕ) (f : Frame) (gs : NestedGroups) → FrameFits n f → GroupsSuit f gs → is_step n (fill f (flat_groups k gs).numbers) ≡ true
+good_frame n k (chooses cs l) gs h s = and_from _ _ (filled_cases cs (flat_groups k gs).numbers h.0) (good_cases n cs (flat_groups k gs).numbers h.1)
+good_frame n k (filters c) gs h s = good_check n c h
+good_frame n k (splits how fan) gs h s = and_from _ _ h.0 h.1
+good_frame n k (multicasts fan) gs h s = and_from _ _ (filled_groups k gs s.0) h
+good_frame n k (aggregates g) gs h s = good_gathering g (first_of (flat_groups k gs).numbers) h
+good_frame n k (runs_once e name skip eager remove) gs h s =
+    and_from _ _ (and_from _ _ (good_expr e h.0) (good_repository (first_of (flat_groups k gs).numbers) name h.1.0)) (and_from _ _ h.1.1.0 h.1.1.1)
 
 -- ---- steps
 
@@ -65,40 +92,18 @@ mutual
       (and_from _ _ first.0 others.0, both_blocks n (flat_step k s).blocks (flat_steps (k + length (flat_step k s).blocks) ss).blocks first.1 others.1)
 
   good_step : (n : Names) (d k : ℕ) (s : NestedStep) → StepFits n d s → (is_step n (flat_step k s).step ≡ true) × AreGood n (flat_step k s).blocks
-  good_step n d k (sets_body e) h = (good_expr e h, no_blocks n)
-  good_step n d k (sets_header name e) h = (and_from _ _ h.0 (good_expr e h.1), no_blocks n)
-  good_step n d k (sets_property name e) h = (and_from _ _ h.0 (good_expr e h.1), no_blocks n)
-  good_step n d k (removes_header name) h = (h, no_blocks n)
-  good_step n d k (goes_to u) h = (good_target n u h, no_blocks n)
-  good_step n d k (logs name message) h = (h.0, no_blocks n)
-  good_step n d k (throws kind message) h = (h.0, no_blocks n)
-  good_step n d k (processes name) h = (h.1, no_blocks n)
-  good_step n d k (chooses cs l) h =
-      let cases = good_cases n d k cs h.1.0 in
-      (and_from _ _ (filled_cases k cs h.0) cases.0, both_blocks n (flat_cases k cs).blocks (flat_last (k + length (flat_cases k cs).blocks) l) cases.1 (good_last n d (k + length (flat_cases k cs).blocks) l h.1.1))
-  good_step n d k (filters check ss) h = (good_check n check h.0, good_headed n (flat_steps (k + 1) ss) (good_steps n (d + 1) (k + 1) ss h.1.1))
-  good_step n d k (splits how fan ss) h = (and_from _ _ h.0 h.1.0, good_headed n (flat_steps (k + 1) ss) (good_steps n (d + 1) (k + 1) ss h.1.1.1))
-  good_step n d k (multicasts fan ss) h = (and_from _ _ (filled_branches k ss h.0) h.1.0, good_branches n (d + 1) k ss h.1.1.1)
-  good_step n d k (sends_to_list e delimiter fan) h = (and_from _ _ (and_from _ _ (good_expr e h.0) h.1.0) h.1.1, no_blocks n)
-  good_step n d k (aggregates g ss) h = (good_gathering g k h.0, good_headed n (flat_steps (k + 1) ss) (good_steps n (d + 1) (k + 1) ss h.1.1))
-  good_step n d k (runs_once e name skip eager remove ss) h =
-      (and_from _ _ (and_from _ _ (good_expr e h.0) (good_repository k name h.1.0)) (and_from _ _ h.1.1.0 h.1.1.1.0), good_headed n (flat_steps (k + 1) ss) (good_steps n (d + 1) (k + 1) ss h.1.1.1.1.1))
+  good_step n d k (leaf s) h = (good_leaf n s h, no_blocks n)
+  good_step n d k (holds f gs) h = (good_frame n k f gs h.0.setting h.0.suit, good_groups n d k gs h.1)
 
-  good_cases : (n : Names) (d k : ℕ) (cs : NestedCases) → CasesFit n d cs → (are_cases n (flat_cases k cs).cases ≡ true) × AreGood n (flat_cases k cs).blocks
-  good_cases n d k no_case h = (refl, no_blocks n)
-  good_cases n d k (more_case check ss cs) h =
-      let others = good_cases n d (k + length (flat_block k ss)) cs h.1.1 in
-      (and_from _ _ (good_check n check h.0) others.0, both_blocks n (flat_block k ss) (flat_cases (k + length (flat_block k ss)) cs).blocks (good_headed n (flat_steps (k + 1) ss) (good_steps n (d + 1) (k + 1) ss h.1.0.1)) others.1)
+  good_groups : (n : Names) (d k : ℕ) (gs : NestedGroups) → GroupsFit n d gs → AreGood n (flat_groups k gs).blocks
+  good_groups n d k no_group h = no_blocks n
+  good_groups n d k (group ss gs) h =
+      let first = flat_block k ss in
+      both_blocks n first (flat_groups (k + length first) gs).blocks (good_headed n (flat_steps (k + 1) ss) (good_steps n (d + 1) (k + 1) ss h.0.1)) (good_groups n d (k + length first) gs h.1)
 
-  pub good_last : (n : Names) (d k : ℕ) (l : NestedLast) → LastFits n d l → AreGood n (flat_last k l)
-  good_last n d k no_last h = no_blocks n
-  good_last n d k (last ss) h = good_headed n (flat_steps (k + 1) ss) (good_steps n (d + 1) (k + 1) ss h.1)
-
-  good_branches : (n : Names) (d k : ℕ) (ss : NestedSteps) → StepsFit n d ss → AreGood n (flat_branches k ss).blocks
-  good_branches n d k none h = no_blocks n
-  good_branches n d k (more s ss) h =
-      let first = branch (flat_step (k + 1) s) in
-      both_blocks n first (flat_branches (k + length first) ss).blocks (good_branch n (flat_step (k + 1) s) (good_step n d (k + 1) s h.0)) (good_branches n d (k + length first) ss h.1)
+pub good_last : (n : Names) (d k : ℕ) (l : NestedLast) → LastFits n d l → AreGood n (flat_last k l)
+good_last n d k no_last h = no_blocks n
+good_last n d k (last ss) h = good_headed n (flat_steps (k + 1) ss) (good_steps n (d + 1) (k + 1) ss h.1)
 
 -- ---- what holds them
 

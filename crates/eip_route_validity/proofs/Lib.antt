@@ -1,6 +1,7 @@
 pub mod fitting
 pub mod filed
 pub mod NothingFound
+pub mod Frames
 pub mod GoodParts
 pub mod GoodSteps
 pub mod NumbersInOrder

@@ -1,13 +1,15 @@
 -- What holds of the numbers in steps and of the blocks nested in them, where it holds step behind step and block in block: an induction over
 -- steps that fit, to be used for each such fact.
-use Rattle.std.proofs.Common.{ℕ, ◌+◌, ◌<◌, List, [], ◌∷◌, ◌++◌, length, ◌≡◌, sym, subst, All, arith, append-nil}
+use Rattle.std.proofs.Common.{ℕ, ◌+◌, ◌<◌, List, [], ◌∷◌, ◌++◌, length, ◌≡◌, sym, subst, All, arith}
 use Rattle.std.proofs.lemmas.List.Elements.{All-head, All-tail}
-use Rattle.eip_route.specs.Faults.{last_number, case_numbers, step_numbers, steps_numbers, clauses_numbers, routes_numbers, outer_numbers}
-use Rattle.eip_route.specs.Nest.{NestedStep, NestedSteps, NestedCases, NestedLast, NestedClause, NestedRoute, NestedSet, sets_body, sets_header, sets_property, removes_header, goes_to, logs, throws, processes, chooses, filters, splits, multicasts, sends_to_list, aggregates, runs_once, none, more, no_case, more_case, no_last, last, FlatSteps, FlatStep, headed, branch, number_of, flat_steps, flat_step, flat_cases, flat_last, flat_branches, flat_block, flat_clauses, flat_routes, flat_set}
+use Rattle.eip_route.proofs.Filled.{leaf_numbers}
+use Rattle.eip_route.specs.Faults.{last_number, step_numbers, steps_numbers, clauses_numbers, routes_numbers, outer_numbers}
+use Rattle.eip_route.specs.Nest.{NestedStep, NestedSteps, NestedGroups, NestedLast, NestedClause, NestedRoute, NestedSet, leaf, holds, none, more, no_group, group, no_last, last, FlatSteps, headed, number_of, flat_steps, flat_step, flat_groups, flat_last, flat_block, flat_clauses, flat_routes, flat_set}
 use Rattle.eip_route.specs.declared.route.Block.{Block}
 use Rattle.eip_route.specs.declared.route.Names.{Names}
 use Rattle.eip_route.specs.declared.step.Step.{Step}
-use Rattle.eip_route_validity.specs.Fit.{StepsFit, StepFits, CasesFit, LastFits, BlockFits, ClauseFits, RouteFits, SetFits}
+use Rattle.eip_route_validity.proofs.Frames.{bare_leaf, frame_numbers}
+use Rattle.eip_route_validity.specs.Fit.{StepsFit, StepFits, GroupsFit, LastFits, BlockFits, ClauseFits, RouteFits, SetFits}
 
 -- P d k ns bs: of the numbers ns and the blocks bs, of which the first has the number k, inside d blocks
 pub record Closed (P : ℕ → ℕ → List ℕ → List Block → Type 0) : Type 0 where
@@ -22,14 +24,9 @@ module _ (P : ℕ → ℕ → List ℕ → List Block → Type 0) (c : Closed P)
   in_block : (d k : ℕ) (r : FlatSteps) → d < 16 → P (d + 1) (k + 1) (steps_numbers r.steps) r.blocks → P d k (k ∷ []) (headed r)
   in_block d k r l h = c.block d k r.steps r.blocks l h
 
-  in_branch : (d k : ℕ) (s : FlatStep) → d < 16 → P (d + 1) (k + 1) (step_numbers s.step) s.blocks → P d k (k ∷ []) (branch s)
-  in_branch d k s l h = c.block d k (s.step ∷ []) s.blocks l (subst (λ ns. P (d + 1) (k + 1) ns s.blocks) (sym (append-nil (step_numbers s.step))) h)
-
   -- ---- steps
 
   mutual
-    unfolding step_numbers
-
     in_steps : (d k : ℕ) (ss : NestedSteps) → StepsFit n d ss → P d k (steps_numbers (flat_steps k ss).steps) (flat_steps k ss).blocks
     in_steps d k none h = c.nothing d k
     in_steps d k (more s ss) h =
@@ -37,40 +34,19 @@ module _ (P : ℕ → ℕ → List ℕ → List Block → Type 0) (c : Closed P)
         c.behind d k (step_numbers (flat_step k s).step) (steps_numbers (flat_steps after ss).steps) (flat_step k s).blocks (flat_steps after ss).blocks (in_step d k s h.0) (in_steps d after ss h.1)
 
     in_step : (d k : ℕ) (s : NestedStep) → StepFits n d s → P d k (step_numbers (flat_step k s).step) (flat_step k s).blocks
-    in_step d k (sets_body e) h = c.nothing d k
-    in_step d k (sets_header name e) h = c.nothing d k
-    in_step d k (sets_property name e) h = c.nothing d k
-    in_step d k (removes_header name) h = c.nothing d k
-    in_step d k (goes_to u) h = c.nothing d k
-    in_step d k (logs name message) h = c.nothing d k
-    in_step d k (throws kind message) h = c.nothing d k
-    in_step d k (processes name) h = c.nothing d k
-    in_step d k (chooses cs l) h =
-        let after = k + length (flat_cases k cs).blocks in
-        c.behind d k (case_numbers (flat_cases k cs).cases) (last_number (number_of after (flat_last after l))) (flat_cases k cs).blocks (flat_last after l) (in_cases d k cs h.1.0) (in_last d after l h.1.1)
-    in_step d k (filters check ss) h = in_block d k (flat_steps (k + 1) ss) h.1.0 (in_steps (d + 1) (k + 1) ss h.1.1)
-    in_step d k (splits how fan ss) h = in_block d k (flat_steps (k + 1) ss) h.1.1.0 (in_steps (d + 1) (k + 1) ss h.1.1.1)
-    in_step d k (multicasts fan ss) h = in_branches d k ss h.1.1.0 h.1.1.1
-    in_step d k (sends_to_list e delimiter fan) h = c.nothing d k
-    in_step d k (aggregates g ss) h = in_block d k (flat_steps (k + 1) ss) h.1.0 (in_steps (d + 1) (k + 1) ss h.1.1)
-    in_step d k (runs_once e name skip eager remove ss) h = in_block d k (flat_steps (k + 1) ss) h.1.1.1.1.0 (in_steps (d + 1) (k + 1) ss h.1.1.1.1.1)
+    in_step d k (leaf s) h = subst (λ ns. P d k ns []) (sym (leaf_numbers s (bare_leaf n s h))) (c.nothing d k)
+    in_step d k (holds f gs) h = subst (λ ns. P d k ns (flat_groups k gs).blocks) (sym (frame_numbers n k f gs h.0)) (in_groups d k gs h.1)
 
-    in_cases : (d k : ℕ) (cs : NestedCases) → CasesFit n d cs → P d k (case_numbers (flat_cases k cs).cases) (flat_cases k cs).blocks
-    in_cases d k no_case h = c.nothing d k
-    in_cases d k (more_case check ss cs) h =
-        let after = k + length (flat_block k ss) in
-        c.behind d k (k ∷ []) (case_numbers (flat_cases after cs).cases) (flat_block k ss) (flat_cases after cs).blocks (in_block d k (flat_steps (k + 1) ss) h.1.0.0 (in_steps (d + 1) (k + 1) ss h.1.0.1)) (in_cases d after cs h.1.1)
-
-    in_last : (d k : ℕ) (l : NestedLast) → LastFits n d l → P d k (last_number (number_of k (flat_last k l))) (flat_last k l)
-    in_last d k no_last h = c.nothing d k
-    in_last d k (last ss) h = in_block d k (flat_steps (k + 1) ss) h.0 (in_steps (d + 1) (k + 1) ss h.1)
-
-    in_branches : (d k : ℕ) (ss : NestedSteps) → d < 16 → StepsFit n (d + 1) ss → P d k (flat_branches k ss).numbers (flat_branches k ss).blocks
-    in_branches d k none l h = c.nothing d k
-    in_branches d k (more s ss) l h =
-        let first = branch (flat_step (k + 1) s) in
+    in_groups : (d k : ℕ) (gs : NestedGroups) → GroupsFit n d gs → P d k (flat_groups k gs).numbers (flat_groups k gs).blocks
+    in_groups d k no_group h = c.nothing d k
+    in_groups d k (group ss gs) h =
+        let first = flat_block k ss in
         let after = k + length first in
-        c.behind d k (k ∷ []) (flat_branches after ss).numbers first (flat_branches after ss).blocks (in_branch d k (flat_step (k + 1) s) l (in_step (d + 1) (k + 1) s h.0)) (in_branches d after ss l h.1)
+        c.behind d k (k ∷ []) (flat_groups after gs).numbers first (flat_groups after gs).blocks (in_block d k (flat_steps (k + 1) ss) h.0.0 (in_steps (d + 1) (k + 1) ss h.0.1)) (in_groups d after gs h.1)
+
+  in_last : (d k : ℕ) (l : NestedLast) → LastFits n d l → P d k (last_number (number_of k (flat_last k l))) (flat_last k l)
+  in_last d k no_last h = c.nothing d k
+  in_last d k (last ss) h = in_block d k (flat_steps (k + 1) ss) h.0 (in_steps (d + 1) (k + 1) ss h.1)
 
   -- ---- the set
 

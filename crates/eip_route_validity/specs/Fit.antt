@@ -11,7 +11,7 @@ use Rattle.eip_uri.specs.Sides.{is_consumer, is_producer}
 use Rattle.eip_uri.specs.declared.uri.Uri.{Uri}
 use Rattle.eip_route.specs.Faults.{same_consumer}
 use Rattle.eip_route.specs.Goals.{is_among, lane_of}
-use Rattle.eip_route.specs.Nest.{Gathering, NestedStep, NestedSteps, NestedCases, NestedLast, NestedClause, NestedRoute, NestedSet, sets_body, sets_header, sets_property, removes_header, goes_to, logs, throws, processes, chooses, filters, splits, multicasts, sends_to_list, aggregates, runs_once, none, more, no_case, more_case, no_last, last}
+use Rattle.eip_route.specs.Nest.{Gathering, Frame, chooses, filters, splits, multicasts, aggregates, runs_once, HasGroups, NestedStep, NestedSteps, NestedGroups, NestedLast, NestedClause, NestedRoute, NestedSet, leaf, holds, none, more, no_group, group, count, no_last, last}
 use Rattle.eip_route.specs.Valid.{is_filled, is_fan, is_kind, is_completed, is_given_name, is_given_between, is_given_among, is_group_strategy, is_policy, is_token}
 use Rattle.eip_route.specs.declared.route.Handler.{Handler}
 use Rattle.eip_route.specs.declared.route.Names.{Names}
@@ -19,6 +19,8 @@ use Rattle.eip_route.specs.declared.step.Check.{Check}
 use Rattle.eip_route.specs.declared.step.Check.TheVariants as check
 use Rattle.eip_route.specs.declared.step.Expr.{Expr}
 use Rattle.eip_route.specs.declared.step.Expr.TheVariants as expr
+use Rattle.eip_route.specs.declared.step.Step.{Step}
+use Rattle.eip_route.specs.declared.step.Step.TheVariants as step
 
 -- ---- what steps are made of
 
@@ -67,9 +69,9 @@ abbrev pub HasSteps : NestedSteps → Type 0
 HasSteps none = ⊥
 HasSteps (more s ss) = Unit {0}
 
-abbrev pub HasCases : NestedCases → Type 0
-HasCases no_case = ⊥
-HasCases (more_case check ss cs) = Unit {0}
+abbrev pub ChecksFit : Names → List Check → Type 0
+ChecksFit n [] = Unit {0}
+ChecksFit n (c ∷ cs) = CheckFits n c × ChecksFit n cs
 
 -- ---- steps, inside d blocks
 
@@ -77,35 +79,66 @@ HasCases (more_case check ss cs) = Unit {0}
 abbrev pub Inside : ℕ → Type 0 → Type 0
 Inside d Steps = (d < 16) × Steps
 
+-- a step that holds no blocks
+abbrev pub LeafFits : Names → Step → Type 0
+LeafFits n (step.SetBody e) = ExprFits e
+LeafFits n (step.SetHeader name e) = (is_name name ≡ true) × ExprFits e
+LeafFits n (step.SetProperty name e) = (is_name name ≡ true) × ExprFits e
+LeafFits n (step.RemoveHeader name) = is_name name ≡ true
+LeafFits n (step.To u) = TargetFits n u
+LeafFits n (step.Log name message) = (is_given_name name ≡ true) × TemplateFits message
+LeafFits n (step.Throw kind message) = (is_kind kind ≡ true) × TemplateFits message
+LeafFits n (step.Process name) = Registered name n.processors
+LeafFits n (step.Recipients e delimiter fan) = ExprFits e × ((is_filled delimiter ≡ true) × (is_fan fan ≡ true))
+LeafFits n _ = ⊥
+
+-- the frame of one that holds blocks
+abbrev pub FrameFits : Names → Frame → Type 0
+FrameFits n (chooses cs l) = (is_filled cs ≡ true) × ChecksFit n cs
+FrameFits n (filters check) = CheckFits n check
+FrameFits n (splits how fan) = (is_token how ≡ true) × (is_fan fan ≡ true)
+FrameFits n (multicasts fan) = is_fan fan ≡ true
+FrameFits n (aggregates g) = GatheringFits g
+FrameFits n (runs_once e name skip eager remove) = ExprFits e × ((is_given_name name ≡ true) × ((eager ≡ true) × (remove ≡ true)))
+
+-- each group is one step
+abbrev pub AreBranches : NestedGroups → Type 0
+AreBranches no_group = Unit {0}
+AreBranches (group none gs) = ⊥
+AreBranches (group (more s none) gs) = AreBranches gs
+AreBranches (group (more s (more t ss)) gs) = ⊥
+
+abbrev pub HasGroup : NestedGroups → Type 0
+HasGroup no_group = ⊥
+HasGroup (group ss gs) = Unit {0}
+
+-- what is asked of the groups of a frame besides their number
+abbrev pub GroupsSuit : Frame → NestedGroups → Type 0
+GroupsSuit (multicasts fan) gs = HasGroup gs × AreBranches gs
+GroupsSuit _ gs = Unit {0}
+
+pub record FrameHolds (n : Names) (f : Frame) (gs : NestedGroups) : Type 0 where
+  pub setting : FrameFits n f
+  pub number : HasGroups f (count gs)
+  pub suit : GroupsSuit f gs
+
 abbrev mutual
   pub StepsFit : Names → ℕ → NestedSteps → Type 0
   StepsFit n d none = Unit {0}
   StepsFit n d (more s ss) = StepFits n d s × StepsFit n d ss
 
   pub StepFits : Names → ℕ → NestedStep → Type 0
-  StepFits n d (sets_body e) = ExprFits e
-  StepFits n d (sets_header name e) = (is_name name ≡ true) × ExprFits e
-  StepFits n d (sets_property name e) = (is_name name ≡ true) × ExprFits e
-  StepFits n d (removes_header name) = is_name name ≡ true
-  StepFits n d (goes_to u) = TargetFits n u
-  StepFits n d (logs name message) = (is_given_name name ≡ true) × TemplateFits message
-  StepFits n d (throws kind message) = (is_kind kind ≡ true) × TemplateFits message
-  StepFits n d (processes name) = Registered name n.processors
-  StepFits n d (chooses cs l) = HasCases cs × (CasesFit n d cs × LastFits n d l)
-  StepFits n d (filters check ss) = CheckFits n check × Inside d (StepsFit n (d + 1) ss)
-  StepFits n d (splits how fan ss) = (is_token how ≡ true) × ((is_fan fan ≡ true) × Inside d (StepsFit n (d + 1) ss))
-  StepFits n d (multicasts fan ss) = HasSteps ss × ((is_fan fan ≡ true) × Inside d (StepsFit n (d + 1) ss))
-  StepFits n d (sends_to_list e delimiter fan) = ExprFits e × ((is_filled delimiter ≡ true) × (is_fan fan ≡ true))
-  StepFits n d (aggregates g ss) = GatheringFits g × Inside d (StepsFit n (d + 1) ss)
-  StepFits n d (runs_once e name skip eager remove ss) = ExprFits e × ((is_given_name name ≡ true) × ((eager ≡ true) × ((remove ≡ true) × Inside d (StepsFit n (d + 1) ss))))
+  StepFits n d (leaf s) = LeafFits n s
+  StepFits n d (holds f gs) = FrameHolds n f gs × GroupsFit n d gs
 
-  pub CasesFit : Names → ℕ → NestedCases → Type 0
-  CasesFit n d no_case = Unit {0}
-  CasesFit n d (more_case check ss cs) = CheckFits n check × (Inside d (StepsFit n (d + 1) ss) × CasesFit n d cs)
+  pub GroupsFit : Names → ℕ → NestedGroups → Type 0
+  GroupsFit n d no_group = Unit {0}
+  GroupsFit n d (group ss gs) = Inside d (StepsFit n (d + 1) ss) × GroupsFit n d gs
 
-  pub LastFits : Names → ℕ → NestedLast → Type 0
-  LastFits n d no_last = Unit {0}
-  LastFits n d (last ss) = Inside d (StepsFit n (d + 1) ss)
+-- steps that may be absent
+abbrev pub LastFits : Names → ℕ → NestedLast → Type 0
+LastFits n d no_last = Unit {0}
+LastFits n d (last ss) = Inside d (StepsFit n (d + 1) ss)
 
 -- a block of these steps
 abbrev pub BlockFits : Names → ℕ → NestedSteps → Type 0

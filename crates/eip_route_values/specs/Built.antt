@@ -1,11 +1,10 @@
 -- What is built of steps that nest, as the numbered form has it.
 use Rattle.std.specs.Prelude.{◌≡◌, ℕ, Option, Some, None}
 use Rattle.eip_route.specs.declared.route.Route.{Route}
-use Rattle.eip_route.specs.Nest.{NestedRoute, flat_block, FlatStep, FlatSteps, FlatCases, FlatBranches, FlatClauses, FlatRoutes}
+use Rattle.eip_route.specs.Nest.{NestedRoute, flat_block, FlatStep, FlatSteps, FlatGroups, FlatClauses, FlatRoutes}
 use Rattle.eip_route_values.specs.declared.built.BuiltStep.{BuiltStep}
 use Rattle.eip_route_values.specs.declared.built.BuiltSteps.{BuiltSteps}
-use Rattle.eip_route_values.specs.declared.built.BuiltCases.{BuiltCases}
-use Rattle.eip_route_values.specs.declared.built.BuiltBranches.{BuiltBranches}
+use Rattle.eip_route_values.specs.declared.built.BuiltGroups.{BuiltGroups}
 use Rattle.eip_route_values.specs.declared.built.BuiltClauses.{BuiltClauses}
 use Rattle.eip_route_values.specs.declared.built.BuiltRoute.{BuiltRoute}
 use Rattle.eip_route_values.specs.declared.built.BuiltRoutes.{BuiltRoutes}
@@ -16,11 +15,8 @@ IsStep b f = (b.step ≡ f.step) × (b.blocks.items ≡ f.blocks)
 abbrev pub AreSteps : BuiltSteps → FlatSteps → Type 0
 AreSteps b f = (b.steps.items ≡ f.steps) × (b.blocks.items ≡ f.blocks)
 
-abbrev pub AreCases : BuiltCases → FlatCases → Type 0
-AreCases b f = (b.cases.items ≡ f.cases) × (b.blocks.items ≡ f.blocks)
-
-abbrev pub AreBranches : BuiltBranches → FlatBranches → Type 0
-AreBranches b f = (b.numbers.items ≡ f.numbers) × (b.blocks.items ≡ f.blocks)
+abbrev pub AreGroups : BuiltGroups → FlatGroups → Type 0
+AreGroups b f = (b.numbers.items ≡ f.numbers) × (b.blocks.items ≡ f.blocks)
 
 abbrev pub AreClauses : BuiltClauses → FlatClauses → Type 0
 AreClauses b f = (b.clauses.items ≡ f.clauses) × (b.blocks.items ≡ f.blocks)

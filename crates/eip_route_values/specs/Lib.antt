@@ -1,6 +1,6 @@
 pub mod Leaves
 pub mod Parts
-pub mod Kinds
+pub mod Places
 pub mod Nesting
 pub mod Sets
 pub mod Built

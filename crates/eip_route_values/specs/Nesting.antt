@@ -1,58 +1,109 @@
 -- The steps that a route file's lists of steps say, as they nest. Where a value is of a wrong kind, the file has a fault, and what stands here is a default.
-use Rattle.std.specs.Prelude.{ℕ, true, List, [], Option, Some, None, option_map, if◌then◌else◌}
+use Rattle.std.specs.Prelude.{ℕ, true, List, [], ◌∷◌, Option, Some, None, is_some, option_map, if◌then◌else◌}
 use Rattle.eip_text.specs.Json.{Json, word, list, object, Items, no_items, item, Members, no_members, member}
 use Rattle.eip_route.specs.declared.step.Check.{Check}
 use Rattle.eip_route.specs.declared.step.Check.TheVariants as check
-use Rattle.eip_route.specs.Nest.{NestedStep, NestedSteps, NestedCases, NestedLast, sets_body, sets_header, sets_property, removes_header, goes_to, logs, throws, processes, chooses, filters, splits, multicasts, sends_to_list, aggregates, runs_once, none, more, no_case, more_case, no_last, last}
+use Rattle.eip_route.specs.declared.step.Step.{Step}
+use Rattle.eip_route.specs.declared.step.Step.TheVariants as step
+use Rattle.eip_route.specs.Nest.{Frame, chooses, filters, splits, multicasts, aggregates, runs_once, NestedStep, NestedSteps, NestedGroups, leaf, holds, none, more, no_group, group, fill}
 use Rattle.eip_route_grammar.specs.Keys.{is_spelled}
 use Rattle.eip_route_grammar.specs.Objects.{value_at}
 use Rattle.eip_route_grammar.specs.Texts.{unhashed, last_segment}
+use Rattle.eip_route_grammar.specs.declared.keys.Key.{Key}
 use Rattle.eip_route_grammar.specs.declared.keys.Key.TheVariants as key
-use Rattle.eip_route_values.specs.Kinds.{kind_of}
 use Rattle.eip_route_values.specs.Leaves.{text_of, text_at, flag_at}
 use Rattle.eip_route_values.specs.Parts.{template, endpoint, endpoint_in, expr_in, check_in, fan_in, how_given, delimiter_given, gathering_in, repository_given}
-use Rattle.eip_route_values.specs.declared.kinds.StepKind.{StepKind}
-use Rattle.eip_route_values.specs.declared.kinds.StepKind.TheVariants as kind
+use Rattle.eip_route_values.specs.Places.{places, step_key}
+use Rattle.eip_route_values.specs.declared.places.Place.{Place}
+use Rattle.eip_route_values.specs.declared.places.Place.TheVariants as place
 
--- what stands for no step
-abbrev pub no_step : NestedStep
-no_step = removes_header []
-
--- a step that is given by an object with these members, of which `steps`, `when` and `otherwise` nest so
-abbrev pub object_step : StepKind → Members → NestedSteps → NestedCases → NestedLast → NestedStep
-object_step kind.SetBody ms steps cases otherwise = sets_body (expr_in ms)
-object_step kind.SetHeader ms steps cases otherwise = sets_header (text_at key.Name ms) (expr_in ms)
-object_step kind.SetProperty ms steps cases otherwise = sets_property (text_at key.Name ms) (expr_in ms)
-object_step kind.RemoveHeader ms steps cases otherwise = removes_header (text_at key.Name ms)
-object_step kind.To ms steps cases otherwise = goes_to (endpoint_in ms)
-object_step kind.Log ms steps cases otherwise = logs (option_map text_of (value_at key.LogName ms)) (template (text_at key.Message ms))
-object_step kind.ThrowException ms steps cases otherwise = throws (last_segment (text_at key.ExceptionType ms)) (template (text_at key.Message ms))
-object_step kind.Process ms steps cases otherwise = processes (unhashed (text_at key.Ref ms))
-object_step kind.Choice ms steps cases otherwise = chooses cases otherwise
-object_step kind.Filter ms steps cases otherwise = filters (check_in ms) steps
-object_step kind.Split ms steps cases otherwise = splits (how_given (value_at key.Tokenize ms)) (fan_in ms) steps
-object_step kind.Multicast ms steps cases otherwise = multicasts (fan_in ms) steps
-object_step kind.RecipientList ms steps cases otherwise = sends_to_list (expr_in ms) (delimiter_given (value_at key.Delimiter ms)) (fan_in ms)
-object_step kind.Aggregate ms steps cases otherwise = aggregates (gathering_in ms) steps
-object_step kind.IdempotentConsumer ms steps cases otherwise =
-    runs_once (expr_in ms) (repository_given (value_at key.IdempotentRepository ms)) (flag_at true key.SkipDuplicate ms) (flag_at true key.Eager ms) (flag_at true key.RemoveOnFailure ms) steps
-
--- a step that is given by a text
-abbrev pub text_step : StepKind → List ℕ → NestedStep
-text_step kind.RemoveHeader w = removes_header w
-text_step kind.To w = goes_to (endpoint w [])
-text_step kind.Log w = logs None (template w)
-text_step kind.Process w = processes (unhashed w)
-text_step _ w = no_step
-
-abbrev pub if_known : Option StepKind → (StepKind → NestedStep) → NestedStep
-if_known None step = no_step
-if_known (Some v) step = step v
+-- ---- a step by itself
 
 -- what a case of a choice asks
 abbrev pub case_check : Json → Check
 case_check (object ms) = check_in ms
 case_check _ = check.Stored []
+
+abbrev pub checks_of : Items → List Check
+checks_of no_items = []
+checks_of (item t ts) = case_check t ∷ checks_of ts
+
+-- the items of a list that may be absent
+abbrev pub items_given : Option Json → Items
+items_given (Some (list ts)) = ts
+items_given _ = no_items
+
+-- what the cases of a choice ask
+abbrev pub checks_in : Members → List Check
+checks_in ms = checks_of (items_given (value_at key.When ms))
+
+-- what an object says but for the steps that it holds: a step, or the frame of one
+pub data Said : Type 0 where
+  bare : Step → Said
+  framed : Frame → Said
+
+-- what stands for no step
+abbrev pub no_step : Step
+no_step = step.RemoveHeader []
+
+-- by an object with these members
+abbrev pub said : Key → Members → Said
+said key.SetBody ms = bare (step.SetBody (expr_in ms))
+said key.SetHeader ms = bare (step.SetHeader (text_at key.Name ms) (expr_in ms))
+said key.SetProperty ms = bare (step.SetProperty (text_at key.Name ms) (expr_in ms))
+said key.RemoveHeader ms = bare (step.RemoveHeader (text_at key.Name ms))
+said key.To ms = bare (step.To (endpoint_in ms))
+said key.Log ms = bare (step.Log (option_map text_of (value_at key.LogName ms)) (template (text_at key.Message ms)))
+said key.ThrowException ms = bare (step.Throw (last_segment (text_at key.ExceptionType ms)) (template (text_at key.Message ms)))
+said key.Process ms = bare (step.Process (unhashed (text_at key.Ref ms)))
+said key.RecipientList ms = bare (step.Recipients (expr_in ms) (delimiter_given (value_at key.Delimiter ms)) (fan_in ms))
+said key.Choice ms = framed (chooses (checks_in ms) (is_some (value_at key.Otherwise ms)))
+said key.Filter ms = framed (filters (check_in ms))
+said key.Split ms = framed (splits (how_given (value_at key.Tokenize ms)) (fan_in ms))
+said key.Multicast ms = framed (multicasts (fan_in ms))
+said key.Aggregate ms = framed (aggregates (gathering_in ms))
+said key.IdempotentConsumer ms =
+    framed (runs_once (expr_in ms) (repository_given (value_at key.IdempotentRepository ms)) (flag_at true key.SkipDuplicate ms) (flag_at true key.Eager ms) (flag_at true key.RemoveOnFailure ms))
+said _ ms = bare no_step
+
+-- by a text
+abbrev pub text_said : Key → List ℕ → Step
+text_said key.RemoveHeader w = step.RemoveHeader w
+text_said key.To w = step.To (endpoint w [])
+text_said key.Log w = step.Log None (template w)
+text_said key.Process w = step.Process (unhashed w)
+text_said _ w = no_step
+
+-- with the steps that it holds, and with the numbers of their blocks
+abbrev pub with_groups : Said → NestedGroups → NestedStep
+with_groups (bare s) gs = leaf s
+with_groups (framed f) gs = holds f gs
+
+abbrev pub with_numbers : Said → List ℕ → Step
+with_numbers (bare s) ns = s
+with_numbers (framed f) ns = fill f ns
+
+-- ---- the steps that it holds
+
+abbrev pub followed : NestedGroups → NestedGroups → NestedGroups
+followed no_group hs = hs
+followed (group ss gs) hs = group ss (followed gs hs)
+
+-- one place, where what stands at each is given
+abbrev pub at_place : NestedSteps → NestedGroups → (Key → NestedGroups) → (Key → NestedGroups) → Place → NestedGroups
+at_place steps branches each_of one_of place.Steps = group steps no_group
+at_place steps branches each_of one_of place.Branches = branches
+at_place steps branches each_of one_of (place.Each k) = each_of k
+at_place steps branches each_of one_of (place.One k) = one_of k
+
+-- several places, one behind the other
+abbrev pub at_places : (Place → NestedGroups) → List Place → NestedGroups
+at_places at [] = no_group
+at_places at (p ∷ ps) = followed (at p) (at_places at ps)
+
+abbrev pub if_known : Option Key → (Key → NestedStep) → NestedStep
+if_known None s = leaf no_step
+if_known (Some k) s = s k
 
 abbrev mutual
   -- a list of steps
@@ -64,44 +115,61 @@ abbrev mutual
   nest_steps no_items = none
   nest_steps (item t ts) = more (nest_step t) (nest_steps ts)
 
-  -- an object with one key, the step's kind
+  -- an object with one key, the step's
   pub nest_step : Json → NestedStep
   nest_step (object ms) = nest_only ms
-  nest_step _ = no_step
+  nest_step _ = leaf no_step
 
   pub nest_only : Members → NestedStep
-  nest_only no_members = no_step
-  nest_only (member k t ms) = nest_kind (kind_of k) t
+  nest_only no_members = leaf no_step
+  nest_only (member k t ms) = nest_value (step_key k) t
 
-  pub nest_kind : Option StepKind → Json → NestedStep
-  nest_kind v (object ms) = if_known v (λ kind. object_step kind ms (nest_in ms) (nest_cases_in ms) (nest_last_in ms))
-  nest_kind v (word w) = if_known v (λ kind. text_step kind w)
-  nest_kind v _ = no_step
+  pub nest_value : Option Key → Json → NestedStep
+  nest_value v (object ms) = if_known v (λ k. with_groups (said k ms) (at_places (at_place (nest_in ms) (nest_branches_in ms) (λ q. nest_each_in q ms) (λ q. nest_one_in q ms)) (places k)))
+  nest_value v (word w) = if_known v (λ k. leaf (text_said k w))
+  nest_value v _ = leaf no_step
 
   -- the `steps` of an object
   pub nest_in : Members → NestedSteps
   nest_in no_members = none
   nest_in (member k t ms) = if is_spelled key.Steps k then nest_list t else nest_in ms
 
-  -- the cases of a choice
-  pub nest_cases_in : Members → NestedCases
-  nest_cases_in no_members = no_case
-  nest_cases_in (member k t ms) = if is_spelled key.When k then nest_case_list t else nest_cases_in ms
+  -- and of an object by its value
+  pub nest_inner : Json → NestedSteps
+  nest_inner (object ms) = nest_in ms
+  nest_inner _ = none
 
-  pub nest_case_list : Json → NestedCases
-  nest_case_list (list ts) = nest_cases ts
-  nest_case_list _ = no_case
+  -- each of the `steps` of an object
+  pub nest_branches_in : Members → NestedGroups
+  nest_branches_in no_members = no_group
+  nest_branches_in (member k t ms) = if is_spelled key.Steps k then nest_branch_list t else nest_branches_in ms
 
-  pub nest_cases : Items → NestedCases
-  nest_cases no_items = no_case
-  nest_cases (item t ts) = more_case (case_check t) (nest_case t) (nest_cases ts)
+  pub nest_branch_list : Json → NestedGroups
+  nest_branch_list (list ts) = nest_branches ts
+  nest_branch_list _ = no_group
 
-  -- the steps of an object of a choice
-  pub nest_case : Json → NestedSteps
-  nest_case (object ms) = nest_in ms
-  nest_case _ = none
+  pub nest_branches : Items → NestedGroups
+  nest_branches no_items = no_group
+  nest_branches (item t ts) = group (more (nest_step t) none) (nest_branches ts)
 
-  -- the `otherwise` of a choice
-  pub nest_last_in : Members → NestedLast
-  nest_last_in no_members = no_last
-  nest_last_in (member k t ms) = if is_spelled key.Otherwise k then last (nest_case t) else nest_last_in ms
+  -- the `steps` of each object in the list of a key
+  pub nest_each_in : Key → Members → NestedGroups
+  nest_each_in q no_members = no_group
+  nest_each_in q (member k t ms) = if is_spelled q k then nest_each_list t else nest_each_in q ms
+
+  pub nest_each_list : Json → NestedGroups
+  nest_each_list (list ts) = nest_each ts
+  nest_each_list _ = no_group
+
+  pub nest_each : Items → NestedGroups
+  nest_each no_items = no_group
+  nest_each (item t ts) = group (nest_inner t) (nest_each ts)
+
+  -- the `steps` of the object of a key, where it is there
+  pub nest_one_in : Key → Members → NestedGroups
+  nest_one_in q no_members = no_group
+  nest_one_in q (member k t ms) = if is_spelled q k then group (nest_inner t) no_group else nest_one_in q ms
+
+-- what an object with these members holds at a place
+abbrev pub nest_at : Members → Place → NestedGroups
+nest_at ms = at_place (nest_in ms) (nest_branches_in ms) (λ q. nest_each_in q ms) (λ q. nest_one_in q ms)

@@ -2,7 +2,7 @@ ghost use Rattle.std.specs.Prelude.{◌≡◌, ◌+◌, [], ◌∷◌, IfOk};
 ghost use Rattle.eip_route.specs.Nest.{number_of};
 
 use eip_exchange::Clause;
-use eip_route::{Block, Check, Route, Step};
+use eip_route::{Block, Route, Step};
 use eip_text::{NoMemory, Series};
 use std::alloc::Global;
 
@@ -20,16 +20,9 @@ pub struct BuiltSteps {
     pub blocks: Vec<Block>,
 }
 
-/// The cases of a choice and their blocks.
+/// The numbers of groups of steps, of which each is a block, and these blocks.
 #[derive(Drop)]
-pub struct BuiltCases {
-    pub cases: Vec<(Check, u32)>,
-    pub blocks: Vec<Block>,
-}
-
-/// The numbers of the branches of a multicast, and their blocks.
-#[derive(Drop)]
-pub struct BuiltBranches {
+pub struct BuiltGroups {
     pub numbers: Vec<u32>,
     pub blocks: Vec<Block>,
 }
@@ -83,17 +76,6 @@ pub fn number_at(number: u32, blocks: &[Block]) -> Option<u32>
     match blocks {
         [] => None,
         [_, ..] => Some(number),
-    }
-}
-
-/// A step without blocks.
-pub fn leaf(alloc: Global, step: Step) -> BuiltStep
-    ensures step { result.step ≡ step }
-    ensures blocks { result.blocks.items ≡ [] }
-{
-    BuiltStep {
-        step,
-        blocks: Vec::new(alloc),
     }
 }
 

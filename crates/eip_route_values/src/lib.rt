@@ -3,7 +3,7 @@
 #![tactic(auto)]
 
 pub mod built;
-pub mod kinds;
 pub mod leaves;
 pub mod parts;
+pub mod places;
 pub mod steps;

@@ -2,16 +2,12 @@
 
 ghost use Rattle.std.specs.Prelude.{◌≡◌, [], IfOk, option_map};
 ghost use Rattle.eip_text.specs.Json.{members_json};
-ghost use Rattle.eip_route.specs.Nest as nest;
 ghost use Rattle.eip_route_grammar.specs.Texts as texts;
 ghost use Rattle.eip_route_grammar.specs.Objects as objects;
-ghost use Rattle.eip_route_values.specs.Built.{IsStep};
 ghost use Rattle.eip_route_values.specs.Leaves as leaves;
-ghost use Rattle.eip_route_values.specs.Nesting.{text_step};
+ghost use Rattle.eip_route_values.specs.Nesting.{text_said};
 ghost use Rattle.eip_route_values.specs.Parts as parts;
 
-use crate::built::{BuiltStep, leaf};
-use crate::kinds::StepKind;
 use crate::leaves::{text_at, text_of};
 use crate::parts::{delimiter_in, endpoint, endpoint_in, expr_in, fan_in, template};
 use eip_route::Step;
@@ -22,81 +18,81 @@ use eip_text::{NoMemory, Text, Tree};
 use std::alloc::Global;
 
 /// `setBody`: the value replaces the body.
-pub fn set_body(alloc: Global, members: &[(Text, Tree)]) -> Result<BuiltStep, NoMemory>
+pub fn set_body(alloc: Global, members: &[(Text, Tree)]) -> Result<Step, NoMemory>
     ensures { let ms = members_json members.now in
-        IfOk result (λ b. IsStep b (nest.leaf (Step.SetBody (parts.expr_in ms)))) }
+        IfOk result (λ s. s ≡ Step.SetBody (parts.expr_in ms)) }
 {
     let value = expr_in(alloc, members)?;
-    Ok(leaf(alloc, Step::SetBody(value)))
+    Ok(Step::SetBody(value))
 }
 
 /// `setHeader`: the value becomes the header of a name.
-pub fn set_header(alloc: Global, members: &[(Text, Tree)]) -> Result<BuiltStep, NoMemory>
+pub fn set_header(alloc: Global, members: &[(Text, Tree)]) -> Result<Step, NoMemory>
     ensures { let ms = members_json members.now in
         let name = leaves.text_at Key.Name ms in
-        IfOk result (λ b. IsStep b (nest.leaf (Step.SetHeader name (parts.expr_in ms)))) }
+        IfOk result (λ s. s ≡ Step.SetHeader name (parts.expr_in ms)) }
 {
     let name = Text::of_str(alloc, text_at(Key::Name, members))?;
     let value = expr_in(alloc, members)?;
-    Ok(leaf(alloc, Step::SetHeader { name, value }))
+    Ok(Step::SetHeader { name, value })
 }
 
 /// `setProperty`: the value becomes the exchange property of a name.
-pub fn set_property(alloc: Global, members: &[(Text, Tree)]) -> Result<BuiltStep, NoMemory>
+pub fn set_property(alloc: Global, members: &[(Text, Tree)]) -> Result<Step, NoMemory>
     ensures { let ms = members_json members.now in
         let name = leaves.text_at Key.Name ms in
-        IfOk result (λ b. IsStep b (nest.leaf (Step.SetProperty name (parts.expr_in ms)))) }
+        IfOk result (λ s. s ≡ Step.SetProperty name (parts.expr_in ms)) }
 {
     let name = Text::of_str(alloc, text_at(Key::Name, members))?;
     let value = expr_in(alloc, members)?;
-    Ok(leaf(alloc, Step::SetProperty { name, value }))
+    Ok(Step::SetProperty { name, value })
 }
 
 /// A header's name as a text.
-fn remove_header_text(alloc: Global, name: &str) -> Result<BuiltStep, NoMemory>
-    ensures { IfOk result (λ b. IsStep b (nest.leaf (Step.RemoveHeader name.now))) }
+fn remove_header_text(alloc: Global, name: &str) -> Result<Step, NoMemory>
+    ensures { IfOk result (λ s. s ≡ Step.RemoveHeader name.now) }
 {
     let name = Text::of_str(alloc, name)?;
-    Ok(leaf(alloc, Step::RemoveHeader(name)))
+    Ok(Step::RemoveHeader(name))
 }
 
 /// `removeHeader`: the header of a name goes.
-pub fn remove_header(alloc: Global, members: &[(Text, Tree)]) -> Result<BuiltStep, NoMemory>
+pub fn remove_header(alloc: Global, members: &[(Text, Tree)]) -> Result<Step, NoMemory>
     ensures { let name = leaves.text_at Key.Name (members_json members.now) in
-        IfOk result (λ b. IsStep b (nest.leaf (Step.RemoveHeader name))) }
+        IfOk result (λ s. s ≡ Step.RemoveHeader name) }
 {
     remove_header_text(alloc, text_at(Key::Name, members))
 }
 
 /// What stands for no step, in a file with a fault.
-pub fn nothing(alloc: Global) -> Result<BuiltStep, NoMemory>
-    ensures { IfOk result (λ b. IsStep b (nest.leaf (Step.RemoveHeader []))) }
+pub fn nothing(alloc: Global) -> Result<Step, NoMemory>
+    ensures { IfOk result (λ s. s ≡ Step.RemoveHeader []) }
 {
     remove_header_text(alloc, "")
 }
 
-fn to_text(alloc: Global, text: &str) -> Result<BuiltStep, NoMemory>
-    ensures { IfOk result (λ b. IsStep b (nest.leaf (Step.To (parts.endpoint text.now [])))) }
+fn to_text(alloc: Global, text: &str) -> Result<Step, NoMemory>
+    ensures { IfOk result (λ s. s ≡ Step.To (parts.endpoint text.now [])) }
 {
     let uri = endpoint(alloc, text, &[])?;
-    Ok(leaf(alloc, Step::To(uri)))
+    Ok(Step::To(uri))
 }
 
 /// `to`: the message goes to an endpoint.
-pub fn to(alloc: Global, members: &[(Text, Tree)]) -> Result<BuiltStep, NoMemory>
+pub fn to(alloc: Global, members: &[(Text, Tree)]) -> Result<Step, NoMemory>
     ensures { let ms = members_json members.now in
-        IfOk result (λ b. IsStep b (nest.leaf (Step.To (parts.endpoint_in ms)))) }
+        IfOk result (λ s. s ≡ Step.To (parts.endpoint_in ms)) }
 {
     let uri = endpoint_in(alloc, members)?;
-    Ok(leaf(alloc, Step::To(uri)))
+    Ok(Step::To(uri))
 }
 
-fn log_text(alloc: Global, text: &str) -> Result<BuiltStep, NoMemory>
-    ensures { IfOk result (λ b. IsStep b (nest.leaf (Step.Log None (parts.template text.now)))) }
+fn log_text(alloc: Global, text: &str) -> Result<Step, NoMemory>
+    ensures { IfOk result (λ s. s ≡ Step.Log None (parts.template text.now)) }
 {
     let message = template(alloc, text)?;
     let name = None;
-    Ok(leaf(alloc, Step::Log { name, message }))
+    Ok(Step::Log { name, message })
 }
 
 fn log_name(alloc: Global, members: &[(Text, Tree)]) -> Result<Option<Text>, NoMemory>
@@ -110,72 +106,69 @@ fn log_name(alloc: Global, members: &[(Text, Tree)]) -> Result<Option<Text>, NoM
 }
 
 /// `log`: a line of the log.
-pub fn log(alloc: Global, members: &[(Text, Tree)]) -> Result<BuiltStep, NoMemory>
+pub fn log(alloc: Global, members: &[(Text, Tree)]) -> Result<Step, NoMemory>
     ensures { let ms = members_json members.now in
         let name = option_map leaves.text_of (objects.value_at Key.LogName ms) in
         let message = parts.template (leaves.text_at Key.Message ms) in
-        IfOk result (λ b. IsStep b (nest.leaf (Step.Log name message))) }
+        IfOk result (λ s. s ≡ Step.Log name message) }
 {
     let name = log_name(alloc, members)?;
     let message = template(alloc, text_at(Key::Message, members))?;
-    Ok(leaf(alloc, Step::Log { name, message }))
+    Ok(Step::Log { name, message })
 }
 
 /// `throwException`: a fault whose kind is the last segment of the exception's type.
-pub fn throw(alloc: Global, members: &[(Text, Tree)]) -> Result<BuiltStep, NoMemory>
+pub fn throw(alloc: Global, members: &[(Text, Tree)]) -> Result<Step, NoMemory>
     ensures { let ms = members_json members.now in
         let kind = texts.last_segment (leaves.text_at Key.ExceptionType ms) in
         let message = parts.template (leaves.text_at Key.Message ms) in
-        IfOk result (λ b. IsStep b (nest.leaf (Step.Throw kind message))) }
+        IfOk result (λ s. s ≡ Step.Throw kind message) }
 {
     let kind = Text::of_str(alloc, last_segment(text_at(Key::ExceptionType, members)))?;
     let message = template(alloc, text_at(Key::Message, members))?;
-    Ok(leaf(alloc, Step::Throw { kind, message }))
+    Ok(Step::Throw { kind, message })
 }
 
-fn process_text(alloc: Global, name: &str) -> Result<BuiltStep, NoMemory>
-    ensures { IfOk result (λ b. IsStep b (nest.leaf (Step.Process (texts.unhashed name.now)))) }
+fn process_text(alloc: Global, name: &str) -> Result<Step, NoMemory>
+    ensures { IfOk result (λ s. s ≡ Step.Process (texts.unhashed name.now)) }
 {
     let name = Text::of_str(alloc, unhashed(name))?;
-    Ok(leaf(alloc, Step::Process(name)))
+    Ok(Step::Process(name))
 }
 
 /// `process`: the message is handed to a processor.
-pub fn process(alloc: Global, members: &[(Text, Tree)]) -> Result<BuiltStep, NoMemory>
+pub fn process(alloc: Global, members: &[(Text, Tree)]) -> Result<Step, NoMemory>
     ensures { let name = texts.unhashed (leaves.text_at Key.Ref (members_json members.now)) in
-        IfOk result (λ b. IsStep b (nest.leaf (Step.Process name))) }
+        IfOk result (λ s. s ≡ Step.Process name) }
 {
     process_text(alloc, text_at(Key::Ref, members))
 }
 
 /// `recipientList`: a copy goes to each endpoint that a list names.
-pub fn recipients(alloc: Global, members: &[(Text, Tree)]) -> Result<BuiltStep, NoMemory>
+pub fn recipients(alloc: Global, members: &[(Text, Tree)]) -> Result<Step, NoMemory>
     ensures { let ms = members_json members.now in
         let delimiter = parts.delimiter_given (objects.value_at Key.Delimiter ms) in
-        IfOk result (λ b. IsStep b (nest.leaf (Step.Recipients (parts.expr_in ms) delimiter (parts.fan_in ms)))) }
+        IfOk result (λ s. s ≡ Step.Recipients (parts.expr_in ms) delimiter (parts.fan_in ms)) }
 {
     let list = expr_in(alloc, members)?;
     let delimiter = delimiter_in(alloc, members)?;
     let fan = fan_in(alloc, members)?;
-    Ok(leaf(
-        alloc,
-        Step::Recipients {
-            list,
-            delimiter,
-            fan,
-        },
-    ))
+    Ok(Step::Recipients {
+        list,
+        delimiter,
+        fan,
+    })
 }
 
-/// A step that is given by a text.
-pub fn text_step(alloc: Global, n: u32, kind: StepKind, text: &str) -> Result<BuiltStep, NoMemory>
-    ensures { IfOk result (λ b. IsStep b (nest.flat_step n (text_step kind text.now))) }
+/// The step that a text says of a kind of step.
+pub fn text_said(alloc: Global, step: Key, text: &str) -> Result<Step, NoMemory>
+    ensures { IfOk result (λ s. s ≡ text_said step text.now) }
 {
-    match kind {
-        StepKind::RemoveHeader => remove_header_text(alloc, text),
-        StepKind::To => to_text(alloc, text),
-        StepKind::Log => log_text(alloc, text),
-        StepKind::Process => process_text(alloc, text),
+    match step {
+        Key::RemoveHeader => remove_header_text(alloc, text),
+        Key::To => to_text(alloc, text),
+        Key::Log => log_text(alloc, text),
+        Key::Process => process_text(alloc, text),
         _ => nothing(alloc),
     }
 }

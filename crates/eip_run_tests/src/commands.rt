@@ -1,4 +1,6 @@
-use eip_command::{Command, Path, WordsFault, fault_line, read_words};
+use eip_command::{
+    Command, Form, OptionRule, Path, Rule, WordsFault, fault_line, read_words, value_of,
+};
 use eip_route_grammar::{Cause, RouteFault};
 use eip_test_support::texts;
 use eip_text::Text;
@@ -36,10 +38,12 @@ fn a_command_names_the_folder_and_the_name_of_its_file(rt: HostRuntime) -> Resul
 }
 
 /// Words that are no command.
-const NO_COMMANDS: [&[&str]; 12] = [
+const NO_COMMANDS: [&[&str]; 14] = [
     &[],
     &["drain"],
     &["drain", "r.json", "--turns", "0"],
+    &["drain", "r.json", "--turns", "5"],
+    &["audit", "r.json", "j.txt"],
     &["drain", "--turns", "5", "r.json", "--turns", "5"],
     &["check"],
     &["check", "r.json", "r.json"],
@@ -57,6 +61,69 @@ fn other_words_are_no_command(rt: HostRuntime) -> Result<(), Fail> {
         let words = texts(rt.alloc(), words)?;
         assert!(rt; matches!(read_words(rt.alloc(), &words), Err(WordsFault::Refused)));
     }
+    Ok(())
+}
+
+/// The form `listen ROUTES CONNECTIONS [--turns N] [--journal FILE]`.
+const LISTEN: Form = Form {
+    word: "listen",
+    operands: &[Rule::Path, Rule::Count(1, 8)],
+    options: &[
+        OptionRule {
+            word: "--turns",
+            value: Rule::Count(1, 1_000_000),
+        },
+        OptionRule {
+            word: "--journal",
+            value: Rule::Path,
+        },
+    ],
+};
+
+/// Words that go by that form.
+const LISTENING: [&[&str]; 4] = [
+    &["r.json", "1"],
+    &["r.json", "8", "--turns", "1000000"],
+    &["r.json", "8", "--turns", "1", "--journal", "a/j"],
+    &["r.json", "8", "--journal", "j", "--turns", "1"],
+];
+
+/// Words that don't.
+const NOT_LISTENING: [&[&str]; 15] = [
+    &[],
+    &["r.json"],
+    &["8", "r.json"],
+    &["r.json", "0"],
+    &["r.json", "9"],
+    &["r.json", "08"],
+    &["r.json", "+8"],
+    &["r.json", "8", "--turns"],
+    &["r.json", "8", "--turns", "0"],
+    &["r.json", "8", "--turns", "1000001"],
+    &["r.json", "8", "--turns=5"],
+    &["r.json", "8", "--turns", "5", "--turns", "5"],
+    &["r.json", "8", "--workers", "5"],
+    &["r.json", "8", "--journal", "a/"],
+    &["--turns", "5", "r.json", "8"],
+];
+
+#[test]
+fn options_come_behind_the_operands_in_pairs_each_once(rt: HostRuntime) -> Result<(), Fail> {
+    for words in LISTENING {
+        assert!(rt; LISTEN.admits(&texts(rt.alloc(), words)?));
+    }
+    for words in NOT_LISTENING {
+        assert!(rt; !LISTEN.admits(&texts(rt.alloc(), words)?));
+    }
+    Ok(())
+}
+
+#[test]
+fn an_option_has_the_word_behind_it(rt: HostRuntime) -> Result<(), Fail> {
+    let pairs = texts(rt.alloc(), &["--journal", "j", "--turns", "5"])?;
+    assert!(rt; value_of(&pairs, "--turns").is_some_and(|value| value.as_str() == "5"));
+    assert!(rt; value_of(&pairs, "--journal").is_some_and(|value| value.as_str() == "j"));
+    assert!(rt; value_of(&pairs, "5").is_none());
     Ok(())
 }
 

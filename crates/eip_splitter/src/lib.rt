@@ -2,10 +2,16 @@
 #![tactic(auto)]
 
 mod array;
+mod batch;
 mod fault;
+mod held;
+mod keys;
+mod laws;
 mod numbered;
 mod splitter;
 mod token;
 
+pub use batch::batch_parts;
 pub use fault::SplitFault;
+pub use laws::batch_law;
 pub use splitter::parts;

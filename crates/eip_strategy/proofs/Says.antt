@@ -12,7 +12,7 @@ use Rattle.eip_strategy.proofs.Groups.{IsGroup-one, IsGroup-more}
 
 -- ---- the body of a result
 
-checked_is : (b : Bool) (limit : ℕ) (m n : Message) → nat_le (length m.body) limit ≡ b → checked limit m ≡ Ok n → m ≡ n
+pub checked_is : (b : Bool) (limit : ℕ) (m n : Message) → nat_le (length m.body) limit ≡ b → checked limit m ≡ Ok n → m ≡ n
 checked_is true limit m n e h = let k : ◌≡◌ {A = Answer Message} (Ok m) (Ok n) = rw e at h in cc
 checked_is false limit m n e h = absurd (let k = rw e at h in cc)
 

@@ -1,5 +1,5 @@
 -- How a message is packed behind those before it.
-use Rattle.std.specs.Prelude.{[], ◌∷◌, ◌++◌, Option, Some, None}
+use Rattle.std.specs.Prelude.{◌≡◌, ℕ, List, [], ◌∷◌, ◌++◌, map, Option, Some, None}
 use Rattle.eip_exchange.specs.declared.message.Message.{Message}
 use Rattle.eip_resequence.specs.declared.packed.Packed.{Packed}
 use Rattle.eip_resequence.specs.Packing.{pack_text, IsPacked}
@@ -27,3 +27,7 @@ added_packed old new = checked 16777216 (packed_behind (before old) new)
 abbrev pub IsBatch : Option Message → Type 0
 IsBatch None = Unit {0}
 IsBatch (Some old) = IsPacked old.body
+
+-- a text that is packed of these messages, from the first to the last
+abbrev pub IsPackedOf : List ℕ → List Message → Type 0
+IsPackedOf text ms = text ≡ pack_text (map packed_of ms)

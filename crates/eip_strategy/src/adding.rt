@@ -9,7 +9,6 @@ use crate::fault::StrategyFault;
 use crate::growing::Growing;
 use crate::steps::step;
 use eip_exchange::{Message, Strategy};
-use eip_text::NoMemory;
 use std::alloc::Global;
 
 /// The messages so far, `old`, in one with a new message (Camel manual, *AggregationStrategy*); without `old` the new
@@ -35,16 +34,16 @@ pub fn add(
     ensures says { Says (λ m. m) result (added strategy.now old new.now) }
     ensures ready { IfOk result (λ m. IsReadyBody strategy.now m.body) }
 {
-    let so_far = growing_of(alloc, old)?;
+    let so_far = growing_of(old);
     Ok(step(alloc, strategy, so_far, new)?.into_message())
 }
 
-fn growing_of(alloc: Global, old: Option<Message>) -> Result<Option<Growing>, NoMemory>
-    ensures { IfOk result (λ g. option_map grown g ≡ old) }
+fn growing_of(old: Option<Message>) -> Option<Growing>
+    ensures { option_map grown result ≡ old }
 {
     match old {
-        None => Ok(None),
-        Some(old) => Ok(Some(Growing::of(alloc, old)?)),
+        None => None,
+        Some(old) => Some(Growing::of(old)),
     }
 }
 

@@ -46,7 +46,7 @@ fn batch_of(alloc: Global, old: Option<Message>) -> Result<Growing, NoMemory>
             headers: Headers::new(alloc),
             properties: Properties::new(alloc),
         }),
-        Some(old) => Growing::of(alloc, old),
+        Some(old) => Ok(Growing::of(old)),
     }
 }
 

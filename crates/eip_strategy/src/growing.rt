@@ -20,20 +20,20 @@ pub struct Growing {
 }
 
 impl Growing {
-    /// A message that is taken over.
-    pub fn of(alloc: Global, message: Message) -> Result<Growing, NoMemory>
-        ensures { IfOk result (λ g. grown g ≡ message) }
+    /// A message that is taken over, without a copy.
+    pub fn of(message: Message) -> Growing
+        ensures { grown result ≡ message }
     {
         let Message {
             body,
             headers,
             properties,
         } = message;
-        Ok(Growing {
-            body: String::from_str(alloc, body.as_str())?,
+        Growing {
+            body: body.into_string(),
             headers,
             properties,
-        })
+        }
     }
 
     /// A copy of a message.

@@ -5,8 +5,10 @@ mod adding;
 mod batch;
 pub mod fault;
 mod growing;
+mod laws;
 mod steps;
 
 pub use adding::{add, fold};
 pub use batch::add_packed;
 pub use fault::StrategyFault;
+pub use laws::batch_law;

@@ -98,6 +98,13 @@ impl Text {
         self.string.as_str()
     }
 
+    /// The text as a `String` that may grow, without memory.
+    pub fn into_string(self) -> String
+        ensures { string_bytes result ≡ self }
+    {
+        self.string
+    }
+
     /// A copy with the same bytes.
     pub fn copy(&self) -> Result<Text, NoMemory>
         ensures { IfOk result (λ t. t ≡ self.now) }

@@ -1,86 +1,153 @@
--- A step with which nothing is wrong fits, where what nests in it does.
-use Rattle.std.proofs.Common.{ℕ, ◌≡◌, ◌<◌, Bool, true, false, cond, ◌&&◌, List, [], Some, None, refl, subst, leb-false}
-use Rattle.std.specs.Prelude.{nat_le}
-use Rattle.std.proofs.lemmas.Bool.{true≢false}
-use Rattle.eip_text.specs.Json.{Json, word, object, Items, no_items, item, Members}
+-- A step with which nothing is wrong fits, where the steps that it holds do.
+use Rattle.std.proofs.Common.{ℕ, ◌≡◌, ◌+◌, Bool, true, false, cond, ◌&&◌, List, [], Option, Some, None, is_some, length, refl, sym, ap, ◌∙◌, subst, arith, le-leb}
+use Rattle.eip_text.specs.Json.{Json, null, flag, whole, float, word, list, object, Items, no_items, item, Members, no_members, member}
 use Rattle.eip_text.specs.Names.{is_name}
 use Rattle.eip_route.specs.declared.route.Names.{Names}
-use Rattle.eip_route.specs.Nest.{NestedSteps, NestedCases, NestedLast}
-use Rattle.eip_route.specs.Valid.{is_kind}
+use Rattle.eip_route.specs.Nest.{NestedGroups, no_group, group, multicasts, count, of_last}
+use Rattle.eip_route.specs.Valid.{is_filled, is_kind}
+use Rattle.eip_route_grammar.specs.Keys.{is_spelled}
 use Rattle.eip_route_grammar.specs.Table.{rule_of, list_of, shape_of, listing}
 use Rattle.eip_route_grammar.specs.Objects.{value_at, parameters_of}
-use Rattle.eip_route_faults.specs.Sites.{has_none, own_list}
+use Rattle.eip_route_faults.specs.Sites.{has_none, own_list, items_sites, first_fault}
 use Rattle.eip_route_grammar.specs.Texts.{unhashed, last_segment}
-use Rattle.eip_route_grammar.specs.declared.fault.Cause.{Cause}
+use Rattle.eip_route_grammar.specs.declared.keys.Key.{Key}
 use Rattle.eip_route_grammar.specs.declared.keys.Key.TheVariants as key
 use Rattle.eip_route_grammar.specs.declared.table.Kind.{Kind}
 use Rattle.eip_route_grammar.specs.declared.table.Kind.TheVariants as kind
 use Rattle.eip_route_grammar.specs.declared.table.Row.TheVariants as row
 use Rattle.eip_route_grammar.specs.declared.table.Rule.TheVariants as rule
 use Rattle.eip_route_grammar.specs.declared.table.Shape.TheVariants as shape
-use Rattle.eip_route_validity.specs.Fit.{TemplateFits, Registered, HasSteps, HasCases, StepFits, CasesFit, LastFits, BlockFits}
+use Rattle.eip_route_validity.specs.Fit.{TemplateFits, Registered, ChecksFit, CheckFits, Inside, LeafFits, HasGroup, AreBranches, FrameHolds, StepsFit, StepFits, GroupsFit}
 use Rattle.eip_route_values.specs.Leaves.{text_given}
-use Rattle.eip_route_values.specs.Nesting.{object_step, text_step, nest_steps, nest_cases}
-use Rattle.eip_route_values.specs.Parts.{template}
-use Rattle.eip_route_values.specs.declared.kinds.StepKind.{StepKind}
-use Rattle.eip_route_values.specs.declared.kinds.StepKind.TheVariants as step
-use Rattle.eip_route_validity.proofs.fitting.Faultless.{IsFaultless, WordFits, ObjectFits}
+use Rattle.eip_route_values.specs.Nesting.{said, text_said, with_groups, followed, at_places, nest_at, case_check, checks_of, items_given, checks_in, nest_in, nest_branches_in, nest_each_in, nest_each_list, nest_each, nest_one_in, nest_inner}
+use Rattle.eip_route_values.specs.Parts.{template, fan_in}
+use Rattle.eip_route_values.specs.Places.{places}
+use Rattle.eip_route_validity.proofs.fitting.Faultless.{IsFaultless, WordFits, ObjectFits, fits, first_item}
 use Rattle.eip_route_validity.proofs.fitting.Keyed.{HasRow, value_fits, with_must}
-use Rattle.eip_route_validity.proofs.fitting.Values.{IsTextRule, IsForLists, with_text_or_object}
+use Rattle.eip_route_validity.proofs.fitting.Values.{IsTextRule, IsForObjects, with_object, for_case, for_otherwise, IsForLists, with_list, with_text_or_object}
 use Rattle.eip_route_validity.proofs.fitting.Tables.{value_values, named_values, recipients_values, idempotent_values}
 use Rattle.eip_route_validity.proofs.fitting.StepTables as tables
-use Rattle.eip_route_validity.proofs.fitting.StepKinds.{step_kind}
+use Rattle.eip_route_validity.proofs.fitting.StepKinds.{step_kind, IsStepKey}
 use Rattle.eip_route_validity.proofs.fitting.Endpoints.{target_fits}
 use Rattle.eip_route_validity.proofs.fitting.Leaves.{template_word, template_leaf, name_word, name_leaf, given_name, given_repository, registered_word, processor_leaf, thrown_leaf, given_delimiter, given_true}
 use Rattle.eip_route_validity.proofs.fitting.Parts.{how_fits, expr_fits, check_fits, target_in}
 use Rattle.eip_route_validity.proofs.fitting.Gatherings.{gathering_fits}
 
--- ---- lists of steps
+-- ---- what a step holds
 
--- a kind of lists of steps, which may be empty or not
-pub record IsOfSteps (w : Kind) (filled : Bool) : Type 0 where
+-- a kind of objects with `steps`, and of lists of them that aren't empty
+pub record IsHolder (u : Kind) : Type 0 where
+  pub objects : IsForObjects u
+  pub steps : HasRow u (row.Must key.Steps kind.Steps)
+
+pub record AreHolders (w u : Kind) : Type 0 where
   pub lists : IsForLists w
-  pub listed : list_of w ≡ listing kind.Step true filled
+  pub listed : list_of w ≡ listing u false true
+  pub holder : IsHolder u
 
-pub of_steps : IsOfSteps kind.Steps false
-unfolding rule_of list_of shape_of
-of_steps = record { lists = record { no_rule = refl; closed = refl }; listed = refl }
+pub case_holds : IsHolder kind.Case
+case_holds = record { objects = for_case; steps = tables.case_steps }
 
-pub of_branches : IsOfSteps kind.Branches true
-unfolding rule_of list_of shape_of
-of_branches = record { lists = record { no_rule = refl; closed = refl }; listed = refl }
+pub otherwise_holds : IsHolder kind.Otherwise
+otherwise_holds = record { objects = for_otherwise; steps = tables.otherwise_steps }
 
-abbrev pub AsFilled : Bool → NestedSteps → Type 0
-AsFilled false ss = Unit {0}
-AsFilled true ss = HasSteps ss
+for_cases : IsForLists kind.Cases
+unfolding rule_of shape_of
+for_cases = record { no_rule = refl; closed = refl }
 
--- what holds of such a list
-abbrev pub ListFits : Names → ℕ → Bool → NestedSteps → Type 0
-ListFits n d filled ss = AsFilled filled ss × BlockFits n d ss
+pub cases_hold : AreHolders kind.Cases kind.Case
+unfolding list_of
+cases_hold = record { lists = for_cases; listed = refl; holder = case_holds }
 
-as_filled : (filled : Bool) (ts : Items) → (filled && has_none ts) ≡ false → AsFilled filled (nest_steps ts)
-as_filled false ts e = tt
-as_filled true no_items e = absurd (true≢false e)
-as_filled true (item t ts) e = tt
+-- the steps that an object of this kind holds fit, wherever they stand
+pub record InnerFit (n : Names) (d : ℕ) (v : Kind) (ms : Members) : Type 0 where
+  pub steps : HasRow v (row.Must key.Steps kind.Steps) → Inside d (StepsFit n (d + 1) (nest_in ms))
+  pub branches : HasRow v (row.Must key.Steps kind.Branches) → (HasGroup (nest_branches_in ms) × AreBranches (nest_branches_in ms)) × GroupsFit n d (nest_branches_in ms)
+  pub each : (q : Key) (w u : Kind) → HasRow v (row.Must q w) → AreHolders w u → GroupsFit n d (nest_each_in q ms)
+  pub one : (q : Key) (u : Kind) → HasRow v (row.May q u) → IsHolder u → GroupsFit n d (nest_one_in q ms)
 
-neither : (b c : Bool) (x y : Cause) → cond b (Some x) (cond c (Some y) None) ≡ None → (b ≡ false) × (c ≡ false)
-neither true c x y e = absurd cc
-neither false true x y e = absurd cc
-neither false false x y e = (refl, refl)
+followed_fit : (n : Names) (d : ℕ) (gs hs : NestedGroups) → GroupsFit n d gs → GroupsFit n d hs → GroupsFit n d (followed gs hs)
+followed_fit n d no_group hs f g = g
+followed_fit n d (group ss gs) hs f g = (f.0, followed_fit n d gs hs f.1 g)
 
-pub list_is : (d : ℕ) (filled : Bool) (ts : Items) → own_list d (listing kind.Step true filled) (has_none ts) ≡ None → AsFilled filled (nest_steps ts) × (d < 16)
-list_is d filled ts e = let h = neither (filled && has_none ts) (nat_le 16 d) _ _ e in (as_filled filled ts h.0, leb-false 16 d h.1)
+count_followed : (gs hs : NestedGroups) → count (followed gs hs) ≡ count gs + count hs
+count_followed no_group hs = omega arith
+count_followed (group ss gs) hs = omega (arith, count_followed gs hs)
 
-pub has_cases : (d : ℕ) (ts : Items) → own_list d (listing kind.Case false true) (has_none ts) ≡ None → HasCases (nest_cases ts)
-has_cases d no_items e = absurd cc
-has_cases d (item t ts) e = tt
+-- ---- the cases of a choice
 
--- ---- what nests in a step fits
+count_each : (ts : Items) → count (nest_each ts) ≡ length (checks_of ts)
+count_each no_items = refl
+count_each (item t ts) = omega (arith, count_each ts)
 
-pub record NestedFit (n : Names) (d : ℕ) (v : Kind) (ss : NestedSteps) (cs : NestedCases) (l : NestedLast) : Type 0 where
-  pub steps : (w : Kind) (filled : Bool) → IsOfSteps w filled → HasRow v (row.Must key.Steps w) → ListFits n d filled ss
-  pub cases : HasRow v (row.Must key.When kind.Cases) → HasCases cs × CasesFit n d cs
-  pub otherwise : HasRow v (row.May key.Otherwise kind.Otherwise) → LastFits n d l
+-- a group for each item of the list, by the value of its key
+each_given : Option Json → NestedGroups
+each_given None = no_group
+each_given (Some t) = nest_each_list t
+
+each_by : (b : Bool) (t : Json) (gs : NestedGroups) (o : Option Json) → gs ≡ each_given o → cond b (nest_each_list t) gs ≡ each_given (cond b (Some t) o)
+unfolding each_given
+each_by true t gs o e = refl
+each_by false t gs o e = e
+
+each_value : (q : Key) (ms : Members) → nest_each_in q ms ≡ each_given (value_at q ms)
+unfolding each_given
+each_value q no_members = refl
+each_value q (member k t ms) = each_by (is_spelled q k) t (nest_each_in q ms) (value_at q ms) (each_value q ms)
+
+count_given : (o : Option Json) → count (each_given o) ≡ length (checks_of (items_given o))
+unfolding each_given
+count_given None = refl
+count_given (Some null) = refl
+count_given (Some (flag b)) = refl
+count_given (Some (whole z)) = refl
+count_given (Some float) = refl
+count_given (Some (word w)) = refl
+count_given (Some (list ts)) = count_each ts
+count_given (Some (object ms)) = refl
+
+count_cases : (ms : Members) → count (nest_each_in key.When ms) ≡ length (checks_in ms)
+count_cases ms = ap count (each_value key.When ms) ∙ count_given (value_at key.When ms)
+
+one_by : (b : Bool) (t : Json) (gs : NestedGroups) (o : Option Json) → count gs ≡ of_last (is_some o) → count (cond b (group (nest_inner t) no_group) gs) ≡ of_last (is_some (cond b (Some t) o))
+one_by true t gs o e = refl
+one_by false t gs o e = e
+
+count_one : (q : Key) (ms : Members) → count (nest_one_in q ms) ≡ of_last (is_some (value_at q ms))
+count_one q no_members = refl
+count_one q (member k t ms) = one_by (is_spelled q k) t (nest_one_in q ms) (value_at q ms) (count_one q ms)
+
+-- a block for each case and for the last one
+count_choice : (ms : Members) → count (at_places (nest_at ms) (places key.Choice)) ≡ length (checks_in ms) + of_last (is_some (value_at key.Otherwise ms))
+count_choice ms =
+    omega (
+      arith,
+      count_followed (nest_each_in key.When ms) (followed (nest_one_in key.Otherwise ms) no_group),
+      count_followed (nest_one_in key.Otherwise ms) no_group,
+      count_cases ms,
+      count_one key.Otherwise ms,
+    )
+
+check_of_case : (n : Names) (d : ℕ) (ps : List (List ℕ × List ℕ)) (t : Json) → IsFaultless n d ps kind.Case t → CheckFits n (case_check t)
+check_of_case n d ps t e = with_object (λ x. CheckFits n (case_check x)) n d ps kind.Case t for_case e (λ ms o. check_fits n d ms o)
+
+checks_of_cases : (n : Names) (d k : ℕ) (ts : Items) → first_fault (items_sites n d kind.Case k ts) ≡ None → ChecksFit n (checks_of ts)
+checks_of_cases n d k no_items e = tt
+checks_of_cases n d k (item t ts) e = let h = first_item n d kind.Case k t ts e in (check_of_case n d [] t h.0, checks_of_cases n d (k + 1) ts h.1)
+
+has_checks : (d : ℕ) (ts : Items) → own_list d (listing kind.Case false true) (has_none ts) ≡ None → is_filled (checks_of ts) ≡ true
+has_checks d no_items e = absurd cc
+has_checks d (item t ts) e = le-leb 1 (length (checks_of (item t ts))) (omega arith)
+
+checks_fit : (n : Names) (d : ℕ) (ps : List (List ℕ × List ℕ)) (t : Json) → IsFaultless n d ps kind.Cases t → (is_filled (checks_of (items_given (Some t))) ≡ true) × ChecksFit n (checks_of (items_given (Some t)))
+unfolding list_of
+checks_fit n d ps t e =
+    with_list (λ x. (is_filled (checks_of (items_given (Some x))) ≡ true) × ChecksFit n (checks_of (items_given (Some x)))) n d ps kind.Cases t for_cases e
+    (λ ts o f. (has_checks d ts o, checks_of_cases n d 0 ts f))
+
+checks_at : (n : Names) (d : ℕ) (ms : Members) → ObjectFits n d kind.Choice ms → (is_filled (checks_in ms) ≡ true) × ChecksFit n (checks_in ms)
+checks_at n d ms o =
+    with_must (λ x. (is_filled (checks_of (items_given x)) ≡ true) × ChecksFit n (checks_of (items_given x))) n d kind.Choice key.When kind.Cases ms tables.choice_when o (λ t e. checks_fit n d (parameters_of ms) t e)
 
 -- ---- a step's value is a text or an object
 
@@ -94,26 +161,51 @@ record HasForm (v : Kind) : Type 0 where
   no_list : list_of v ≡ None
   keyed : shape_of v ≡ shape.Keyed
 
-step_form : (s : StepKind) → HasForm (step_kind s)
+step_form : (k : Key) → IsStepKey k → HasForm (step_kind k)
 unfolding rule_of list_of shape_of
-step_form step.SetBody = record { rule = ((λ b. refl), (λ z. refl)); no_list = refl; keyed = refl }
-step_form _ = record { rule = ((λ b. refl), (λ z. refl)); no_list = refl; keyed = refl }
+step_form key.SetBody known = record { rule = ((λ b. refl), (λ z. refl)); no_list = refl; keyed = refl }
+step_form key.SetHeader known = record { rule = ((λ b. refl), (λ z. refl)); no_list = refl; keyed = refl }
+step_form key.SetProperty known = record { rule = ((λ b. refl), (λ z. refl)); no_list = refl; keyed = refl }
+step_form key.RemoveHeader known = record { rule = ((λ b. refl), (λ z. refl)); no_list = refl; keyed = refl }
+step_form key.To known = record { rule = ((λ b. refl), (λ z. refl)); no_list = refl; keyed = refl }
+step_form key.Log known = record { rule = ((λ b. refl), (λ z. refl)); no_list = refl; keyed = refl }
+step_form key.ThrowException known = record { rule = ((λ b. refl), (λ z. refl)); no_list = refl; keyed = refl }
+step_form key.Process known = record { rule = ((λ b. refl), (λ z. refl)); no_list = refl; keyed = refl }
+step_form key.Choice known = record { rule = ((λ b. refl), (λ z. refl)); no_list = refl; keyed = refl }
+step_form key.Filter known = record { rule = ((λ b. refl), (λ z. refl)); no_list = refl; keyed = refl }
+step_form key.Split known = record { rule = ((λ b. refl), (λ z. refl)); no_list = refl; keyed = refl }
+step_form key.Multicast known = record { rule = ((λ b. refl), (λ z. refl)); no_list = refl; keyed = refl }
+step_form key.RecipientList known = record { rule = ((λ b. refl), (λ z. refl)); no_list = refl; keyed = refl }
+step_form key.Aggregate known = record { rule = ((λ b. refl), (λ z. refl)); no_list = refl; keyed = refl }
+step_form key.IdempotentConsumer known = record { rule = ((λ b. refl), (λ z. refl)); no_list = refl; keyed = refl }
+step_form _ known = absurd (known refl)
 
-pub step_keyed : (s : StepKind) → shape_of (step_kind s) ≡ shape.Keyed
-step_keyed s = (step_form s).keyed
+pub step_keyed : (k : Key) → IsStepKey k → shape_of (step_kind k) ≡ shape.Keyed
+step_keyed k known = (step_form k known).keyed
 
-pub step_value : (n : Names) (d : ℕ) (ps : List (List ℕ × List ℕ)) (s : StepKind) (t : Json) → IsFaultless n d ps (step_kind s) t → IsStepValue t
-step_value n d ps s t e = let f = step_form s in with_text_or_object IsStepValue n d ps (step_kind s) t f.rule f.no_list f.keyed e (λ w h. tt) (λ ms o. tt)
+pub step_value : (n : Names) (d : ℕ) (ps : List (List ℕ × List ℕ)) (k : Key) (t : Json) → IsStepKey k → IsFaultless n d ps (step_kind k) t → IsStepValue t
+step_value n d ps k t known e = let f = step_form k known in with_text_or_object IsStepValue n d ps (step_kind k) t f.rule f.no_list f.keyed e (λ w h. tt) (λ ms o. tt)
 
 -- ---- a step that a text says
 
-pub text_step_fits : (n : Names) (d : ℕ) (ps : List (List ℕ × List ℕ)) (s : StepKind) (w : List ℕ) → ps ≡ [] → WordFits n ps (rule_of (step_kind s)) w → StepFits n d (text_step s w)
+pub text_step_fits : (n : Names) (d : ℕ) (ps : List (List ℕ × List ℕ)) (k : Key) (w : List ℕ) → ps ≡ [] → IsStepKey k → WordFits n ps (rule_of (step_kind k)) w → LeafFits n (text_said k w)
 unfolding rule_of
-text_step_fits n d ps step.RemoveHeader w alone h = name_word w h
-text_step_fits n d ps step.To w alone h = target_fits n w [] (subst (λ (qs : List (List ℕ × List ℕ)). WordFits n qs (Some rule.Producer) w) alone h)
-text_step_fits n d ps step.Log w alone h = (refl, template_word w h)
-text_step_fits n d ps step.Process w alone h = registered_word (unhashed w) n.processors h
-text_step_fits n d ps _ w alone h = absurd h
+text_step_fits n d ps key.RemoveHeader w alone known h = name_word w h
+text_step_fits n d ps key.To w alone known h = target_fits n w [] (subst (λ (qs : List (List ℕ × List ℕ)). WordFits n qs (Some rule.Producer) w) alone h)
+text_step_fits n d ps key.Log w alone known h = (refl, template_word w h)
+text_step_fits n d ps key.Process w alone known h = registered_word (unhashed w) n.processors h
+text_step_fits n d ps key.SetBody w alone known h = absurd h
+text_step_fits n d ps key.SetHeader w alone known h = absurd h
+text_step_fits n d ps key.SetProperty w alone known h = absurd h
+text_step_fits n d ps key.ThrowException w alone known h = absurd h
+text_step_fits n d ps key.Choice w alone known h = absurd h
+text_step_fits n d ps key.Filter w alone known h = absurd h
+text_step_fits n d ps key.Split w alone known h = absurd h
+text_step_fits n d ps key.Multicast w alone known h = absurd h
+text_step_fits n d ps key.RecipientList w alone known h = absurd h
+text_step_fits n d ps key.Aggregate w alone known h = absurd h
+text_step_fits n d ps key.IdempotentConsumer w alone known h = absurd h
+text_step_fits n d ps _ w alone known h = absurd (known refl)
 
 -- ---- a step that an object says
 
@@ -131,41 +223,62 @@ processor_at : (n : Names) (d : ℕ) (ms : Members) → ObjectFits n d kind.Proc
 processor_at n d ms o =
     with_must (λ x. Registered (unhashed (text_given x)) n.processors) n d kind.Process key.Ref (kind.Leaf rule.Processor) ms tables.process_name o (λ t e. processor_leaf n d (parameters_of ms) t e)
 
-pub object_step_fits : (n : Names) (d : ℕ) (s : StepKind) (ms : Members) (ss : NestedSteps) (cs : NestedCases) (l : NestedLast) → ObjectFits n d (step_kind s) ms → NestedFit n d (step_kind s) ss cs l → StepFits n d (object_step s ms ss cs l)
-object_step_fits n d step.SetBody ms ss cs l o i = expr_fits n d kind.Value ms value_values o
-object_step_fits n d step.SetHeader ms ss cs l o i = (name_at n d kind.NamedValue ms tables.named_name o, expr_fits n d kind.NamedValue ms named_values o)
-object_step_fits n d step.SetProperty ms ss cs l o i = (name_at n d kind.NamedValue ms tables.named_name o, expr_fits n d kind.NamedValue ms named_values o)
-object_step_fits n d step.RemoveHeader ms ss cs l o i = name_at n d kind.RemoveHeader ms tables.removed_name o
-object_step_fits n d step.To ms ss cs l o i = target_in n d ms o
-object_step_fits n d step.Log ms ss cs l o i = (
+-- nothing stands behind the branches of a multicast
+nothing_behind : (gs : NestedGroups) → gs ≡ followed gs no_group
+nothing_behind no_group = refl
+nothing_behind (group ss gs) = ap (group ss) (nothing_behind gs)
+
+pub object_step_fits : (n : Names) (d : ℕ) (k : Key) (ms : Members) → IsStepKey k → ObjectFits n d (step_kind k) ms → InnerFit n d (step_kind k) ms → StepFits n d (with_groups (said k ms) (at_places (nest_at ms) (places k)))
+object_step_fits n d key.SetBody ms known o i = expr_fits n d kind.Value ms value_values o
+object_step_fits n d key.SetHeader ms known o i = (name_at n d kind.NamedValue ms tables.named_name o, expr_fits n d kind.NamedValue ms named_values o)
+object_step_fits n d key.SetProperty ms known o i = (name_at n d kind.NamedValue ms tables.named_name o, expr_fits n d kind.NamedValue ms named_values o)
+object_step_fits n d key.RemoveHeader ms known o i = name_at n d kind.RemoveHeader ms tables.removed_name o
+object_step_fits n d key.To ms known o i = target_in n d ms o
+object_step_fits n d key.Log ms known o i = (
   given_name n d (parameters_of ms) (value_at key.LogName ms) (value_fits n d (parameters_of ms) kind.Log (row.May key.LogName (kind.Leaf rule.Name)) ms tables.log_name o.members),
   template_at n d kind.Log ms tables.log_message o,
 )
-object_step_fits n d step.ThrowException ms ss cs l o i = (thrown_at n d ms o, template_at n d kind.ThrowException ms tables.thrown_message o)
-object_step_fits n d step.Process ms ss cs l o i = processor_at n d ms o
-object_step_fits n d step.Choice ms ss cs l o i = let c = i.cases tables.choice_when in (c.0, (c.1, i.otherwise tables.choice_otherwise))
-object_step_fits n d step.Filter ms ss cs l o i = (check_fits n d ms o, (i.steps kind.Steps false of_steps tables.case_steps).1)
-object_step_fits n d step.Split ms ss cs l o i = (
-  how_fits n d (parameters_of ms) (value_at key.Tokenize ms) (value_fits n d (parameters_of ms) kind.Split (row.One key.Tokenize kind.Tokenize) ms tables.split_token o.members),
-  (refl, (i.steps kind.Steps false of_steps tables.split_steps).1),
-)
-object_step_fits n d step.Multicast ms ss cs l o i = let b = i.steps kind.Branches true of_branches tables.multicast_steps in (b.0, (refl, b.1))
-object_step_fits n d step.RecipientList ms ss cs l o i = (
+object_step_fits n d key.ThrowException ms known o i = (thrown_at n d ms o, template_at n d kind.ThrowException ms tables.thrown_message o)
+object_step_fits n d key.Process ms known o i = processor_at n d ms o
+object_step_fits n d key.RecipientList ms known o i = (
   expr_fits n d kind.RecipientList ms recipients_values o,
   (given_delimiter n d (parameters_of ms) (value_at key.Delimiter ms) (value_fits n d (parameters_of ms) kind.RecipientList (row.May key.Delimiter (kind.Leaf rule.Filled)) ms tables.recipients_delimiter o.members), refl),
 )
-object_step_fits n d step.Aggregate ms ss cs l o i = (gathering_fits n d ms o, (i.steps kind.Steps false of_steps tables.aggregate_steps).1)
-object_step_fits n d step.IdempotentConsumer ms ss cs l o i = (
-  expr_fits n d kind.IdempotentConsumer ms idempotent_values o,
-  (
-    given_repository n d (parameters_of ms) (value_at key.IdempotentRepository ms)
-        (value_fits n d (parameters_of ms) kind.IdempotentConsumer (row.May key.IdempotentRepository (kind.Leaf rule.Repository)) ms tables.idempotent_repository o.members),
-    (
-      given_true n d (parameters_of ms) (value_at key.Eager ms) (value_fits n d (parameters_of ms) kind.IdempotentConsumer (row.May key.Eager (kind.Leaf rule.OnlyTrue)) ms tables.idempotent_eager o.members),
-      (
-        given_true n d (parameters_of ms) (value_at key.RemoveOnFailure ms) (value_fits n d (parameters_of ms) kind.IdempotentConsumer (row.May key.RemoveOnFailure (kind.Leaf rule.OnlyTrue)) ms tables.idempotent_remove o.members),
-        (i.steps kind.Steps false of_steps tables.idempotent_steps).1,
-      ),
-    ),
-  ),
+object_step_fits n d key.Choice ms known o i = (
+  record { setting = checks_at n d ms o; number = count_choice ms; suit = tt },
+  followed_fit n d (nest_each_in key.When ms) (followed (nest_one_in key.Otherwise ms) no_group) (i.each key.When kind.Cases kind.Case tables.choice_when cases_hold)
+      (followed_fit n d (nest_one_in key.Otherwise ms) no_group (i.one key.Otherwise kind.Otherwise tables.choice_otherwise otherwise_holds) tt),
 )
+object_step_fits n d key.Filter ms known o i = (record { setting = check_fits n d ms o; number = refl; suit = tt }, (i.steps tables.case_steps, tt))
+object_step_fits n d key.Split ms known o i = (
+  record {
+    setting = (how_fits n d (parameters_of ms) (value_at key.Tokenize ms) (value_fits n d (parameters_of ms) kind.Split (row.One key.Tokenize kind.Tokenize) ms tables.split_token o.members), refl);
+    number = refl;
+    suit = tt;
+  },
+  (i.steps tables.split_steps, tt),
+)
+object_step_fits n d key.Multicast ms known o i =
+    let b = i.branches tables.multicast_steps in
+    let gs = nest_branches_in ms in
+    subst (λ x. FrameHolds n (multicasts (fan_in ms)) x × GroupsFit n d x) (nothing_behind gs) (record { setting = refl; number = tt; suit = b.0 }, b.1)
+object_step_fits n d key.Aggregate ms known o i = (record { setting = gathering_fits n d ms o; number = refl; suit = tt }, (i.steps tables.aggregate_steps, tt))
+object_step_fits n d key.IdempotentConsumer ms known o i = (
+  record {
+    setting = (
+      expr_fits n d kind.IdempotentConsumer ms idempotent_values o,
+      (
+        given_repository n d (parameters_of ms) (value_at key.IdempotentRepository ms)
+            (value_fits n d (parameters_of ms) kind.IdempotentConsumer (row.May key.IdempotentRepository (kind.Leaf rule.Repository)) ms tables.idempotent_repository o.members),
+        (
+          given_true n d (parameters_of ms) (value_at key.Eager ms) (value_fits n d (parameters_of ms) kind.IdempotentConsumer (row.May key.Eager (kind.Leaf rule.OnlyTrue)) ms tables.idempotent_eager o.members),
+          given_true n d (parameters_of ms) (value_at key.RemoveOnFailure ms) (value_fits n d (parameters_of ms) kind.IdempotentConsumer (row.May key.RemoveOnFailure (kind.Leaf rule.OnlyTrue)) ms tables.idempotent_remove o.members),
+        ),
+      ),
+    );
+    number = refl;
+    suit = tt;
+  },
+  (i.steps tables.idempotent_steps, tt),
+)
+object_step_fits n d _ ms known o i = absurd (known refl)

@@ -1,10 +1,9 @@
--- The key of a step's object says its kind and what its value is to be.
-use Rattle.std.proofs.Common.{ℕ, ◌≡◌, Bool, true, false, cond, List, [], ◌∷◌, map, Option, Some, None, is_some, option_map, refl, sym, ap, ◌∙◌, subst}
-use Rattle.std.proofs.lemmas.Option.{same_Some}
+-- The key of a step's object says what its value is to be.
+use Rattle.std.proofs.Common.{ℕ, ◌≡◌, Bool, true, false, cond, List, [], ◌∷◌, Option, Some, None, is_some, option_map, refl, sym, ap, ◌∙◌, subst}
 use Rattle.eip_text.specs.Json.{Json, no_members, member}
 use Rattle.eip_route.specs.declared.route.Names.{Names}
 use Rattle.eip_route_grammar.specs.Keys.{is_spelled}
-use Rattle.eip_route_grammar.specs.Table.{rows, row_for, kind_in}
+use Rattle.eip_route_grammar.specs.Table.{rows, row_for, key_in, kind_in}
 use Rattle.eip_route_grammar.specs.Objects.{known_one, value_kind_in, pairs_in, parameters_of}
 use Rattle.eip_route_faults.specs.Sites.{members_sites, first_fault}
 use Rattle.eip_route_grammar.specs.declared.fault.Cause.{Cause}
@@ -14,95 +13,113 @@ use Rattle.eip_route_grammar.specs.declared.table.Kind.{Kind}
 use Rattle.eip_route_grammar.specs.declared.table.Kind.TheVariants as kind
 use Rattle.eip_route_grammar.specs.declared.table.Row.{Row}
 use Rattle.eip_route_grammar.specs.declared.table.Row.TheVariants as row
-use Rattle.eip_route_values.specs.Kinds.{kind_of}
-use Rattle.eip_route_values.specs.declared.kinds.StepKind.{StepKind}
-use Rattle.eip_route_values.specs.declared.kinds.StepKind.TheVariants as step
+use Rattle.eip_route_values.specs.Places.{step_key}
 use Rattle.eip_route_validity.proofs.fitting.Faultless.{IsFaultless, first_member, known_row}
-use Rattle.eip_route_validity.proofs.fitting.Keyed.{absent_known}
+use Rattle.eip_route_validity.proofs.fitting.Keyed.{absent_known, row_cases}
 use Rattle.eip_route_validity.proofs.fitting.StepTables.{step_parameters}
 
--- the key of a kind of step
-abbrev step_key : StepKind → Key
-step_key step.SetBody = key.SetBody
-step_key step.SetHeader = key.SetHeader
-step_key step.SetProperty = key.SetProperty
-step_key step.RemoveHeader = key.RemoveHeader
-step_key step.To = key.To
-step_key step.Log = key.Log
-step_key step.ThrowException = key.ThrowException
-step_key step.Process = key.Process
-step_key step.Choice = key.Choice
-step_key step.Filter = key.Filter
-step_key step.Split = key.Split
-step_key step.Multicast = key.Multicast
-step_key step.RecipientList = key.RecipientList
-step_key step.Aggregate = key.Aggregate
-step_key step.IdempotentConsumer = key.IdempotentConsumer
+-- what the value of a step's key is to be; `kind.Step` for any other key
+abbrev pub step_kind : Key → Kind
+step_kind key.SetBody = kind.Value
+step_kind key.SetHeader = kind.NamedValue
+step_kind key.SetProperty = kind.NamedValue
+step_kind key.RemoveHeader = kind.RemoveHeader
+step_kind key.To = kind.To
+step_kind key.Log = kind.Log
+step_kind key.ThrowException = kind.ThrowException
+step_kind key.Process = kind.Process
+step_kind key.Choice = kind.Choice
+step_kind key.Filter = kind.Case
+step_kind key.Split = kind.Split
+step_kind key.Multicast = kind.Multicast
+step_kind key.RecipientList = kind.RecipientList
+step_kind key.Aggregate = kind.Aggregate
+step_kind key.IdempotentConsumer = kind.IdempotentConsumer
+step_kind _ = kind.Step
 
--- what the value of that key is to be
-abbrev pub step_kind : StepKind → Kind
-step_kind step.SetBody = kind.Value
-step_kind step.SetHeader = kind.NamedValue
-step_kind step.SetProperty = kind.NamedValue
-step_kind step.RemoveHeader = kind.RemoveHeader
-step_kind step.To = kind.To
-step_kind step.Log = kind.Log
-step_kind step.ThrowException = kind.ThrowException
-step_kind step.Process = kind.Process
-step_kind step.Choice = kind.Choice
-step_kind step.Filter = kind.Case
-step_kind step.Split = kind.Split
-step_kind step.Multicast = kind.Multicast
-step_kind step.RecipientList = kind.RecipientList
-step_kind step.Aggregate = kind.Aggregate
-step_kind step.IdempotentConsumer = kind.IdempotentConsumer
+abbrev pub IsStepKey : Key → Type 0
+IsStepKey k = step_kind k ≡ kind.Step → ⊥
 
-abbrev step_row : StepKind → Row
-step_row s = row.One (step_key s) (step_kind s)
+abbrev IsStepRow : Row → Type 0
+IsStepRow r = (kind_in r ≡ step_kind (key_in r)) × IsStepKey (key_in r)
 
-abbrev step_kinds : List StepKind
-step_kinds =
-    step.SetBody ∷ step.SetHeader ∷ step.SetProperty ∷ step.RemoveHeader ∷ step.To ∷ step.Log ∷ step.ThrowException ∷ step.Process ∷ step.Choice ∷ step.Filter ∷ step.Split ∷ step.Multicast ∷ step.RecipientList ∷ step.Aggregate
-    ∷ step.IdempotentConsumer ∷ []
+abbrev AreStepRows : List Row → Type 0
+AreStepRows [] = Unit {0}
+AreStepRows (r ∷ rs) = IsStepRow r × AreStepRows rs
 
-abbrev kind_among : List ℕ → List StepKind → Option StepKind
-kind_among k [] = None
-kind_among k (s ∷ ss) = cond (is_spelled (step_key s) k) (Some s) (kind_among k ss)
+of_step : (k : Key) → (step_kind k ≡ kind.Step → ⊥) → IsStepRow (row.One k (step_kind k))
+of_step k other = (refl, other)
 
-row_by : (b : Bool) (s : StepKind) (o : Option Row) (p : Option StepKind) → o ≡ option_map step_row p → cond b (Some (step_row s)) o ≡ option_map step_row (cond b (Some s) p)
-row_by true s o p e = refl
-row_by false s o p e = e
+step_rows : AreStepRows (rows kind.Step)
+unfolding rows
+step_rows = (
+  of_step key.SetBody (λ (e : kind.Value ≡ kind.Step). cc),
+  (
+    of_step key.SetHeader (λ (e : kind.NamedValue ≡ kind.Step). cc),
+    (
+      of_step key.SetProperty (λ (e : kind.NamedValue ≡ kind.Step). cc),
+      (
+        of_step key.RemoveHeader (λ (e : kind.RemoveHeader ≡ kind.Step). cc),
+        (
+          of_step key.To (λ (e : kind.To ≡ kind.Step). cc),
+          (
+            of_step key.Log (λ (e : kind.Log ≡ kind.Step). cc),
+            (
+              of_step key.ThrowException (λ (e : kind.ThrowException ≡ kind.Step). cc),
+              (
+                of_step key.Process (λ (e : kind.Process ≡ kind.Step). cc),
+                (
+                  of_step key.Choice (λ (e : kind.Choice ≡ kind.Step). cc),
+                  (
+                    of_step key.Filter (λ (e : kind.Case ≡ kind.Step). cc),
+                    (
+                      of_step key.Split (λ (e : kind.Split ≡ kind.Step). cc),
+                      (
+                        of_step key.Multicast (λ (e : kind.Multicast ≡ kind.Step). cc),
+                        (
+                          of_step key.RecipientList (λ (e : kind.RecipientList ≡ kind.Step). cc),
+                          (
+                            of_step key.Aggregate (λ (e : kind.Aggregate ≡ kind.Step). cc),
+                            (of_step key.IdempotentConsumer (λ (e : kind.IdempotentConsumer ≡ kind.Step). cc), tt),
+                          ),
+                        ),
+                      ),
+                    ),
+                  ),
+                ),
+              ),
+            ),
+          ),
+        ),
+      ),
+    ),
+  ),
+)
 
-row_among : (k : List ℕ) (ss : List StepKind) → row_for k (map step_row ss) ≡ option_map step_row (kind_among k ss)
-row_among k [] = refl
-row_among k (s ∷ ss) = row_by (is_spelled (step_key s) k) s (row_for k (map step_row ss)) (kind_among k ss) (row_among k ss)
-
-row_of_step : (k : List ℕ) → row_for k (rows kind.Step) ≡ option_map step_row (kind_of k)
-unfolding rows kind_of
-row_of_step k = row_among k step_kinds
-
-mapped_some : (o : Option StepKind) (r : Row) → option_map step_row o ≡ Some r → (s : StepKind) × (o ≡ Some s) × (step_row s ≡ r)
-mapped_some None r e = absurd cc
-mapped_some (Some s) r e = (s, refl, same_Some (step_row s) r e)
+found_row : (k : List ℕ) (rs : List Row) (r : Row) → AreStepRows rs → row_for k rs ≡ Some r → IsStepRow r
+found_row k [] r h e = absurd cc
+found_row k (s ∷ rs) r h e = row_cases (is_spelled (key_in s) k) s r (row_for k rs) e (λ b same. subst IsStepRow same h.0) (λ l. found_row k rs r h.1 l)
 
 -- a step in an object of one key
 pub record StepIs (n : Names) (d : ℕ) (k : List ℕ) (t : Json) : Type 0 where
-  pub kind : StepKind
-  pub is : kind_of k ≡ Some kind
+  pub step : Key
+  pub is : step_key k ≡ Some step
+  pub known : IsStepKey step
   pub alone : parameters_of (member k t no_members) ≡ []
-  pub faultless : IsFaultless n d (parameters_of (member k t no_members)) (step_kind kind) t
+  pub faultless : IsFaultless n d (parameters_of (member k t no_members)) (step_kind step) t
 
 pub step_is : (n : Names) (d : ℕ) (k : List ℕ) (t : Json) (c : Cause) → known_one (row_for k (rows kind.Step)) c ≡ None
     → first_fault (members_sites n d (parameters_of (member k t no_members)) kind.Step (member k t no_members)) ≡ None → StepIs n d k t
 step_is n d k t c o e =
     let ps = parameters_of (member k t no_members) in
     let r = known_row (row_for k (rows kind.Step)) c o in
-    let s = mapped_some (kind_of k) r.0 (sym (row_of_step k) ∙ r.1) in
+    let s = found_row k (rows kind.Step) r.0 step_rows r.1 in
     record {
-      kind = s.0;
-      is = s.1;
+      step = key_in r.0;
+      is = ap (option_map key_in) r.1;
+      known = s.1;
       alone = ap pairs_in (absent_known kind.Step key.Parameters (member k t no_members) step_parameters (ap is_some r.1, tt));
       faultless =
-          subst (λ (x : Row). IsFaultless n d ps (kind_in x) t) (sym s.2)
+          subst (λ (x : Kind). IsFaultless n d ps x t) s.0
           (subst (λ (x : Option Row). IsFaultless n d ps (value_kind_in x) t) r.1 (first_member n d ps kind.Step k t no_members e).0);
     }

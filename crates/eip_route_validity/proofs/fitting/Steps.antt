@@ -1,13 +1,15 @@
 -- Steps with which nothing is wrong fit, as they nest.
-use Rattle.std.proofs.Common.{ℕ, ◌≡◌, ◌+◌, Bool, true, false, cond, List, [], Option, Some, None, is_some, refl, sym, subst}
+use Rattle.std.proofs.Common.{ℕ, ◌≡◌, ◌+◌, ◌<◌, Bool, true, false, cond, ◌&&◌, List, [], Option, Some, None, is_some, refl, sym, subst, leb-false}
+use Rattle.std.specs.Prelude.{nat_le}
 use Rattle.std.proofs.lemmas.Bool.{cond_both, true≢false}
 use Rattle.eip_text.specs.Json.{Json, null, flag, whole, float, word, list, object, Items, no_items, item, Members, no_members, member}
 use Rattle.eip_route.specs.declared.route.Names.{Names}
-use Rattle.eip_route.specs.Nest.{last}
+use Rattle.eip_route.specs.Nest.{NestedGroups, no_group, group}
 use Rattle.eip_route_grammar.specs.Keys.{is_spelled}
-use Rattle.eip_route_grammar.specs.Table.{rows, key_in, kind_in, rule_of, list_of, shape_of}
+use Rattle.eip_route_grammar.specs.Table.{rows, key_in, kind_in, rule_of, list_of, shape_of, listing}
 use Rattle.eip_route_grammar.specs.Objects.{own_keys, keys_of, value_at, value_kind_in, parameters_of}
 use Rattle.eip_route_faults.specs.Sites.{own_list, item_kind, deeper, has_none, items_sites, members_sites, first_fault}
+use Rattle.eip_route_grammar.specs.declared.fault.Cause.{Cause}
 use Rattle.eip_route_grammar.specs.declared.fault.Cause.TheVariants as cause
 use Rattle.eip_route_grammar.specs.declared.keys.Key.{Key}
 use Rattle.eip_route_grammar.specs.declared.keys.Key.TheVariants as key
@@ -16,16 +18,14 @@ use Rattle.eip_route_grammar.specs.declared.table.Kind.TheVariants as kind
 use Rattle.eip_route_grammar.specs.declared.table.Listed.{Listed}
 use Rattle.eip_route_grammar.specs.declared.table.Row.{Row}
 use Rattle.eip_route_grammar.specs.declared.table.Row.TheVariants as row
-use Rattle.eip_route_validity.specs.Fit.{HasSteps, HasCases, CheckFits, StepsFit, StepFits, CasesFit, LastFits, BlockFits}
-use Rattle.eip_route_values.specs.Nesting.{case_check, nest_list, nest_steps, nest_step, nest_only, nest_kind, nest_in, nest_cases_in, nest_case_list, nest_cases, nest_case, nest_last_in}
-use Rattle.eip_route_values.specs.declared.kinds.StepKind.{StepKind}
+use Rattle.eip_route_validity.specs.Fit.{Inside, HasGroup, AreBranches, StepsFit, StepFits, GroupsFit, BlockFits}
+use Rattle.eip_route_values.specs.Nesting.{nest_list, nest_steps, nest_step, nest_only, nest_value, nest_in, nest_inner, nest_branches_in, nest_branch_list, nest_branches, nest_each_in, nest_each_list, nest_each, nest_one_in}
 use Rattle.eip_route_validity.proofs.fitting.Faultless.{IsFaultless, fits, first_item, first_member, object_fits}
 use Rattle.eip_route_validity.proofs.fitting.Keyed.{HasRow, row_of_key, must_be_there}
-use Rattle.eip_route_validity.proofs.fitting.Values.{IsForObjects, with_object, for_case, for_otherwise, IsForLists, with_list}
+use Rattle.eip_route_validity.proofs.fitting.Values.{IsForObjects, with_object, IsForLists, with_list}
 use Rattle.eip_route_validity.proofs.fitting.StepTables as tables
-use Rattle.eip_route_validity.proofs.fitting.StepKinds.{step_kind, step_is}
-use Rattle.eip_route_validity.proofs.fitting.Parts.{check_fits}
-use Rattle.eip_route_validity.proofs.fitting.OneStep.{IsOfSteps, of_steps, of_branches, ListFits, list_is, has_cases, step_keyed, step_value, text_step_fits, object_step_fits}
+use Rattle.eip_route_validity.proofs.fitting.StepKinds.{step_kind, IsStepKey, step_is}
+use Rattle.eip_route_validity.proofs.fitting.OneStep.{IsHolder, AreHolders, step_keyed, step_value, text_step_fits, object_step_fits}
 
 -- ---- values of other forms
 
@@ -43,9 +43,13 @@ is_list n d ps v t k e = with_list IsList n d ps v t k e (λ ts o i. tt)
 is_object : (n : Names) (d : ℕ) (ps : List (List ℕ × List ℕ)) (v : Kind) (t : Json) → IsForObjects v → IsFaultless n d ps v t → IsObject t
 is_object n d ps v t k e = with_object IsObject n d ps v t k e (λ ms o. tt)
 
-for_cases : IsForLists kind.Cases
+for_steps : IsForLists kind.Steps
 unfolding rule_of shape_of
-for_cases = record { no_rule = refl; closed = refl }
+for_steps = record { no_rule = refl; closed = refl }
+
+for_branches : IsForLists kind.Branches
+unfolding rule_of shape_of
+for_branches = record { no_rule = refl; closed = refl }
 
 is_step : (n : Names) (d : ℕ) (ps : List (List ℕ × List ℕ)) (t : Json) → IsFaultless n d ps kind.Step t → IsObject t
 unfolding rule_of list_of
@@ -70,15 +74,32 @@ still_there : (b : Bool) (t : Json) (o : Option Json) → b ≡ false → is_som
 still_there true t o e h = absurd (true≢false e)
 still_there false t o e h = h
 
+-- ---- lists
+
+neither : (b c : Bool) (x y : Cause) → cond b (Some x) (cond c (Some y) None) ≡ None → (b ≡ false) × (c ≡ false)
+neither true c x y e = absurd cc
+neither false true x y e = absurd cc
+neither false false x y e = (refl, refl)
+
+not_deep : (d : ℕ) (filled b : Bool) → own_list d (listing kind.Step true filled) b ≡ None → d < 16
+not_deep d filled b e = leb-false 16 d (neither (filled && b) (nat_le 16 d) _ _ e).1
+
+has_branches : (d : ℕ) (ts : Items) → own_list d (listing kind.Step true true) (has_none ts) ≡ None → HasGroup (nest_branches ts)
+has_branches d no_items e = absurd cc
+has_branches d (item t ts) e = tt
+
+are_branches : (ts : Items) → AreBranches (nest_branches ts)
+are_branches no_items = tt
+are_branches (item t ts) = are_branches ts
+
+-- ---- nested
+
 mutual
   unfolding rule_of list_of shape_of
 
-  pub list_fits : (n : Names) (d : ℕ) (ps : List (List ℕ × List ℕ)) (w : Kind) (filled : Bool) (t : Json) → IsOfSteps w filled → IsFaultless n d ps w t → ListFits n d filled (nest_list t)
-  list_fits n d ps w filled (list ts) k e =
-      let h = fits n d ps w (list ts) e in
-      let o = list_is d filled ts (subst (λ (x : Option Listed). own_list d x (has_none ts) ≡ None) k.listed h.0) in
-      (o.0, (o.1, steps_fit_in n (d + 1) 0 ts (subst (λ (x : Option Listed). first_fault (items_sites n (deeper d x) (item_kind x) 0 ts) ≡ None) k.listed h.1)))
-  list_fits n d ps w filled t k e = absurd (is_list n d ps w t k.lists e)
+  pub list_fits : (n : Names) (d : ℕ) (ps : List (List ℕ × List ℕ)) (t : Json) → IsFaultless n d ps kind.Steps t → Inside d (StepsFit n (d + 1) (nest_list t))
+  list_fits n d ps (list ts) e = let h = fits n d ps kind.Steps (list ts) e in (not_deep d false (has_none ts) h.0, steps_fit_in n (d + 1) 0 ts h.1)
+  list_fits n d ps t e = absurd (is_list n d ps kind.Steps t for_steps e)
 
   steps_fit_in : (n : Names) (d k : ℕ) (ts : Items) → first_fault (items_sites n d kind.Step k ts) ≡ None → StepsFit n d (nest_steps ts)
   steps_fit_in n d k no_items e = tt
@@ -92,67 +113,79 @@ mutual
   only_fits n d no_members o e = absurd cc
   only_fits n d (member k t no_members) o e =
       let s = step_is n d k t (cause.UnknownStep k) o e in
-      subst (λ (x : Option StepKind). StepFits n d (nest_kind x t)) (sym s.is) (kind_fits n d (parameters_of (member k t no_members)) s.kind t s.alone s.faultless)
+      subst (λ (x : Option Key). StepFits n d (nest_value x t)) (sym s.is) (value_fits n d (parameters_of (member k t no_members)) s.step t s.known s.alone s.faultless)
   only_fits n d (member k t (member l u ms)) o e = absurd cc
 
-  kind_fits : (n : Names) (d : ℕ) (ps : List (List ℕ × List ℕ)) (s : StepKind) (t : Json) → ps ≡ [] → IsFaultless n d ps (step_kind s) t → StepFits n d (nest_kind (Some s) t)
-  kind_fits n d ps s (word w) alone e = text_step_fits n d ps s w alone (fits n d ps (step_kind s) (word w) e)
-  kind_fits n d ps s (object ms) alone e =
-      let o = object_fits n d ps (step_kind s) ms (step_keyed s) e in
-      object_step_fits n d s ms (nest_in ms) (nest_cases_in ms) (nest_last_in ms) o (record {
-        steps = λ w filled k r. in_fits n d ms (parameters_of ms) (step_kind s) w filled k r (must_be_there (step_kind s) key.Steps w ms r o.keys) o.members;
-        cases = λ r. cases_in_fit n d ms (parameters_of ms) (step_kind s) r (must_be_there (step_kind s) key.When kind.Cases ms r o.keys) o.members;
-        otherwise = λ r. last_in_fits n d ms (parameters_of ms) (step_kind s) r o.members;
+  value_fits : (n : Names) (d : ℕ) (ps : List (List ℕ × List ℕ)) (k : Key) (t : Json) → IsStepKey k → ps ≡ [] → IsFaultless n d ps (step_kind k) t → StepFits n d (nest_value (Some k) t)
+  value_fits n d ps k (word w) known alone e = text_step_fits n d ps k w alone known (fits n d ps (step_kind k) (word w) e)
+  value_fits n d ps k (object ms) known alone e =
+      let o = object_fits n d ps (step_kind k) ms (step_keyed k known) e in
+      object_step_fits n d k ms known o (record {
+        steps = λ r. in_fits n d ms (parameters_of ms) (step_kind k) r (must_be_there (step_kind k) key.Steps kind.Steps ms r o.keys) o.members;
+        branches = λ r. branches_in_fit n d ms (parameters_of ms) (step_kind k) r (must_be_there (step_kind k) key.Steps kind.Branches ms r o.keys) o.members;
+        each = λ q w u r a. each_in_fits n d ms (parameters_of ms) (step_kind k) q w u r a o.members;
+        one = λ q u r a. one_in_fits n d ms (parameters_of ms) (step_kind k) q u r a o.members;
       })
-  kind_fits n d ps s t alone e = absurd (step_value n d ps s t e)
+  value_fits n d ps k t known alone e = absurd (step_value n d ps k t known e)
 
-  in_fits : (n : Names) (d : ℕ) (ms : Members) (ps : List (List ℕ × List ℕ)) (v w : Kind) (filled : Bool) → IsOfSteps w filled → HasRow v (row.Must key.Steps w) → is_some (value_at key.Steps ms) ≡ true
-      → first_fault (members_sites n d ps v ms) ≡ None → ListFits n d filled (nest_in ms)
-  in_fits n d no_members ps v w filled k r there e = absurd (true≢false (sym there))
-  in_fits n d (member name t ms) ps v w filled k r there e =
-      cond_both (is_spelled key.Steps name) (nest_list t) (nest_in ms) (ListFits n d filled)
-      (λ b. list_fits n d ps w filled t k (found_value n d ps v key.Steps (row.Must key.Steps w) name t ms r refl b e))
-      (λ b. in_fits n d ms ps v w filled k r (still_there (is_spelled key.Steps name) t (value_at key.Steps ms) b there) (first_member n d ps v name t ms e).1)
+  in_fits : (n : Names) (d : ℕ) (ms : Members) (ps : List (List ℕ × List ℕ)) (v : Kind) → HasRow v (row.Must key.Steps kind.Steps) → is_some (value_at key.Steps ms) ≡ true
+      → first_fault (members_sites n d ps v ms) ≡ None → Inside d (StepsFit n (d + 1) (nest_in ms))
+  in_fits n d no_members ps v r there e = absurd (true≢false (sym there))
+  in_fits n d (member name t ms) ps v r there e =
+      cond_both (is_spelled key.Steps name) (nest_list t) (nest_in ms) (λ ss. Inside d (StepsFit n (d + 1) ss))
+      (λ b. list_fits n d ps t (found_value n d ps v key.Steps (row.Must key.Steps kind.Steps) name t ms r refl b e))
+      (λ b. in_fits n d ms ps v r (still_there (is_spelled key.Steps name) t (value_at key.Steps ms) b there) (first_member n d ps v name t ms e).1)
 
-  cases_in_fit : (n : Names) (d : ℕ) (ms : Members) (ps : List (List ℕ × List ℕ)) (v : Kind) → HasRow v (row.Must key.When kind.Cases) → is_some (value_at key.When ms) ≡ true → first_fault (members_sites n d ps v ms) ≡ None
-      → HasCases (nest_cases_in ms) × CasesFit n d (nest_cases_in ms)
-  cases_in_fit n d no_members ps v r there e = absurd (true≢false (sym there))
-  cases_in_fit n d (member name t ms) ps v r there e =
-      cond_both (is_spelled key.When name) (nest_case_list t) (nest_cases_in ms) (λ cs. HasCases cs × CasesFit n d cs)
-      (λ b. cases_fit n d ps t (found_value n d ps v key.When (row.Must key.When kind.Cases) name t ms r refl b e))
-      (λ b. cases_in_fit n d ms ps v r (still_there (is_spelled key.When name) t (value_at key.When ms) b there) (first_member n d ps v name t ms e).1)
+  inner_fits : (n : Names) (d : ℕ) (ps : List (List ℕ × List ℕ)) (u : Kind) (t : Json) → IsHolder u → IsFaultless n d ps u t → Inside d (StepsFit n (d + 1) (nest_inner t))
+  inner_fits n d ps u (object ms) h e =
+      let o = object_fits n d ps u ms h.objects.keyed e in
+      in_fits n d ms (parameters_of ms) u h.steps (must_be_there u key.Steps kind.Steps ms h.steps o.keys) o.members
+  inner_fits n d ps u t h e = absurd (is_object n d ps u t h.objects e)
 
-  pub cases_fit : (n : Names) (d : ℕ) (ps : List (List ℕ × List ℕ)) (t : Json) → IsFaultless n d ps kind.Cases t → HasCases (nest_case_list t) × CasesFit n d (nest_case_list t)
-  cases_fit n d ps (list ts) e = let h = fits n d ps kind.Cases (list ts) e in (has_cases d ts h.0, case_items_fit n d 0 ts h.1)
-  cases_fit n d ps t e = absurd (is_list n d ps kind.Cases t for_cases e)
+  branches_in_fit : (n : Names) (d : ℕ) (ms : Members) (ps : List (List ℕ × List ℕ)) (v : Kind) → HasRow v (row.Must key.Steps kind.Branches) → is_some (value_at key.Steps ms) ≡ true
+      → first_fault (members_sites n d ps v ms) ≡ None → (HasGroup (nest_branches_in ms) × AreBranches (nest_branches_in ms)) × GroupsFit n d (nest_branches_in ms)
+  branches_in_fit n d no_members ps v r there e = absurd (true≢false (sym there))
+  branches_in_fit n d (member name t ms) ps v r there e =
+      cond_both (is_spelled key.Steps name) (nest_branch_list t) (nest_branches_in ms) (λ gs. (HasGroup gs × AreBranches gs) × GroupsFit n d gs)
+      (λ b. branch_list_fits n d ps t (found_value n d ps v key.Steps (row.Must key.Steps kind.Branches) name t ms r refl b e))
+      (λ b. branches_in_fit n d ms ps v r (still_there (is_spelled key.Steps name) t (value_at key.Steps ms) b there) (first_member n d ps v name t ms e).1)
 
-  case_items_fit : (n : Names) (d k : ℕ) (ts : Items) → first_fault (items_sites n d kind.Case k ts) ≡ None → CasesFit n d (nest_cases ts)
-  case_items_fit n d k no_items e = tt
-  case_items_fit n d k (item t ts) e = let h = first_item n d kind.Case k t ts e in let c = case_fits n d [] t h.0 in (c.0, (c.1, case_items_fit n d (k + 1) ts h.1))
+  branch_list_fits : (n : Names) (d : ℕ) (ps : List (List ℕ × List ℕ)) (t : Json) → IsFaultless n d ps kind.Branches t → (HasGroup (nest_branch_list t) × AreBranches (nest_branch_list t)) × GroupsFit n d (nest_branch_list t)
+  branch_list_fits n d ps (list ts) e =
+      let h = fits n d ps kind.Branches (list ts) e in
+      ((has_branches d ts h.0, are_branches ts), branches_fit n d 0 ts (not_deep d true (has_none ts) h.0) h.1)
+  branch_list_fits n d ps t e = absurd (is_list n d ps kind.Branches t for_branches e)
 
-  pub case_fits : (n : Names) (d : ℕ) (ps : List (List ℕ × List ℕ)) (t : Json) → IsFaultless n d ps kind.Case t → CheckFits n (case_check t) × BlockFits n d (nest_case t)
-  case_fits n d ps (object ms) e =
-      let o = object_fits n d ps kind.Case ms refl e in
-      (check_fits n d ms o, (in_fits n d ms (parameters_of ms) kind.Case kind.Steps false of_steps tables.case_steps (must_be_there kind.Case key.Steps kind.Steps ms tables.case_steps o.keys) o.members).1)
-  case_fits n d ps t e = absurd (is_object n d ps kind.Case t for_case e)
+  branches_fit : (n : Names) (d k : ℕ) (ts : Items) → d < 16 → first_fault (items_sites n (d + 1) kind.Step k ts) ≡ None → GroupsFit n d (nest_branches ts)
+  branches_fit n d k no_items l e = tt
+  branches_fit n d k (item t ts) l e = let h = first_item n (d + 1) kind.Step k t ts e in ((l, (step_fits n (d + 1) [] t h.0, tt)), branches_fit n d (k + 1) ts l h.1)
 
-  pub otherwise_fits : (n : Names) (d : ℕ) (ps : List (List ℕ × List ℕ)) (t : Json) → IsFaultless n d ps kind.Otherwise t → BlockFits n d (nest_case t)
-  otherwise_fits n d ps (object ms) e =
-      let o = object_fits n d ps kind.Otherwise ms refl e in
-      (in_fits n d ms (parameters_of ms) kind.Otherwise kind.Steps false of_steps tables.otherwise_steps (must_be_there kind.Otherwise key.Steps kind.Steps ms tables.otherwise_steps o.keys) o.members).1
-  otherwise_fits n d ps t e = absurd (is_object n d ps kind.Otherwise t for_otherwise e)
+  each_in_fits : (n : Names) (d : ℕ) (ms : Members) (ps : List (List ℕ × List ℕ)) (v : Kind) (q : Key) (w u : Kind) → HasRow v (row.Must q w) → AreHolders w u → first_fault (members_sites n d ps v ms) ≡ None
+      → GroupsFit n d (nest_each_in q ms)
+  each_in_fits n d no_members ps v q w u r a e = tt
+  each_in_fits n d (member name t ms) ps v q w u r a e =
+      cond_both (is_spelled q name) (nest_each_list t) (nest_each_in q ms) (GroupsFit n d)
+      (λ b. each_list_fits n d ps w u t a (found_value n d ps v q (row.Must q w) name t ms r refl b e))
+      (λ b. each_in_fits n d ms ps v q w u r a (first_member n d ps v name t ms e).1)
 
-  last_in_fits : (n : Names) (d : ℕ) (ms : Members) (ps : List (List ℕ × List ℕ)) (v : Kind) → HasRow v (row.May key.Otherwise kind.Otherwise) → first_fault (members_sites n d ps v ms) ≡ None → LastFits n d (nest_last_in ms)
-  last_in_fits n d no_members ps v r e = tt
-  last_in_fits n d (member name t ms) ps v r e =
-      cond_both (is_spelled key.Otherwise name) (last (nest_case t)) (nest_last_in ms) (LastFits n d)
-      (λ b. otherwise_fits n d ps t (found_value n d ps v key.Otherwise (row.May key.Otherwise kind.Otherwise) name t ms r refl b e))
-      (λ b. last_in_fits n d ms ps v r (first_member n d ps v name t ms e).1)
+  each_list_fits : (n : Names) (d : ℕ) (ps : List (List ℕ × List ℕ)) (w u : Kind) (t : Json) → AreHolders w u → IsFaultless n d ps w t → GroupsFit n d (nest_each_list t)
+  each_list_fits n d ps w u (list ts) a e =
+      let h = fits n d ps w (list ts) e in
+      each_fits n d 0 u ts a.holder (subst (λ (x : Option Listed). first_fault (items_sites n (deeper d x) (item_kind x) 0 ts) ≡ None) a.listed h.1)
+  each_list_fits n d ps w u t a e = absurd (is_list n d ps w t a.lists e)
+
+  each_fits : (n : Names) (d k : ℕ) (u : Kind) (ts : Items) → IsHolder u → first_fault (items_sites n d u k ts) ≡ None → GroupsFit n d (nest_each ts)
+  each_fits n d k u no_items a e = tt
+  each_fits n d k u (item t ts) a e = let h = first_item n d u k t ts e in (inner_fits n d [] u t a h.0, each_fits n d (k + 1) u ts a h.1)
+
+  one_in_fits : (n : Names) (d : ℕ) (ms : Members) (ps : List (List ℕ × List ℕ)) (v : Kind) (q : Key) (u : Kind) → HasRow v (row.May q u) → IsHolder u → first_fault (members_sites n d ps v ms) ≡ None
+      → GroupsFit n d (nest_one_in q ms)
+  one_in_fits n d no_members ps v q u r a e = tt
+  one_in_fits n d (member name t ms) ps v q u r a e =
+      cond_both (is_spelled q name) (group (nest_inner t) no_group) (nest_one_in q ms) (GroupsFit n d)
+      (λ b. (inner_fits n d ps u t a (found_value n d ps v q (row.May q u) name t ms r refl b e), tt))
+      (λ b. one_in_fits n d ms ps v q u r a (first_member n d ps v name t ms e).1)
 
 -- a list of steps
 pub steps_fit : (n : Names) (d : ℕ) (ps : List (List ℕ × List ℕ)) (t : Json) → IsFaultless n d ps kind.Steps t → BlockFits n d (nest_list t)
-steps_fit n d ps t e = (list_fits n d ps kind.Steps false t of_steps e).1
-
--- the branches of a multicast
-pub branches_fit : (n : Names) (d : ℕ) (ps : List (List ℕ × List ℕ)) (t : Json) → IsFaultless n d ps kind.Branches t → HasSteps (nest_list t) × BlockFits n d (nest_list t)
-branches_fit n d ps t e = list_fits n d ps kind.Branches true t of_branches e
+steps_fit n d ps t e = list_fits n d ps t e

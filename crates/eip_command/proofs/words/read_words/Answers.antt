@@ -1,9 +1,10 @@
-use Rattle.std.proofs.Common.{◌≡◌, Some, rules}
+use Rattle.std.proofs.Common.{◌≡◌, Some, arith}
+use Rattle.std.proofs.lemmas.Grind.{common_steps}
 use Rattle.eip_command.specs.Words.{command_of}
 use Rattle.eip_command.proofs.Paths.{command_is}
 use Rattle.eip_command.proofs.words.read_words.Goals as goal
 
-pub returns-in_ok-routes-in-len2-clause-file : goal.returns-in_ok-routes-in-len2-clause-file
-returns-in_ok-routes-in-len2-clause-file c =
-    let e : command_of c.args.words.now ≡ Some c.command.result = search rules in
-    command_is c.args.words.now c.command.result e
+pub returns-clause-file : goal.returns-clause-file
+returns-clause-file c =
+    let e : command_of c.args.words.now ≡ Some c.in_ok-command.field-0 = grind (arith, common_steps) in
+    command_is c.args.words.now c.in_ok-command.field-0 e

@@ -1,5 +1,5 @@
-use Rattle.eip_history.proofs.Keys.{one-holder}
+use Rattle.eip_history.proofs.Keys.{one-eager-holder}
 use Rattle.eip_history_laws.proofs.laws.holder_law.Goals as goal
 
 pub returns : goal.returns
-returns c = one-holder
+returns c = one-eager-holder

@@ -1,6 +1,6 @@
 use Rattle.std.proofs.Common.{arith, refl}
 use Rattle.std.proofs.lemmas.Grind.{common_steps}
-use Rattle.eip_route_print.proofs.Loops.{pushed}
+use Rattle.eip_route_canonical.proofs.Loops.{pushed}
 use Rattle.eip_route_print.specs.Seen.{clause_in, clauses_in}
 use Rattle.eip_route_print.proofs.print.push_clauses.Goals as goal
 

@@ -1,6 +1,6 @@
 use Rattle.std.proofs.Common.{arith, refl}
 use Rattle.std.proofs.lemmas.Grind.{common_steps}
-use Rattle.eip_route_print.proofs.Loops.{pushed}
+use Rattle.eip_route_canonical.proofs.Loops.{pushed}
 use Rattle.eip_route_print.specs.Seen.{route_in, routes_in}
 use Rattle.eip_route_print.proofs.print.push_routes.Goals as goal
 

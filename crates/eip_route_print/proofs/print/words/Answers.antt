@@ -1,7 +1,7 @@
 use Rattle.std.proofs.Common.{arith, refl, ap, ◌∙◌}
 use Rattle.std.proofs.lemmas.Grind.{common_steps}
 use Rattle.eip_text.specs.Json.{word}
-use Rattle.eip_route_print.proofs.Loops.{pushed, all_pushed}
+use Rattle.eip_route_canonical.proofs.Loops.{pushed, all_pushed}
 use Rattle.eip_route_canonical.proofs.Objects.{list_tree}
 use Rattle.eip_route_canonical.specs.Canonical.{list_of, words}
 use Rattle.eip_route_canonical.specs.Trees.{values_of}

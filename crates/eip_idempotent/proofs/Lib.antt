@@ -1,0 +1,4 @@
+pub mod Least
+pub mod Standing
+pub mod Lookups
+mod Rows

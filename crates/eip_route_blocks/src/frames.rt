@@ -1,0 +1,237 @@
+#![tactic(auto, using(eip_text::proofs::Levels::json_levels))]
+
+ghost use Rattle.std.specs.Prelude.{◌≡◌, [], true, Some, is_some, IfOk};
+ghost use Rattle.eip_text.specs.Json.{json, items_json, members_json};
+ghost use Rattle.eip_route.specs.Nest as nest;
+ghost use Rattle.eip_route_grammar.specs.Objects as objects;
+ghost use Rattle.eip_route_values.specs.Leaves as leaves;
+ghost use Rattle.eip_route_values.specs.Nesting as spec;
+ghost use Rattle.eip_route_values.specs.Parts as parts;
+
+use eip_route::{Check, Step, own_repository};
+use eip_route_grammar::keys::Key;
+use eip_route_grammar::known::Known;
+use eip_route_grammar::objects::value_at;
+use eip_route_values::leaves::flag_at;
+use eip_route_values::parts::{aggregate_in, check_in, expr_in, fan_in, how_in, repository_in};
+use eip_route_values::steps::{
+    log, nothing, process, recipients, remove_header, set_body, set_header, set_property, throw, to,
+};
+use eip_text::{NoMemory, Series, Text, Tree};
+use std::alloc::Global;
+
+/// The first of these numbers, else 0.
+fn first_of(numbers: &[u32]) -> u32
+    ensures { result ≡ nest.first_of numbers.now }
+{
+    match numbers {
+        [] => 0,
+        [first, ..] => *first,
+    }
+}
+
+/// The numbers behind the first.
+fn behind_first(numbers: &[u32]) -> &[u32]
+    ensures { result.now ≡ nest.rest_of numbers.now }
+{
+    match numbers {
+        [] => numbers,
+        [_, others @ ..] => others,
+    }
+}
+
+fn stored_nothing(alloc: Global) -> Result<Check, NoMemory>
+    ensures { IfOk result (λ c. c ≡ Check.Stored []) }
+{
+    Ok(Check::Stored(Text::of_str(alloc, "")?))
+}
+
+/// What a case of a choice asks.
+fn case_check(alloc: Global, known: &mut Known, tree: &Tree) -> Result<Check, NoMemory>
+    ensures { IfOk result (λ c. c ≡ spec.case_check (json tree.now)) }
+{
+    match tree {
+        Tree::Object(members) => check_in(alloc, known, members.items()),
+        Tree::Null => stored_nothing(alloc),
+        Tree::Flag(_) => stored_nothing(alloc),
+        Tree::Whole(_) => stored_nothing(alloc),
+        Tree::Float => stored_nothing(alloc),
+        Tree::Word(_) => stored_nothing(alloc),
+        Tree::List(_) => stored_nothing(alloc),
+    }
+}
+
+/// The items of a list, else none.
+fn items_of(tree: &Tree) -> &[Tree]
+    ensures { items_json result.now ≡ spec.items_given (Some (json tree.now)) }
+{
+    match tree {
+        Tree::List(items) => items.items(),
+        Tree::Null => &[],
+        Tree::Flag(_) => &[],
+        Tree::Whole(_) => &[],
+        Tree::Float => &[],
+        Tree::Word(_) => &[],
+        Tree::Object(_) => &[],
+    }
+}
+
+/// The items of the list that a key has as its value, else none.
+fn items_at(key: Key, members: &[(Text, Tree)]) -> &[Tree]
+    ensures { items_json result.now
+        ≡ spec.items_given (objects.value_at key (members_json members.now)) }
+{
+    match value_at(key, members) {
+        Some(tree) => items_of(tree),
+        None => &[],
+    }
+}
+
+/// The cases of a choice, of which the blocks have the first of these numbers, and the numbers behind
+/// them.
+fn cases<'a>(
+    alloc: Global,
+    known: &mut Known,
+    items: &[Tree],
+    numbers: &'a [u32],
+) -> Result<(Vec<(Check, u32)>, &'a [u32]), NoMemory>
+    ensures { let checks = spec.checks_of (items_json items.now) in
+        IfOk result (λ r. (r.0.items ≡ nest.cases_with checks numbers.now)
+        × (r.1.now ≡ nest.past checks numbers.now)) }
+{
+    let mut cases = Vec::new(alloc);
+    let mut left = numbers;
+    for item in items {
+        let check = case_check(alloc, known, item)?;
+        cases.push((check, first_of(left)))?;
+        left = behind_first(left);
+    }
+    Ok((cases, left))
+}
+
+/// `choice`: the block of the first case whose check holds is gone through, else the last one.
+fn choice(
+    alloc: Global,
+    known: &mut Known,
+    members: &[(Text, Tree)],
+    numbers: &[u32],
+) -> Result<Step, NoMemory>
+    ensures { let ms = members_json members.now in
+        let frame = nest.chooses (spec.checks_in ms) (is_some (objects.value_at Key.Otherwise ms)) in
+        IfOk result (λ s. s ≡ nest.fill frame numbers.now) }
+{
+    let items = items_at(Key::When, members);
+    let (cases, left) = cases(alloc, known, items, numbers)?;
+    let otherwise = if value_at(Key::Otherwise, members).is_some() {
+        Some(first_of(left))
+    } else {
+        None
+    };
+    Ok(Step::Choice {
+        cases: Series::of(cases),
+        otherwise,
+    })
+}
+
+/// `filter`: the block is gone through where the check holds.
+fn filter(
+    alloc: Global,
+    known: &mut Known,
+    members: &[(Text, Tree)],
+    block: u32,
+) -> Result<Step, NoMemory>
+    ensures { let check = parts.check_in (members_json members.now) in
+        IfOk result (λ s. s ≡ Step.Filter check block) }
+{
+    let check = check_in(alloc, known, members)?;
+    Ok(Step::Filter { check, block })
+}
+
+/// `split`: the block is gone through for each part of the body.
+fn split(alloc: Global, members: &[(Text, Tree)], block: u32) -> Result<Step, NoMemory>
+    ensures { let ms = members_json members.now in
+        let how = parts.how_given (objects.value_at Key.Tokenize ms) in
+        IfOk result (λ s. s ≡ Step.Split how (parts.fan_in ms) block) }
+{
+    let how = how_in(alloc, members)?;
+    let fan = fan_in(alloc, members)?;
+    Ok(Step::Split { how, fan, block })
+}
+
+/// `multicast`: each branch is gone through with a copy of the message.
+fn multicast(alloc: Global, members: &[(Text, Tree)], numbers: Vec<u32>) -> Result<Step, NoMemory>
+    ensures { let fan = parts.fan_in (members_json members.now) in
+        IfOk result (λ s. s ≡ Step.Multicast fan numbers.items) }
+{
+    let fan = fan_in(alloc, members)?;
+    Ok(Step::Multicast {
+        fan,
+        blocks: Series::of(numbers),
+    })
+}
+
+/// The repository that an idempotent consumer gives, else the one of its block.
+fn repository(alloc: Global, members: &[(Text, Tree)], block: u32) -> Result<Text, NoMemory>
+    ensures { let name = objects.value_at Key.IdempotentRepository (members_json members.now) in
+        IfOk result (λ r. r ≡ nest.repository_of block (parts.repository_given name)) }
+{
+    match repository_in(alloc, members)? {
+        None => own_repository(alloc, block),
+        Some(name) => Ok(name),
+    }
+}
+
+/// `idempotentConsumer`: the block is gone through once for each key.
+fn idempotent(alloc: Global, members: &[(Text, Tree)], block: u32) -> Result<Step, NoMemory>
+    ensures { let ms = members_json members.now in
+        let name = parts.repository_given (objects.value_at Key.IdempotentRepository ms) in
+        let skip = leaves.flag_at true Key.SkipDuplicate ms in
+        let eager = leaves.flag_at true Key.Eager ms in
+        let remove = leaves.flag_at true Key.RemoveOnFailure ms in
+        IfOk result (λ s. s
+        ≡ Step.Idempotent (parts.expr_in ms) (nest.repository_of block name) skip eager remove block) }
+{
+    let key = expr_in(alloc, members)?;
+    let repository = repository(alloc, members, block)?;
+    Ok(Step::Idempotent {
+        key,
+        repository,
+        skip: flag_at(true, Key::SkipDuplicate, members),
+        eager: flag_at(true, Key::Eager, members),
+        remove: flag_at(true, Key::RemoveOnFailure, members),
+        block,
+    })
+}
+
+/// The step of an object with these members, where the blocks of the steps that it holds have these
+/// numbers.
+pub fn step_of(
+    alloc: Global,
+    known: &mut Known,
+    step: Key,
+    members: &[(Text, Tree)],
+    numbers: Vec<u32>,
+) -> Result<Step, NoMemory>
+    ensures { let said = spec.said step (members_json members.now) in
+        IfOk result (λ s. s ≡ spec.with_numbers said numbers.items) }
+{
+    let block = first_of(numbers.as_slice());
+    match step {
+        Key::SetBody => set_body(alloc, members),
+        Key::SetHeader => set_header(alloc, members),
+        Key::SetProperty => set_property(alloc, members),
+        Key::RemoveHeader => remove_header(alloc, members),
+        Key::To => to(alloc, members),
+        Key::Log => log(alloc, members),
+        Key::ThrowException => throw(alloc, members),
+        Key::Process => process(alloc, members),
+        Key::RecipientList => recipients(alloc, members),
+        Key::Choice => choice(alloc, known, members, numbers.as_slice()),
+        Key::Filter => filter(alloc, known, members, block),
+        Key::Split => split(alloc, members, block),
+        Key::Multicast => multicast(alloc, members, numbers),
+        Key::Aggregate => Ok(Step::Aggregate(aggregate_in(alloc, block, known, members)?)),
+        Key::IdempotentConsumer => idempotent(alloc, members, block),
+        _ => nothing(alloc),
+    }
+}

@@ -1,0 +1,195 @@
+use eip_exchange::{End, Fault};
+use eip_idempotent::{Offered, Repo};
+use eip_text::{NoMemory, Text, decimal};
+use std::alloc::Global;
+use std::test::*;
+
+/// What an exchange does: it offers the key, or it ends.
+#[derive(Clone, Copy)]
+enum Step {
+    Offer(u64),
+    Complete(u64),
+    Handle(u64),
+    Fail(u64),
+}
+
+/// The end of an exchange that couldn't send.
+fn failed(alloc: Global) -> Result<End, NoMemory> {
+    Ok(End::Failed(Fault {
+        kind: Text::of_str(alloc, "SendFailed")?,
+        text: Text::of_str(alloc, "lane:x")?,
+    }))
+}
+
+/// What the offers of one key are answered among these steps.
+fn answers(alloc: Global, eager: bool, remove: bool, steps: &[Step]) -> Result<String, NoMemory> {
+    let (repository, key) = (Text::of_str(alloc, "in")?, Text::of_str(alloc, "k")?);
+    let failure = failed(alloc)?;
+    let mut repo = Repo::new(alloc);
+    let mut answers = Vec::new(alloc);
+    for step in steps {
+        match step {
+            Step::Offer(number) => {
+                answers.push(repo.offer(&repository, &key, *number, eager, remove)?)?;
+            }
+            Step::Complete(number) => repo.settle(*number, &End::Completed),
+            Step::Handle(number) => repo.settle(*number, &End::Handled),
+            Step::Fail(number) => repo.settle(*number, &failure),
+        }
+    }
+    Ok(format!(in alloc; "{answers:?}")?)
+}
+
+/// 1 waits for another try while 2 and 3 come and complete, then it completes, and 4 comes.
+const TRIED_AGAIN: [Step; 7] = [
+    Step::Offer(1),
+    Step::Offer(2),
+    Step::Complete(2),
+    Step::Offer(3),
+    Step::Complete(3),
+    Step::Complete(1),
+    Step::Offer(4),
+];
+
+#[test]
+fn a_key_that_is_not_eager_is_held_from_an_end_on(rt: HostRuntime) -> Result<(), Fail> {
+    let said = answers(rt.alloc(), false, true, &TRIED_AGAIN)?;
+    assert_eq!(rt; said.as_str(), "[Fresh, Fresh, Duplicate(2), Duplicate(1)]");
+    Ok(())
+}
+
+#[test]
+fn an_eager_key_is_held_at_once(rt: HostRuntime) -> Result<(), Fail> {
+    let said = answers(rt.alloc(), true, true, &TRIED_AGAIN)?;
+    assert_eq!(rt;
+        said.as_str(),
+        "[Fresh, Duplicate(1), Duplicate(1), Duplicate(1)]"
+    );
+    Ok(())
+}
+
+#[test]
+fn a_failure_gives_a_key_up_where_it_is_to_be_removed(rt: HostRuntime) -> Result<(), Fail> {
+    let steps = [
+        Step::Offer(1),
+        Step::Offer(1),
+        Step::Fail(1),
+        Step::Offer(2),
+        Step::Handle(2),
+        Step::Offer(3),
+    ];
+    let said = answers(rt.alloc(), true, true, &steps)?;
+    assert_eq!(rt; said.as_str(), "[Fresh, Duplicate(1), Fresh, Fresh]");
+    let said = answers(rt.alloc(), true, false, &steps)?;
+    assert_eq!(rt;
+        said.as_str(),
+        "[Fresh, Duplicate(1), Duplicate(1), Duplicate(1)]"
+    );
+    let said = answers(rt.alloc(), false, false, &steps)?;
+    assert_eq!(rt; said.as_str(), "[Fresh, Fresh, Duplicate(1), Duplicate(1)]");
+    Ok(())
+}
+
+/// What a table with the key `k` of `in` answers to this one.
+fn beside(alloc: Global, repository: &str, key: &str) -> Result<Offered, NoMemory> {
+    let (repository, key) = (Text::of_str(alloc, repository)?, Text::of_str(alloc, key)?);
+    let mut repo = Repo::new(alloc);
+    let (own, k) = (Text::of_str(alloc, "in")?, Text::of_str(alloc, "k")?);
+    repo.offer(&own, &k, 1, true, true)?;
+    repo.offer(&repository, &key, 2, true, true)
+}
+
+#[test]
+fn keys_are_apart_by_repository_and_text(rt: HostRuntime) -> Result<(), Fail> {
+    assert_eq!(rt; beside(rt.alloc(), "in", "k")?, Offered::Duplicate(1));
+    assert_eq!(rt; beside(rt.alloc(), "in", "K")?, Offered::Fresh);
+    assert_eq!(rt; beside(rt.alloc(), "i", "nk")?, Offered::Fresh);
+    assert_eq!(rt; beside(rt.alloc(), "", "k")?, Offered::Fresh);
+    Ok(())
+}
+
+/// How many keys are claimed at once.
+const MANY: u64 = 20_000;
+
+/// The numbers below `MANY` in another order.
+fn mixed(number: u64) -> u64 {
+    number.wrapping_mul(7_919) % MANY
+}
+
+/// A table in which each number below `MANY` has claimed itself as a key, one of three eagerly. How many offers weren't
+/// fresh.
+fn claim_many(alloc: Global, repo: &mut Repo, repository: &Text) -> Result<u64, NoMemory> {
+    let mut held: u64 = 0;
+    for number in 0..MANY {
+        let key = decimal(alloc, number)?;
+        if repo.offer(repository, &key, number, number % 3 == 0, true)? != Offered::Fresh {
+            held = held.saturating_add(1);
+        }
+    }
+    Ok(held)
+}
+
+/// All end, in another order: the even ones complete, and a handler takes the faults of the others.
+fn end_many(repo: &mut Repo) {
+    for turn in 0..MANY {
+        let number = mixed(turn);
+        if number % 2 == 0 {
+            repo.settle(number, &End::Completed);
+        } else {
+            repo.settle(number, &End::Handled);
+        }
+    }
+}
+
+/// The first key, in another order, that isn't held by its own even number alone; `MANY` where an offer of a new key was
+/// no fresh one.
+fn first_wrong(alloc: Global) -> Result<Option<u64>, NoMemory> {
+    let repository = Text::of_str(alloc, "in")?;
+    let mut repo = Repo::new(alloc);
+    if claim_many(alloc, &mut repo, &repository)? != 0 {
+        return Ok(Some(MANY));
+    }
+    end_many(&mut repo);
+    for turn in 0..MANY {
+        let number = mixed(turn);
+        let key = decimal(alloc, number)?;
+        let want = if number % 2 == 0 {
+            Offered::Duplicate(number)
+        } else {
+            Offered::Fresh
+        };
+        if repo.offer(&repository, &key, MANY + turn, true, true)? != want {
+            return Ok(Some(number));
+        }
+    }
+    Ok(None)
+}
+
+#[test]
+fn many_keys_are_held_by_those_who_completed(rt: HostRuntime) -> Result<(), Fail> {
+    assert_eq!(rt; first_wrong(rt.alloc())?, None);
+    Ok(())
+}
+
+/// The first of `MANY` ends, the greatest number's first, behind which the key isn't held by the number that ended last.
+fn wrong_holder(alloc: Global) -> Result<Option<u64>, NoMemory> {
+    let (repository, key) = (Text::of_str(alloc, "in")?, Text::of_str(alloc, "k")?);
+    let mut repo = Repo::new(alloc);
+    for number in 0..MANY {
+        repo.offer(&repository, &key, number, false, true)?;
+    }
+    for turn in 0..MANY {
+        let number = MANY - 1 - turn;
+        repo.settle(number, &End::Completed);
+        if repo.offer(&repository, &key, MANY, false, true)? != Offered::Duplicate(number) {
+            return Ok(Some(number));
+        }
+    }
+    Ok(None)
+}
+
+#[test]
+fn of_many_holders_the_least_is_told(rt: HostRuntime) -> Result<(), Fail> {
+    assert_eq!(rt; wrong_holder(rt.alloc())?, None);
+    Ok(())
+}
