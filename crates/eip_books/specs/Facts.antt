@@ -8,7 +8,6 @@ tables_of a = record { rows = a.rows.items; ready = a.ready.numbers; sources = a
 
 pub record BooksFacts (a : Inside) : Type 0 where
   pub stands : Stands a.set a.journal.workers a.journal.turns a.journal.past (tables_of a)
-  pub limit : a.journal.turns ≤ 1000000
   pub few : length a.set.routes ≤ 256
   pub room_small : a.room ≤ 1
   -- a hand needs an entry for itself and one for its end

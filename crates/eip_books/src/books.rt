@@ -85,6 +85,8 @@ impl Books {
     /// The books of a run that has no entry yet.
     pub fn new(alloc: Global, set: RouteSet, workers: u32, turns: u32) -> Result<Books, NoMemory>
         requires few { length set.routes ≤ 256 }
+        requires workers { workers ≤ 16 }
+        requires some { 1 ≤ turns }
         requires limit { turns ≤ 1000000 }
         ensures set { IfOk result (λ b. b.set ≡ set) }
         ensures workers { IfOk result (λ b. b.journal.workers ≡ workers) }
@@ -289,7 +291,7 @@ impl Books {
                 Kind::Answer { answer, .. } => {
                     self.rows.look(number, self.alloc, &self.set, answer)
                 }
-                _ => Err(NoMemory),
+                _ => unreachable!(),
             },
             _ => Ok(()),
         }

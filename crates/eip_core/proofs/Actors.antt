@@ -12,7 +12,7 @@ use Rattle.eip_history.specs.Plan.{Plan}
 use Rattle.eip_history.specs.Own.{Past, SourceState, Idle, Out, Done, numbers_below, source_state, is_out, is_done, numbered}
 use Rattle.eip_history.specs.Births.{births}
 use Rattle.eip_history.specs.Place.{place, place_of, numbers_at, number_of, ready_numbers, is_held, is_taken, pulls_out, takes_out, hands, end_of}
-use Rattle.eip_history.specs.Rules.{IsLegal, May, IsSource, IsBelow, first, unfinished, startable}
+use Rattle.eip_history.specs.Rules.{KeepsRules, May, IsSource, IsBelow, first, unfinished, startable}
 use Rattle.eip_history.specs.Stop.{Actor, TheExchange, TheSource, TheQueue, first_or, actor}
 use Rattle.eip_history.specs.Laws.{PlanLaws}
 use Rattle.eip_history.specs.Tables.{put_in}
@@ -106,7 +106,7 @@ first-below p (suc n) t l h none = by_last (cases_Bool (n == t)) (λ m. first-be
 
 module _ (s : Plan) (laws : PlanLaws s) (w limit v : ℕ) (past : Past) where
   -- behind its Pull the source acts
-  pub actor-out : (t : ℕ) → IsLegal s w limit ((record { worker = v; kind = Pull t }) ∷ past) → hands s past ≡ 0 → IsSource s t
+  pub actor-out : (t : ℕ) → KeepsRules s w limit ((record { worker = v; kind = Pull t }) ∷ past) → hands s past ≡ 0 → IsSource s t
       → actor s ((record { worker = v; kind = Pull t }) ∷ past) ≡ TheSource t
   unfolding actor
   actor-out t legal home source =
@@ -131,7 +131,7 @@ module _ (s : Plan) (laws : PlanLaws s) (w limit v : ℕ) (past : Past) where
       ended-same s e past y b at (ap end_of (fate-unanswered s e past b refl refl))
 
   -- behind its Take the exchange acts
-  pub actor-held : (i : ℕ) → IsLegal s w limit ((record { worker = v; kind = Take (1 + i) }) ∷ past) → hands s past ≡ 0 → place s past (1 + i) ≡ Some place_is.Ready
+  pub actor-held : (i : ℕ) → KeepsRules s w limit ((record { worker = v; kind = Take (1 + i) }) ∷ past) → hands s past ≡ 0 → place s past (1 + i) ≡ Some place_is.Ready
       → place s ((record { worker = v; kind = Take (1 + i) }) ∷ past) (1 + i) ≡ Some (place_is.InHand v)
       → actor s ((record { worker = v; kind = Take (1 + i) }) ∷ past) ≡ TheExchange (1 + i)
   unfolding actor
@@ -152,13 +152,13 @@ module _ (s : Plan) (laws : PlanLaws s) (w limit v : ℕ) (past : Past) where
       first-acts (numbers_at s (e ∷ past) is_held) TheExchange _ (1 + i)
       (ap first numbers ∙ ap (λ xs. first (put_in (1 + i) xs ++ [])) (held-none s past takes))
 
-  pub actor-taken : (x : ℕ) → IsLegal s w limit ((record { worker = v; kind = Take x }) ∷ past) → hands s past ≡ 0 → place s past x ≡ Some place_is.Ready
+  pub actor-taken : (x : ℕ) → KeepsRules s w limit ((record { worker = v; kind = Take x }) ∷ past) → hands s past ≡ 0 → place s past x ≡ Some place_is.Ready
       → place s ((record { worker = v; kind = Take x }) ∷ past) x ≡ Some (place_is.InHand v)
       → actor s ((record { worker = v; kind = Take x }) ∷ past) ≡ TheExchange x
   actor-taken zero legal home ready held = absurd (unborn-zero ready)
   actor-taken (suc i) legal home ready held =
       let g : 1 + i ≡ suc i = omega arith in
-      let P : ℕ → Type 0 = λ n. IsLegal s w limit ((record { worker = v; kind = Take n }) ∷ past) → place s past n ≡ Some place_is.Ready
+      let P : ℕ → Type 0 = λ n. KeepsRules s w limit ((record { worker = v; kind = Take n }) ∷ past) → place s past n ≡ Some place_is.Ready
       → place s ((record { worker = v; kind = Take n }) ∷ past) n ≡ Some (place_is.InHand v)
       → actor s ((record { worker = v; kind = Take n }) ∷ past) ≡ TheExchange n in
       subst P g (λ l r h. actor-held i l home r h) legal ready held

@@ -1,6 +1,9 @@
 -- One act of the plain schedule, by the entries that it makes.
-use Rattle.std.proofs.Common.{◌≡◌, ◌≢◌, ℕ, ◌<◌, ◌≤◌, Bool, true, false, IsTrue, List, [], ◌∷◌, Option, Some, None, map, refl, sym, subst, ◌∙◌, eq-eqb}
+use Rattle.std.proofs.Common.{◌≡◌, ◌≢◌, ℕ, ◌<◌, ◌≤◌, Bool, true, false, IsTrue, List, [], ◌∷◌, ◌++◌, Option, Some, None, map, refl, sym, ap, subst, ◌∙◌, eq-eqb}
 use Rattle.std.specs.List.{slice_get}
+use Rattle.std.proofs.lemmas.List.{append-nil}
+use Rattle.eip_exchange.specs.declared.birth.Origin.{Origin}
+use Rattle.eip_exchange.specs.declared.birth.Origin.TheVariants as from
 use Rattle.eip_route.specs.declared.route.RouteSet.{RouteSet}
 use Rattle.eip_frames.specs.declared.request.Request.{Request}
 use Rattle.eip_frames.specs.declared.request.Request.TheVariants as request
@@ -15,13 +18,14 @@ use Rattle.eip_exchange.specs.declared.message.Message.{Message}
 use Rattle.eip_ledger.specs.declared.entry.Refused.{Refused as Cause}
 use Rattle.eip_endpoint.specs.declared.source.Pulled.TheVariants.{Item, Refused, End}
 use Rattle.eip_endpoint.specs.Inlets.{InletView, Act, Gave, Failed, InletsGrew, inlet_names}
+use Rattle.eip_endpoint.specs.Outside.{Doors, calls, calls_for, acts_by, acts_of, commits, commits_for}
 use Rattle.eip_endpoint.proofs.LaneLaws.{LanesGrew-none}
 use Rattle.eip_endpoint.proofs.InletLaws.{InletsGrew-none}
 use Rattle.eip_history.specs.Plan.{Plan}
 use Rattle.eip_history.specs.Own.{Past, Out, SourceState, source_state, concerns, moved, is_out}
 use Rattle.eip_history.specs.Births.{Asked, asked}
 use Rattle.eip_history.specs.Place.{place, hands, ready_numbers}
-use Rattle.eip_history.specs.Rules.{IsLegal, May, IsSource, IsBelow, first, outside_asked}
+use Rattle.eip_history.specs.Rules.{IsLegal, KeepsRules, May, IsSource, IsBelow, first, outside_asked, served_by, served_in}
 use Rattle.eip_history.specs.Stop.{stop_of, is_of, actor, TheSource, TheExchange, Actor}
 use Rattle.eip_history.proofs.Limit.{source-after, not-same}
 use Rattle.eip_history.proofs.Allowed.{waits-below}
@@ -30,8 +34,8 @@ use Rattle.eip_plan.proofs.Laws.{plan-laws, plan-simple}
 use Rattle.eip_books.specs.View.{BooksView, plan, IsLegalRun, Adds, AddsNone}
 use Rattle.eip_tables.specs.declared.asking.Inner.TheVariants.{Did}
 use Rattle.eip_tables.specs.Places.{inner_of}
-use Rattle.eip_core.specs.Doors.{Doors, inlet_at, uri_at}
-use Rattle.eip_core.specs.Outside.{acts_by, acts_of, refusal_of, inlet_acts_in, lane_calls_in, calls_asked, calls_for}
+use Rattle.eip_core.specs.Doors.{inlet_at, uri_at}
+use Rattle.eip_core.specs.Outside.{seen_answers, refusal_of, pulls_in}
 use Rattle.eip_core.specs.Drain.{Acts, Chosen, Drains, Progresses, Rests, doors}
 use Rattle.eip_core.proofs.Actors.{actor-ready, actor-source, actor-out, unfinished-first, first-pullable}
 use Rattle.eip_core.proofs.Progress.{progress-one, progress-trans}
@@ -51,14 +55,14 @@ rests-none a r = record {
 }
 
 pub rests-below : (v : BooksView) → Rests v → IsBelow (plan v) v.journal.turns v.journal.past
-rests-below v r = (waits-below (plan v) v.journal.workers v.journal.turns v.journal.past r.legal r.home r.waits).1
+rests-below v r = (waits-below (plan v) v.journal.workers v.journal.turns v.journal.past r.legal.entries r.home r.waits).1
 
 -- ---- a pull and what came of it
 
 -- with nobody Ready some source may be pulled
 pub pullable : (v : BooksView) → Rests v → first (ready_numbers (plan v) v.journal.past) ≡ None → (t : ℕ) × May (plan v) v.journal.turns v.journal.past 0 (Pull t)
 pullable v r nobody =
-    let n = next-source (plan v) (plan-laws v.set) (plan-simple v.set) v.journal.workers v.journal.turns v.journal.past r.legal r.home r.waits nobody in
+    let n = next-source (plan v) (plan-laws v.set) (plan-simple v.set) v.journal.workers v.journal.turns v.journal.past r.legal.entries r.home r.waits nobody in
     (n.0, first-pullable (plan v) v.journal.turns 0 v.journal.past n.0 r.home (rests-below v r) n.1)
 
 -- the source that was pulled
@@ -101,8 +105,8 @@ first-actor {u} {v} {t} p =
     actor-source (plan u) u.journal.past t p.rests.home p.nobody (none-startable (plan u) (plan-simple u.set) u.journal.past)
     (unfinished-first (plan u) u.journal.turns 0 u.journal.past t p.rests.home p.may p.least)
 
-pulled-legal : {u v : BooksView} {t : ℕ} → Pulled u v t → IsLegal (plan u) u.journal.workers u.journal.turns ((record { worker = 0; kind = Pull t }) ∷ u.journal.past)
-pulled-legal p = pulled-past (λ s w l q. IsLegal s w l q) p p.legal
+pulled-legal : {u v : BooksView} {t : ℕ} → Pulled u v t → KeepsRules (plan u) u.journal.workers u.journal.turns ((record { worker = 0; kind = Pull t }) ∷ u.journal.past)
+pulled-legal p = pulled-past (λ s w l q. KeepsRules s w l q) p p.legal.entries
 
 second-actor : {u v : BooksView} {t : ℕ} → Pulled u v t → actor (plan v) v.journal.past ≡ TheSource t
 second-actor {u} {v} {t} p =
@@ -118,8 +122,8 @@ drains-pull {u} {v} {t} l i p =
 -- an entry that says what came of a pull of source t
 pub record EndsPull (t : ℕ) (k : Kind) (acts : List Act) : Type 0 where
   pub of_source : is_of (TheSource t) k ≡ true
-  pub calls : (s : Plan) (d : Doors) (past : Past) → lane_calls_in s d past k ≡ []
-  pub acts_are : (d : Doors) → inlet_acts_in d k ≡ acts_of d t acts
+  pub answers : (s : Plan) (past : Past) → served_in s past 0 k ≡ []
+  pub acts_are : (d : Doors) → pulls_in d k ≡ acts_of d t acts
   pub nobody : (x : ℕ) → concerns x k ≡ false
   pub others : (u : ℕ) (was : SourceState) → u ≢ t → moved 0 u k was ≡ was
   pub back : (was : SourceState) → is_out (moved 0 t k was) ≡ false
@@ -130,9 +134,13 @@ pub drains-pulled : {u v w : BooksView} {t : ℕ} (k : Kind) (acts : List Act) (
     → EndsPull t k acts
     → InletsGrew 0 (acts_by (inlet_at (inlet_names i) (slice_get v.set.routes t)) (uri_at (slice_get v.set.routes t)) acts) i j → Drains u w l l i j
 drains-pulled {u} {v} {w} {t} k acts l i j p a ends grew =
+    let none = ends.answers (plan v) v.journal.past in
+    let d = doors v l i in
+    let are : pulls_in d k ++ commits d (seen_answers (served_in (plan v) v.journal.past 0 k)) ≡ acts_of d t acts =
+    ap (λ vs. pulls_in d k ++ commits d (seen_answers vs)) none ∙ (append-nil (pulls_in d k) ∙ ends.acts_are d) in
     drains-add (drains-pull l i p) a
-    (subst (λ js. LanesGrew 0 js l l) (sym (ends.calls (plan v) (doors v l i) v.journal.past)) (LanesGrew-none 0 l))
-    (subst (λ js. InletsGrew 0 js i j) (sym (ends.acts_are (doors v l i))) grew)
+    (subst (λ vs. LanesGrew 0 (calls d (seen_answers vs)) l l) (sym none) (LanesGrew-none 0 l))
+    (subst (λ js. InletsGrew 0 js i j) (sym are) grew)
     (subst (λ (b : Actor). IsTrue (is_of b k)) (sym (second-actor p)) ends.of_source)
 
 -- a pull and what came of it is an act
@@ -141,11 +149,11 @@ acts-pulled {u} {v} {w} {t} k acts p a legal ends =
     let e : Entry = record { worker = 0; kind = Pull t } in
     let f : Entry = record { worker = 0; kind = k } in
     let out = pulled-out p in
-    let here : IsLegal (plan v) v.journal.workers v.journal.turns (f ∷ v.journal.past) =
-    subst (λ (q : Past). IsLegal (plan v) v.journal.workers v.journal.turns q) a.past
-    (subst (λ (n : ℕ). IsLegal (plan v) v.journal.workers n w.journal.past) a.same.turns
-    (subst (λ (n : ℕ). IsLegal (plan v) n w.journal.turns w.journal.past) a.same.workers
-    (subst (λ (s : RouteSet). IsLegal (plan_of s) w.journal.workers w.journal.turns w.journal.past) a.same.set legal))) in
+    let here : KeepsRules (plan v) v.journal.workers v.journal.turns (f ∷ v.journal.past) =
+    subst (λ (q : Past). KeepsRules (plan v) v.journal.workers v.journal.turns q) a.past
+    (subst (λ (n : ℕ). KeepsRules (plan v) v.journal.workers n w.journal.past) a.same.turns
+    (subst (λ (n : ℕ). KeepsRules (plan v) n w.journal.turns w.journal.past) a.same.workers
+    (subst (λ (s : RouteSet). KeepsRules (plan_of s) w.journal.workers w.journal.turns w.journal.past) a.same.set legal.entries))) in
     let one : hands (plan v) v.journal.past ≤ 1 = pulled-back (λ s q. hands s q ≤ 1) p
     (hand-pull (plan u) u.journal.workers u.journal.turns 0 u.journal.past t (pulled-legal p) p.rests.home p.may.0) in
     let home = back-pull (plan v) v.journal.workers v.journal.turns 0 v.journal.past t k here one out.0 out.1 ends.nobody ends.others (ends.back (source_state t v.journal.past)) in
@@ -161,7 +169,7 @@ acts-pulled {u} {v} {w} {t} k acts p a legal ends =
 pub ends-accept : (t : ℕ) (item : List ℕ) (m : Message) → EndsPull t (Accept t item m) (Gave (Item item m) ∷ [])
 ends-accept t item m = record {
   of_source = eq-eqb t t refl;
-  calls = λ s d past. refl;
+  answers = λ s past. refl;
   acts_are = λ d. refl;
   nobody = λ x. refl;
   others = λ u was ne. rw (not-same u t ne) refl;
@@ -172,7 +180,7 @@ ends-accept t item m = record {
 pub ends-refuse : (t : ℕ) (item : List ℕ) (c : Cause) → EndsPull t (Refuse t item c) (Gave (Refused item (refusal_of c)) ∷ [])
 ends-refuse t item c = record {
   of_source = eq-eqb t t refl;
-  calls = λ s d past. refl;
+  answers = λ s past. refl;
   acts_are = λ d. refl;
   nobody = λ x. refl;
   others = λ u was ne. rw (not-same u t ne) refl;
@@ -183,7 +191,7 @@ ends-refuse t item c = record {
 pub ends-source_end : (t : ℕ) → EndsPull t (SourceEnd t) (Gave End ∷ [])
 ends-source_end t = record {
   of_source = eq-eqb t t refl;
-  calls = λ s d past. refl;
+  answers = λ s past. refl;
   acts_are = λ d. refl;
   nobody = λ x. refl;
   others = λ u was ne. rw (not-same u t ne) refl;
@@ -194,7 +202,7 @@ ends-source_end t = record {
 pub ends-source_fault : (t : ℕ) → EndsPull t (SourceFault t) (Failed ∷ [])
 ends-source_fault t = record {
   of_source = eq-eqb t t refl;
-  calls = λ s d past. refl;
+  answers = λ s past. refl;
   acts_are = λ d. refl;
   nobody = λ x. refl;
   others = λ u was ne. rw (not-same u t ne) refl;
@@ -218,22 +226,31 @@ chosen-ready {v} {x} c = ready-place (plan v) v.journal.past x c.least
 pub chosen-acts : {v : BooksView} {x : ℕ} (k : Kind) → Chosen v x → is_of (TheExchange x) k ≡ true → IsTrue (is_of (actor (plan v) v.journal.past) k)
 chosen-acts {v} {x} k c e = subst (λ (b : Actor). IsTrue (is_of b k)) (sym (actor-ready (plan v) v.journal.past x c.rests.home c.least)) e
 
--- a legal past behind one entry, in the words before it
-pub added-legal : {u v : BooksView} {n : ℕ} {k : Kind} → Adds u v n k → IsLegalRun v → IsLegal (plan u) u.journal.workers u.journal.turns ((record { worker = n; kind = k }) ∷ u.journal.past)
+-- the entries behind one more, in the words before it
+pub added-legal : {u v : BooksView} {n : ℕ} {k : Kind} → Adds u v n k → IsLegalRun v → KeepsRules (plan u) u.journal.workers u.journal.turns ((record { worker = n; kind = k }) ∷ u.journal.past)
 added-legal {u} {v} {n} {k} a legal =
-    subst (λ (q : Past). IsLegal (plan u) u.journal.workers u.journal.turns q) a.past
-    (subst (λ (m : ℕ). IsLegal (plan u) u.journal.workers m v.journal.past) a.same.turns
-    (subst (λ (m : ℕ). IsLegal (plan u) m v.journal.turns v.journal.past) a.same.workers
-    (subst (λ (s : RouteSet). IsLegal (plan_of s) v.journal.workers v.journal.turns v.journal.past) a.same.set legal)))
+    subst (λ (q : Past). KeepsRules (plan u) u.journal.workers u.journal.turns q) a.past
+    (subst (λ (m : ℕ). KeepsRules (plan u) u.journal.workers m v.journal.past) a.same.turns
+    (subst (λ (m : ℕ). KeepsRules (plan u) m v.journal.turns v.journal.past) a.same.workers
+    (subst (λ (s : RouteSet). KeepsRules (plan_of s) v.journal.workers v.journal.turns v.journal.past) a.same.set legal.entries)))
 
 -- an answer that no lane gave is no call
-pub no-calls : (d : Doors) (o : Option Asked) (a : Reply) → outside_asked o ≡ false → calls_asked d o a ≡ []
-no-calls d None a h = refl
-no-calls d (Some k) a h = by_request k.request h
+pub no-calls : (d : Doors) (w : ℕ) (o : Option Asked) (a : Reply) → outside_asked o ≡ false → calls d (seen_answers (served_by w o a)) ≡ []
+no-calls d w None a h = refl
+no-calls d w (Some k) a h = by_request k.request h
   where
-    by_request : (q : Request) → is_outside q ≡ false → calls_for d q a ≡ []
+    by_request : (q : Request) → is_outside q ≡ false → calls_for d q a ++ [] ≡ []
     by_request (request.Send t m) g = absurd (cc g)
     by_request _ g = refl
+
+-- an answer that no source gave tells none of an end
+pub no-commits : (d : Doors) (w : ℕ) (o : Option Asked) (a : Reply) → outside_asked o ≡ false → commits d (seen_answers (served_by w o a)) ≡ []
+no-commits d w None a h = refl
+no-commits d w (Some k) a h = by_request k.birth.origin k.request h
+  where
+    by_request : (o : Origin) (q : Request) → is_outside q ≡ false → commits_for d o q a ++ [] ≡ []
+    by_request (from.Source r item) (request.Finish e m true) g = absurd (cc g)
+    by_request _ _ g = refl
 
 pub not-outside : (b : Bool) → Did ≡ inner_of b → b ≡ false
 not-outside true h = absurd (cc h)
@@ -242,8 +259,8 @@ not-outside false h = refl
 pub drains-inner : {u v : BooksView} {x : ℕ} (a : Reply) (l : List LaneView) (i : List InletView) → Chosen u x → Adds u v 0 (Answer x a) → outside_asked (asked (plan u) u.journal.past x) ≡ false → Drains u v l l i i
 drains-inner {u} {v} {x} a l i c adds inner =
     drains-add (drains-refl u l i) adds
-    (subst (λ js. LanesGrew 0 js l l) (sym (no-calls (doors u l i) (asked (plan u) u.journal.past x) a inner)) (LanesGrew-none 0 l))
-    (InletsGrew-none 0 i) (chosen-acts (Answer x a) c (eq-eqb x x refl))
+    (subst (λ js. LanesGrew 0 js l l) (sym (no-calls (doors u l i) 0 (asked (plan u) u.journal.past x) a inner)) (LanesGrew-none 0 l))
+    (subst (λ js. InletsGrew 0 js i i) (sym (no-commits (doors u l i) 0 (asked (plan u) u.journal.past x) a inner)) (InletsGrew-none 0 i)) (chosen-acts (Answer x a) c (eq-eqb x x refl))
 
 pub acts-inner : {u v : BooksView} {x : ℕ} (a : Reply) → Chosen u x → Adds u v 0 (Answer x a) → IsLegalRun v → Acts u v
 acts-inner {u} {v} {x} a c adds legal =

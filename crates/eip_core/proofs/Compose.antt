@@ -1,20 +1,28 @@
 -- How drains follow one another.
-use Rattle.std.proofs.Common.{◌≡◌, IsTrue, List, [], ◌∷◌, ◌++◌, refl, sym, ap, subst, ◌∙◌, append_assoc}
-use Rattle.std.proofs.lemmas.List.{append-nil}
+use Rattle.std.proofs.Common.{◌≡◌, ℕ, IsTrue, List, [], ◌∷◌, ◌++◌, Option, Some, None, refl, sym, ap, subst, ◌∙◌, append_assoc, arith}
+use Rattle.std.proofs.lemmas.Grind.{common_steps}
+use Rattle.std.proofs.lemmas.List.{append-nil, map-append}
 use Rattle.eip_ledger.specs.declared.entry.Kind.{Kind}
+use Rattle.eip_ledger.specs.declared.entry.Kind.TheVariants.{Accept, Refuse, SourceEnd, SourceFault}
 use Rattle.eip_ledger.specs.declared.entry.Entry.{Entry}
+use Rattle.eip_endpoint.specs.declared.source.Pulled.{Pulled as Gift}
+use Rattle.eip_endpoint.specs.declared.source.Pulled.TheVariants.{Item, Refused, End}
 use Rattle.eip_endpoint.specs.Lanes.{LaneView, LaneCall, LanesGrew, lane_names}
-use Rattle.eip_endpoint.specs.Inlets.{InletView, InletAct, InletsGrew, inlet_names}
+use Rattle.eip_endpoint.specs.Inlets.{InletView, InletAct, Gave, Failed, InletsGrew, inlet_names, commits_at}
+use Rattle.eip_endpoint.specs.Outside.{Doors, calls, commits, acts_by}
 use Rattle.eip_endpoint.proofs.LaneLaws.{LanesGrew-none, LanesGrew-trans, LanesGrew-names}
-use Rattle.eip_endpoint.proofs.InletLaws.{InletsGrew-none, InletsGrew-trans, InletsGrew-names}
+use Rattle.eip_endpoint.proofs.InletLaws.{InletsGrew-none, InletsGrew-trans, InletsGrew-names, commits_at-append}
+use Rattle.eip_endpoint.proofs.OutsideLaws.{calls-append, commits-append, commits-give, InletsGrew-mix}
 use Rattle.eip_history.specs.Plan.{Plan}
 use Rattle.eip_history.specs.Own.{Past}
+use Rattle.eip_history.specs.Rules.{Served, served, served_in}
 use Rattle.eip_history.specs.Stop.{IsPlain, is_of, actor}
+use Rattle.eip_history.proofs.ServedSteps.{served-more}
 use Rattle.eip_history.proofs.Steps.{plain-add}
 use Rattle.eip_plan.specs.Plan.{plan_of}
 use Rattle.eip_books.specs.View.{BooksView, plan, IsSameRun, Adds, AddsNone}
-use Rattle.eip_core.specs.Doors.{Doors, doors_of}
-use Rattle.eip_core.specs.Outside.{inlet_acts, inlet_acts_in, lane_calls, lane_calls_in}
+use Rattle.eip_core.specs.Doors.{doors_of}
+use Rattle.eip_core.specs.Outside.{answered_by, seen_answers, refusal_of, pulls, pulls_in, inlet_acts}
 use Rattle.eip_core.specs.Drain.{Drains, IsPlainBehind, doors}
 
 pub same-refl : (v : BooksView) → IsSameRun v v
@@ -23,35 +31,57 @@ same-refl v = record { set = refl; workers = refl; turns = refl }
 pub same-trans : {u v w : BooksView} → IsSameRun u v → IsSameRun v w → IsSameRun u w
 same-trans a b = record { set = b.set ∙ a.set; workers = b.workers ∙ a.workers; turns = b.turns ∙ a.turns }
 
-acts-none : (d : Doors) → inlet_acts d [] ≡ []
-unfolding inlet_acts
-acts-none d = refl
+pulls-none : (d : Doors) → pulls d [] ≡ []
+unfolding pulls
+pulls-none d = refl
 
-acts-more : (d : Doors) (e : Entry) (behind : Past) → inlet_acts d (e ∷ behind) ≡ inlet_acts d behind ++ inlet_acts_in d e.kind
-unfolding inlet_acts
-acts-more d e behind = refl
+pulls-more : (d : Doors) (e : Entry) (behind : Past) → pulls d (e ∷ behind) ≡ pulls d behind ++ pulls_in d e.kind
+unfolding pulls
+pulls-more d e behind = refl
 
-calls-none : (s : Plan) (d : Doors) (past : Past) → lane_calls s d past [] ≡ []
-unfolding lane_calls
-calls-none s d past = refl
+pulls-append : (d : Doors) (p q : Past) → pulls d (p ++ q) ≡ pulls d q ++ pulls d p
+pulls-append d [] q = sym (append-nil (pulls d q)) ∙ ap (λ xs. pulls d q ++ xs) (sym (pulls-none d))
+pulls-append d (e ∷ p) q =
+    pulls-more d e (p ++ q) ∙ (ap (λ xs. xs ++ pulls_in d e.kind) (pulls-append d p q)
+    ∙ (append_assoc (pulls d q) (pulls d p) (pulls_in d e.kind) ∙ ap (λ xs. pulls d q ++ xs) (sym (pulls-more d e p))))
 
-calls-more : (s : Plan) (d : Doors) (past : Past) (e : Entry) (behind : Past) → lane_calls s d past (e ∷ behind) ≡ lane_calls s d past behind ++ lane_calls_in s d (behind ++ past) e.kind
-unfolding lane_calls
-calls-more s d past e behind = refl
+-- what pulls came to tells no inlet of an end
+door-tells : (k : ℕ) (u v : List ℕ) (o : Option ℕ) (p : Gift) → commits_at k u (acts_by o v (Gave p ∷ [])) ≡ []
+door-tells k u v None p = refl
+door-tells k u v (Some i) p = grind (arith, common_steps)
 
-acts-append : (d : Doors) (p q : Past) → inlet_acts d (p ++ q) ≡ inlet_acts d q ++ inlet_acts d p
-acts-append d [] q = sym (append-nil (inlet_acts d q)) ∙ ap (λ xs. inlet_acts d q ++ xs) (sym (acts-none d))
-acts-append d (e ∷ p) q =
-    acts-more d e (p ++ q) ∙ (ap (λ xs. xs ++ inlet_acts_in d e.kind) (acts-append d p q)
-    ∙ (append_assoc (inlet_acts d q) (inlet_acts d p) (inlet_acts_in d e.kind) ∙ ap (λ xs. inlet_acts d q ++ xs) (sym (acts-more d e p))))
+fault-tells : (k : ℕ) (u v : List ℕ) (o : Option ℕ) → commits_at k u (acts_by o v (Failed ∷ [])) ≡ []
+fault-tells k u v None = refl
+fault-tells k u v (Some i) = grind (arith, common_steps)
 
-calls-append : (s : Plan) (d : Doors) (past p q : Past) → lane_calls s d past (p ++ q) ≡ lane_calls s d past q ++ lane_calls s d (q ++ past) p
-calls-append s d past [] q = sym (append-nil (lane_calls s d past q)) ∙ ap (λ xs. lane_calls s d past q ++ xs) (sym (calls-none s d (q ++ past)))
-calls-append s d past (e ∷ p) q =
-    calls-more s d past e (p ++ q) ∙ (ap (λ xs. xs ++ lane_calls_in s d ((p ++ q) ++ past) e.kind) (calls-append s d past p q)
-    ∙ (append_assoc (lane_calls s d past q) (lane_calls s d (q ++ past) p) (lane_calls_in s d ((p ++ q) ++ past) e.kind)
-    ∙ (ap (λ xs. lane_calls s d past q ++ (lane_calls s d (q ++ past) p ++ lane_calls_in s d xs e.kind)) (append_assoc p q past)
-    ∙ ap (λ xs. lane_calls s d past q ++ xs) (sym (calls-more s d (q ++ past) e p)))))
+kind-tells : (d : Doors) (k : ℕ) (u : List ℕ) (n : Kind) → commits_at k u (pulls_in d n) ≡ []
+kind-tells d k u (Accept t item m) = door-tells k u (d.uri t) (d.inlet t) (Item item m)
+kind-tells d k u (Refuse t item c) = door-tells k u (d.uri t) (d.inlet t) (Refused item (refusal_of c))
+kind-tells d k u (SourceEnd t) = door-tells k u (d.uri t) (d.inlet t) End
+kind-tells d k u (SourceFault t) = fault-tells k u (d.uri t) (d.inlet t)
+kind-tells d k u _ = refl
+
+pulls-tell : (d : Doors) (p : Past) (k : ℕ) (u : List ℕ) → commits_at k u (pulls d p) ≡ []
+pulls-tell d [] k u = ap (commits_at k u) (pulls-none d)
+pulls-tell d (e ∷ p) k u =
+    ap (commits_at k u) (pulls-more d e p) ∙ (commits_at-append k u (pulls d p) (pulls_in d e.kind)
+    ∙ (ap (λ xs. xs ++ commits_at k u (pulls_in d e.kind)) (pulls-tell d p k u) ∙ kind-tells d k u e.kind))
+
+-- the calls of lanes by more answers
+served-calls : (d : Doors) (vs ws : List Served) → calls d (seen_answers (vs ++ ws)) ≡ calls d (seen_answers vs) ++ calls d (seen_answers ws)
+served-calls d vs ws = ap (calls d) (map-append answered_by vs ws) ∙ calls-append d (seen_answers vs) (seen_answers ws)
+
+served-commits : (d : Doors) (vs ws : List Served) → commits d (seen_answers (vs ++ ws)) ≡ commits d (seen_answers vs) ++ commits d (seen_answers ws)
+served-commits d vs ws = ap (commits d) (map-append answered_by vs ws) ∙ commits-append d (seen_answers vs) (seen_answers ws)
+
+-- acts of inlets follow acts of inlets
+acts-follow : (d : Doors) (p q : Past) (vs ws : List Served) (more : List InletAct) (i j k : List InletView) → ((n : ℕ) (u : List ℕ) → commits_at n u more ≡ [])
+    → InletsGrew 0 (inlet_acts d q vs) i j → InletsGrew 0 (more ++ commits d (seen_answers ws)) j k → pulls d (p ++ q) ≡ pulls d q ++ more
+    → InletsGrew 0 (inlet_acts d (p ++ q) (vs ++ ws)) i k
+acts-follow d p q vs ws more i j k tells first second are =
+    rw (are, served-commits d vs ws)
+    (InletsGrew-mix 0 (pulls d q) (commits d (seen_answers vs)) more (commits d (seen_answers ws)) i k (commits-give d (seen_answers vs)) tells
+    (InletsGrew-trans 0 _ _ i j k first second))
 
 -- a plain past stays plain behind such entries
 pub plain-behind : (s : Plan) (past behind : Past) → IsPlain s past → IsPlainBehind s past behind → IsPlain s (behind ++ past)
@@ -76,8 +106,10 @@ drains-refl v l i = record {
   past = refl;
   same = same-refl v;
   plain = tt;
-  lanes = rw (calls-none (plan v) (doors v l i) v.journal.past) (LanesGrew-none 0 l);
-  inlets = rw (acts-none (doors v l i)) (InletsGrew-none 0 i);
+  answered = [];
+  answers = sym (append-nil (served (plan v) v.journal.past));
+  lanes = LanesGrew-none 0 l;
+  inlets = rw (pulls-none (doors v l i)) (InletsGrew-none 0 i);
 }
 
 -- a call that made no entry
@@ -85,6 +117,8 @@ pub drains-none : {u v w : BooksView} {l m : List LaneView} {i j : List InletVie
 drains-none {u} {v} d a = record {
   behind = d.behind;
   past = a.past ∙ d.past;
+  answered = d.answered;
+  answers = ap (served (plan u)) a.past ∙ d.answers;
   same = same-trans d.same a.same;
   plain = d.plain;
   lanes = d.lanes;
@@ -96,51 +130,62 @@ pub drains-still : {u v : BooksView} {l m n : List LaneView} {i j k : List Inlet
 drains-still {u} {v} {l} {m} {n} {i} {j} {k} d lanes inlets = record {
   behind = d.behind;
   past = d.past;
+  answered = d.answered;
+  answers = d.answers;
   same = d.same;
   plain = d.plain;
-  lanes = subst (λ js. LanesGrew 0 js l n) (append-nil (lane_calls (plan u) (doors u l i) u.journal.past d.behind)) (LanesGrew-trans 0 _ [] l m n d.lanes lanes);
-  inlets = subst (λ js. InletsGrew 0 js i k) (append-nil (inlet_acts (doors u l i) d.behind)) (InletsGrew-trans 0 _ [] i j k d.inlets inlets);
+  lanes = subst (λ js. LanesGrew 0 js l n) (append-nil (calls (doors u l i) (seen_answers d.answered))) (LanesGrew-trans 0 _ [] l m n d.lanes lanes);
+  inlets = subst (λ js. InletsGrew 0 js i k) (append-nil (inlet_acts (doors u l i) d.behind d.answered)) (InletsGrew-trans 0 _ [] i j k d.inlets inlets);
 }
 
 -- one more entry, of the actor whose turn it is; lanes and inlets did what it says
 pub drains-add : {u v w : BooksView} {l m n : List LaneView} {i j k : List InletView} {kind : Kind} → Drains u v l m i j → Adds v w 0 kind
-    → LanesGrew 0 (lane_calls_in (plan v) (doors v m j) v.journal.past kind) m n → InletsGrew 0 (inlet_acts_in (doors v m j) kind) j k
+    → LanesGrew 0 (calls (doors v m j) (seen_answers (served_in (plan v) v.journal.past 0 kind))) m n
+    → InletsGrew 0 (pulls_in (doors v m j) kind ++ commits (doors v m j) (seen_answers (served_in (plan v) v.journal.past 0 kind))) j k
     → IsTrue (is_of (actor (plan v) v.journal.past) kind) → Drains u w l n i k
 drains-add {u} {v} {w} {l} {m} {n} {i} {j} {k} {kind} d a lanes inlets acts =
     let s = doors-same _ _ l m i j d.same d.lanes d.inlets in
     let p : plan v ≡ plan u = ap plan_of d.same.set in
     let e : Entry = record { worker = 0; kind = kind } in
+    let more = served_in (plan u) v.journal.past 0 kind in
     record {
       behind = e ∷ d.behind;
       past = a.past ∙ ap (λ q. e ∷ q) d.past;
+      answered = d.answered ++ more;
+      answers = ap (served (plan u)) a.past ∙ (served-more (plan u) e v.journal.past
+          ∙ (ap (λ xs. xs ++ more) d.answers ∙ append_assoc (served (plan u) u.journal.past) d.answered more));
       same = same-trans d.same a.same;
       plain =
           (d.plain, refl, subst (λ (q : Past). IsTrue (is_of (actor (plan u) q) kind)) d.past (subst (λ x. IsTrue (is_of (actor x v.journal.past) kind)) p acts));
-      lanes = rw (calls-more (plan u) (doors u l i) u.journal.past e d.behind)
+      lanes = rw (served-calls (doors u l i) d.answered more)
           (LanesGrew-trans 0 _ _ l m n d.lanes
-          (subst (λ x. LanesGrew 0 (lane_calls_in (plan u) (doors u l i) x kind) m n) d.past
-          (subst (λ x. LanesGrew 0 (lane_calls_in x (doors u l i) v.journal.past kind) m n) p
-          (subst (λ x. LanesGrew 0 (lane_calls_in (plan v) x v.journal.past kind) m n) s lanes))));
-      inlets = rw (acts-more (doors u l i) e d.behind)
-          (InletsGrew-trans 0 _ _ i j k d.inlets (subst (λ x. InletsGrew 0 (inlet_acts_in x kind) j k) s inlets));
+          (subst (λ x. LanesGrew 0 (calls (doors u l i) (seen_answers (served_in x v.journal.past 0 kind))) m n) p
+          (subst (λ x. LanesGrew 0 (calls x (seen_answers (served_in (plan v) v.journal.past 0 kind))) m n) s lanes)));
+      inlets = acts-follow (doors u l i) (e ∷ []) d.behind d.answered more (pulls_in (doors u l i) kind) i j k
+          (λ x y. kind-tells (doors u l i) x y kind) d.inlets
+          (subst (λ x. InletsGrew 0 (pulls_in (doors u l i) kind ++ commits (doors u l i) (seen_answers (served_in x v.journal.past 0 kind))) j k) p
+          (subst (λ x. InletsGrew 0 (pulls_in x kind ++ commits x (seen_answers (served_in (plan v) v.journal.past 0 kind))) j k) s inlets))
+          (pulls-more (doors u l i) e d.behind);
     }
 
 pub drains-trans : {u v w : BooksView} {l m n : List LaneView} {i j k : List InletView} → Drains u v l m i j → Drains v w m n j k → Drains u w l n i k
 drains-trans {u} {v} {w} {l} {m} {n} {i} {j} {k} d e =
     let s = doors-same _ _ l m i j d.same d.lanes d.inlets in
     let p : plan v ≡ plan u = ap plan_of d.same.set in
+    let later : served (plan u) w.journal.past ≡ served (plan u) v.journal.past ++ e.answered =
+    subst (λ (x : Plan). served x w.journal.past ≡ served x v.journal.past ++ e.answered) p e.answers in
     record {
       behind = e.behind ++ d.behind;
       past = e.past ∙ (ap (λ q. e.behind ++ q) d.past ∙ sym (append_assoc e.behind d.behind u.journal.past));
+      answered = d.answered ++ e.answered;
+      answers = later ∙ (ap (λ xs. xs ++ e.answered) d.answers ∙ append_assoc (served (plan u) u.journal.past) d.answered e.answered);
       same = same-trans d.same e.same;
       plain =
           plain-append (plan u) u.journal.past e.behind d.behind d.plain
           (subst (λ (q : Past). IsPlainBehind (plan u) q e.behind) d.past (subst (λ (x : Plan). IsPlainBehind x v.journal.past e.behind) p e.plain));
-      lanes = rw (calls-append (plan u) (doors u l i) u.journal.past e.behind d.behind)
-          (LanesGrew-trans 0 _ _ l m n d.lanes
-          (subst (λ x. LanesGrew 0 (lane_calls (plan u) (doors u l i) x e.behind) m n) d.past
-          (subst (λ x. LanesGrew 0 (lane_calls x (doors u l i) v.journal.past e.behind) m n) p
-          (subst (λ x. LanesGrew 0 (lane_calls (plan v) x v.journal.past e.behind) m n) s e.lanes))));
-      inlets = rw (acts-append (doors u l i) e.behind d.behind)
-          (InletsGrew-trans 0 _ _ i j k d.inlets (subst (λ x. InletsGrew 0 (inlet_acts x e.behind) j k) s e.inlets));
+      lanes = rw (served-calls (doors u l i) d.answered e.answered)
+          (LanesGrew-trans 0 _ _ l m n d.lanes (subst (λ x. LanesGrew 0 (calls x (seen_answers e.answered)) m n) s e.lanes));
+      inlets = acts-follow (doors u l i) e.behind d.behind d.answered e.answered (pulls (doors u l i) e.behind) i j k
+          (pulls-tell (doors u l i) e.behind) d.inlets
+          (subst (λ x. InletsGrew 0 (inlet_acts x e.behind e.answered) j k) s e.inlets) (pulls-append (doors u l i) e.behind d.behind);
     }

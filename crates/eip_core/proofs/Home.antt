@@ -12,7 +12,7 @@ use Rattle.eip_history.specs.Plan.{Plan}
 use Rattle.eip_history.specs.Own.{Past, SourceState, Out, numbered, concerns, moved, is_out, source_state}
 use Rattle.eip_history.specs.Births.{births}
 use Rattle.eip_history.specs.Place.{place, place_of, hands, is_taken, is_ready, ready_numbers, numbers_at, number_of}
-use Rattle.eip_history.specs.Rules.{IsLegal, IsSource, first}
+use Rattle.eip_history.specs.Rules.{KeepsRules, IsSource, first}
 use Rattle.eip_history.specs.Tables.{AreNumberedFrom, bit}
 use Rattle.eip_history.proofs.Limit.{within-own, within-source, within-take, within-pull, in-hand-taken, not-same}
 use Rattle.eip_history.proofs.Unborn.{place-born}
@@ -20,14 +20,14 @@ use Rattle.eip_history.proofs.Told.{births-numbered}
 
 -- an answer or a starving of somebody who is not in hand
 module _ (s : Plan) (w limit v : ℕ) (past : Past) where
-  pub home-answer : (x : ℕ) (a : Reply) (p : Place) → IsLegal s w limit ((record { worker = v; kind = Answer x a }) ∷ past) → hands s past ≡ 0 → place s past x ≡ Some p
+  pub home-answer : (x : ℕ) (a : Reply) (p : Place) → KeepsRules s w limit ((record { worker = v; kind = Answer x a }) ∷ past) → hands s past ≡ 0 → place s past x ≡ Some p
       → hands s ((record { worker = v; kind = Answer x a }) ∷ past) ≡ 0
   home-answer x a p legal home at =
       let b = place-born s past x p at in
       let h = within-own s w limit v x (Answer x a) past b.0 legal b.1 (λ y ne. not-same y x ne) (eq-eqb x x refl) refl (λ u was. refl) in
       omega (arith, h, home)
 
-  pub home-starve : (x : ℕ) (p : Place) → IsLegal s w limit ((record { worker = v; kind = Starve x }) ∷ past) → hands s past ≡ 0 → place s past x ≡ Some p
+  pub home-starve : (x : ℕ) (p : Place) → KeepsRules s w limit ((record { worker = v; kind = Starve x }) ∷ past) → hands s past ≡ 0 → place s past x ≡ Some p
       → hands s ((record { worker = v; kind = Starve x }) ∷ past) ≡ 0
   home-starve x p legal home at =
       let b = place-born s past x p at in
@@ -35,7 +35,7 @@ module _ (s : Plan) (w limit v : ℕ) (past : Past) where
       omega (arith, h, home)
 
   -- behind a Take one hand is out
-  pub hand-take : (x : ℕ) (p : Place) → IsLegal s w limit ((record { worker = v; kind = Take x }) ∷ past) → hands s past ≡ 0 → place s past x ≡ Some p
+  pub hand-take : (x : ℕ) (p : Place) → KeepsRules s w limit ((record { worker = v; kind = Take x }) ∷ past) → hands s past ≡ 0 → place s past x ≡ Some p
       → hands s ((record { worker = v; kind = Take x }) ∷ past) ≤ 1
   hand-take x p legal home at =
       let b = place-born s past x p at in
@@ -43,7 +43,7 @@ module _ (s : Plan) (w limit v : ℕ) (past : Past) where
       omega (arith, h, home)
 
   -- the answer to who is in hand, and its starving, bring the hand back
-  pub back-answer : (x u : ℕ) (a : Reply) → IsLegal s w limit ((record { worker = v; kind = Answer x a }) ∷ past) → hands s past ≤ 1 → place s past x ≡ Some (place_is.InHand u)
+  pub back-answer : (x u : ℕ) (a : Reply) → KeepsRules s w limit ((record { worker = v; kind = Answer x a }) ∷ past) → hands s past ≤ 1 → place s past x ≡ Some (place_is.InHand u)
       → hands s ((record { worker = v; kind = Answer x a }) ∷ past) ≡ 0
   back-answer x u a legal one at =
       let b = place-born s past x (place_is.InHand u) at in
@@ -51,7 +51,7 @@ module _ (s : Plan) (w limit v : ℕ) (past : Past) where
       let t : bit (is_taken past b.0) ≡ 1 = ap bit (in-hand-taken s past b.0 u b.2) in
       omega (arith, h, one, t)
 
-  pub back-starve : (x u : ℕ) → IsLegal s w limit ((record { worker = v; kind = Starve x }) ∷ past) → hands s past ≤ 1 → place s past x ≡ Some (place_is.InHand u)
+  pub back-starve : (x u : ℕ) → KeepsRules s w limit ((record { worker = v; kind = Starve x }) ∷ past) → hands s past ≤ 1 → place s past x ≡ Some (place_is.InHand u)
       → hands s ((record { worker = v; kind = Starve x }) ∷ past) ≡ 0
   back-starve x u legal one at =
       let b = place-born s past x (place_is.InHand u) at in
@@ -60,12 +60,12 @@ module _ (s : Plan) (w limit v : ℕ) (past : Past) where
       omega (arith, h, one, t)
 
   -- behind a Pull one hand is out
-  pub hand-pull : (t : ℕ) → IsLegal s w limit ((record { worker = v; kind = Pull t }) ∷ past) → hands s past ≡ 0 → IsSource s t
+  pub hand-pull : (t : ℕ) → KeepsRules s w limit ((record { worker = v; kind = Pull t }) ∷ past) → hands s past ≡ 0 → IsSource s t
       → hands s ((record { worker = v; kind = Pull t }) ∷ past) ≤ 1
   hand-pull t legal home source = let h = within-pull s w limit v t past legal source.0 in omega (arith, h, home)
 
   -- what comes of a pull brings the hand back
-  pub back-pull : (t : ℕ) (k : Kind) → IsLegal s w limit ((record { worker = v; kind = k }) ∷ past) → hands s past ≤ 1 → IsSource s t → source_state t past ≡ Out v
+  pub back-pull : (t : ℕ) (k : Kind) → KeepsRules s w limit ((record { worker = v; kind = k }) ∷ past) → hands s past ≤ 1 → IsSource s t → source_state t past ≡ Out v
       → ((x : ℕ) → concerns x k ≡ false) → ((u : ℕ) (was : SourceState) → u ≢ t → moved v u k was ≡ was) → is_out (moved v t k (source_state t past)) ≡ false
       → hands s ((record { worker = v; kind = k }) ∷ past) ≡ 0
   back-pull t k legal one source out none other after =

@@ -5,14 +5,14 @@ use Rattle.eip_ledger.specs.declared.entry.Kind.{Kind}
 use Rattle.eip_ledger.specs.declared.entry.Kind.TheVariants.{Return}
 use Rattle.eip_history.specs.Plan.{Plan}
 use Rattle.eip_history.specs.Own.{Past}
-use Rattle.eip_history.specs.Rules.{IsLegal}
+use Rattle.eip_history.specs.Rules.{KeepsRules}
 use Rattle.eip_history.specs.Laws.{PlanLaws}
 use Rattle.eip_history.proofs.Main.{turns-or-falls}
 use Rattle.eip_history.proofs.Limit.{turns-more}
 use Rattle.eip_core.specs.Drain.{Progresses}
 
 pub progress-one : (s : Plan) (laws : PlanLaws s) (w limit v : ℕ) (k : Kind) (past : Past)
-    → IsLegal s w limit ((record { worker = v; kind = k }) ∷ past) → ((x : ℕ) → k ≢ Return x)
+    → KeepsRules s w limit ((record { worker = v; kind = k }) ∷ past) → ((x : ℕ) → k ≢ Return x)
     → Progresses s past ((record { worker = v; kind = k }) ∷ past)
 progress-one s laws w limit v k past legal stays =
     let e : Entry = record { worker = v; kind = k } in

@@ -11,7 +11,7 @@ use Rattle.eip_history.specs.Own.{Past, own, concerns, last_answer, or_answer}
 use Rattle.eip_history.specs.Groups.{is_forced}
 use Rattle.eip_history.specs.Births.{births, groups}
 use Rattle.eip_history.specs.Place.{place_of, hands, ready_numbers, is_startable}
-use Rattle.eip_history.specs.Rules.{IsLegal, May, dues, retry_due, first, any_group, startable, unfinished}
+use Rattle.eip_history.specs.Rules.{KeepsRules, May, dues, retry_due, first, any_group, startable, unfinished}
 use Rattle.eip_history.proofs.Told.{own-here, own-other}
 use Rattle.eip_history.proofs.Unborn.{legal-tail, legal-may, own-none}
 use Rattle.eip_history.proofs.Stuck.{Standing, standing, InEnd, InQueue, Held, Asleep, Waits, Able}
@@ -24,7 +24,7 @@ use Rattle.eip_plan.specs.Simple.{AsksSimply, IsSimpleAnswer}
 use Rattle.eip_plan.proofs.Items.{no-groups, asked-simple, fits-simple}
 
 -- each answer in a legal history is one to a simple request
-pub last-simple : (s : Plan) (a : AsksSimply s) (w limit : ℕ) (past : Past) → IsLegal s w limit past → (x : ℕ) (r : Reply) → last_answer (own x past) ≡ Some r → IsSimpleAnswer r
+pub last-simple : (s : Plan) (a : AsksSimply s) (w limit : ℕ) (past : Past) → KeepsRules s w limit past → (x : ℕ) (r : Reply) → last_answer (own x past) ≡ Some r → IsSimpleAnswer r
 last-simple s a w limit [] legal x r h = absurd (let g = rw (own-none x) at h in cc g)
 last-simple s a w limit (e ∷ past) legal x r h =
     by_test (cases_Bool (concerns x e.kind)) (last-simple s a w limit past (legal-tail s w limit e past legal) x r)
@@ -40,7 +40,7 @@ last-simple s a w limit (e ∷ past) legal x r h =
     by_test (inr f) older = older (sym (ap last_answer (own-other x e past f)) ∙ h)
 
 -- nobody sleeps
-pub none-asleep : (s : Plan) (a : AsksSimply s) (w limit : ℕ) (past : Past) → IsLegal s w limit past → (b : Birth) → retry_due (place_of s past b) ≡ None
+pub none-asleep : (s : Plan) (a : AsksSimply s) (w limit : ℕ) (past : Past) → KeepsRules s w limit past → (b : Birth) → retry_due (place_of s past b) ≡ None
 none-asleep s a w limit past legal b = by_standing (standing s past b)
   where
     by_standing : Standing s past b → retry_due (place_of s past b) ≡ None
@@ -56,13 +56,13 @@ none-picked f [] h = refl
 none-picked f (x ∷ xs) h = rw (h x) (none-picked f xs h)
 
 -- nobody is due
-pub no-dues : (s : Plan) (a : AsksSimply s) (w limit : ℕ) (past : Past) → IsLegal s w limit past → dues s past ≡ []
+pub no-dues : (s : Plan) (a : AsksSimply s) (w limit : ℕ) (past : Past) → KeepsRules s w limit past → dues s past ≡ []
 unfolding dues
 no-dues s a w limit past legal =
     rw (no-groups s a w limit past legal, none-picked (λ (b : Birth). retry_due (place_of s past b)) (births s past) (none-asleep s a w limit past legal)) refl
 
 -- no group can be forced
-pub none-forced : (s : Plan) (a : AsksSimply s) (w limit : ℕ) (past : Past) → IsLegal s w limit past → any_group (is_forced s) (groups s past) ≡ false
+pub none-forced : (s : Plan) (a : AsksSimply s) (w limit : ℕ) (past : Past) → KeepsRules s w limit past → any_group (is_forced s) (groups s past) ≡ false
 none-forced s a w limit past legal = ap (any_group (is_forced s)) (no-groups s a w limit past legal)
 
 -- no queue can start anybody
@@ -71,7 +71,7 @@ unfolding startable
 none-startable s a past = none-below (λ q. s.is_queue q && is_startable s past q) s.routes (λ q l. rw (a.no_queue q) refl)
 
 -- where nobody is Ready and the run goes on, a source is to be pulled
-pub next-source : (s : Plan) (laws : PlanLaws s) (a : AsksSimply s) (w limit : ℕ) (past : Past) → IsLegal s w limit past → hands s past ≡ 0 → stop_of s limit past ≡ None
+pub next-source : (s : Plan) (laws : PlanLaws s) (a : AsksSimply s) (w limit : ℕ) (past : Past) → KeepsRules s w limit past → hands s past ≡ 0 → stop_of s limit past ≡ None
     → first (ready_numbers s past) ≡ None → (t : ℕ) × (first (unfinished s past) ≡ Some t)
 next-source s laws a w limit past legal home waits nobody = by_acts (somebody-acts s laws w limit past legal home waits).1
   where

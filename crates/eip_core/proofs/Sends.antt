@@ -36,7 +36,7 @@ use Rattle.eip_meaning.proofs.Laws.{asked-finish}
 use Rattle.eip_meaning.proofs.Laws as laws
 use Rattle.eip_history.specs.Own.{Past, own, answers, starved}
 use Rattle.eip_history.specs.Births.{Asked, asked, asked_by, fate, fate_by}
-use Rattle.eip_history.specs.Texts.{lane_of}
+use Rattle.eip_endpoint.specs.Outside.{lane_of}
 use Rattle.eip_history.proofs.Unborn.{asked-born}
 use Rattle.eip_plan.specs.Plan.{plan_of}
 use Rattle.eip_core.specs.Doors.{SendsWithin, HasLanes, TellsNone}

@@ -2,6 +2,9 @@
 use Rattle.std.proofs.Common.{◌≡◌, ◌≢◌, ℕ, zero, suc, ◌+◌, ◌<◌, ◌≤◌, ◌==◌, ◌||◌, Bool, true, false, IsTrue, List, [], ◌∷◌, Option, Some, None, map, filter, Result, Ok, Err, refl, sym, ap, subst, ◌∙◌, ◌⊎◌, inl, inr, arith, eq-eqb, nat_lt}
 use Rattle.std.specs.List.{slice_get}
 use Rattle.std.proofs.lemmas.Bool.{cases_Bool, ltb-true, ltb-false}
+use Rattle.std.proofs.lemmas.List.{append-nil}
+use Rattle.eip_exchange.specs.declared.birth.Origin.{Origin}
+use Rattle.eip_exchange.specs.declared.birth.Origin.TheVariants as from
 use Rattle.eip_exchange.specs.declared.birth.Birth.{Birth}
 use Rattle.eip_route.specs.declared.route.RouteSet.{RouteSet}
 use Rattle.eip_frames.specs.declared.request.Request.{Request}
@@ -15,17 +18,17 @@ use Rattle.eip_ledger.specs.declared.place.Place.TheVariants as place_is
 use Rattle.eip_endpoint.specs.declared.endpoint.SendFault.{SendFault}
 use Rattle.eip_endpoint.specs.declared.endpoint.SendFault.TheVariants as fault
 use Rattle.eip_endpoint.specs.Lanes.{LaneView, LanesGrew, first_named, lane_names}
-use Rattle.eip_endpoint.specs.Inlets.{InletView, inlet_names}
+use Rattle.eip_endpoint.specs.Inlets.{InletView, InletsGrew, inlet_names}
+use Rattle.eip_endpoint.specs.Outside.{Doors, lane_of, calls, calls_by, calls_for, commits, commits_for}
 use Rattle.eip_endpoint.proofs.LaneLaws.{LanesGrew-none}
 use Rattle.eip_endpoint.proofs.InletLaws.{InletsGrew-none}
 use Rattle.eip_history.specs.Plan.{Plan}
 use Rattle.eip_history.specs.Own.{Past}
 use Rattle.eip_history.specs.Births.{births}
 use Rattle.eip_history.specs.Place.{place, place_of, hands, is_ready, ready_numbers, numbers_at, number_of}
-use Rattle.eip_history.specs.Rules.{first}
+use Rattle.eip_history.specs.Rules.{first, served_by, served_in}
 use Rattle.eip_history.specs.Stop.{is_of, actor, TheExchange, Actor}
 use Rattle.eip_history.specs.Tables.{AreNumberedFrom, put_in, without}
-use Rattle.eip_history.specs.Texts.{lane_of}
 use Rattle.eip_history.proofs.Lists.{numbered-at}
 use Rattle.eip_history.proofs.Told.{births-numbered}
 use Rattle.eip_history.proofs.Unborn.{place-born}
@@ -34,8 +37,8 @@ use Rattle.eip_plan.specs.Plan.{plan_of}
 use Rattle.eip_plan.proofs.Laws.{plan-laws}
 use Rattle.eip_books.specs.View.{BooksView, plan, IsLegalRun, Adds}
 use Rattle.eip_tables.specs.Outside.{is_among, with_number, IsAsked}
-use Rattle.eip_core.specs.Doors.{Doors, doors_of, HasLanes, TellsNone}
-use Rattle.eip_core.specs.Outside.{calls_by, calls_for, calls_asked, calls_sent, lane_calls_in, IsSendable}
+use Rattle.eip_core.specs.Doors.{doors_of, HasLanes, TellsNone}
+use Rattle.eip_core.specs.Outside.{seen_answers, calls_sent, IsSendable}
 use Rattle.eip_core.specs.Drain.{Acts, Chosen, Drains, Progresses, Rests, doors}
 use Rattle.eip_core.proofs.Actors.{actor-taken}
 use Rattle.eip_core.proofs.Progress.{progress-one, progress-trans}
@@ -143,15 +146,30 @@ first-progress {u} {v} {n} t =
 
 -- ---- answered
 
-calls-are : {u v : BooksView} {n : ℕ} {q : Request} (d : Doors) (a : Reply) → Taken u v n q → lane_calls_in (plan v) d v.journal.past (Answer n a) ≡ calls_for d q a
-calls-are d a t = ap (λ o. calls_asked d o a) t.asks.1.0 ∙ ap (λ r. calls_for d r a) t.asks.1.1
+answered-calls : {u v : BooksView} {n : ℕ} {q : Request} (d : Doors) (a : Reply) → Taken u v n q → calls d (seen_answers (served_in (plan v) v.journal.past 0 (Answer n a))) ≡ calls_for d q a
+answered-calls d a t =
+    ap (λ o. calls d (seen_answers (served_by 0 o a))) t.asks.1.0
+    ∙ (append-nil (calls_for d t.asks.0.request a) ∙ ap (λ r. calls_for d r a) t.asks.1.1)
 
-pub drains-answered : {u v w : BooksView} {n : ℕ} {q : Request} (a : Reply) (l m : List LaneView) (i : List InletView) → Taken u v n q → Adds v w 0 (Answer n a)
-    → LanesGrew 0 (calls_for (doors v l i) q a) l m → Drains u w l m i i
-drains-answered {u} {v} {w} {n} {q} a l m i t adds grew =
+-- an answer to a send tells no source of an end
+send-commits : (d : Doors) (names : List (List ℕ)) (o : Origin) (q : Request) (a : Reply) → IsSendable names q → commits_for d o q a ≡ []
+send-commits d names (from.Source r item) (request.Send t m) a h = refl
+send-commits d names _ (request.Send t m) a h = refl
+send-commits d names _ _ a h = absurd h
+
+answered-commits : {u v : BooksView} {n : ℕ} {q : Request} (d : Doors) (names : List (List ℕ)) (a : Reply) → Taken u v n q → IsSendable names q
+    → commits d (seen_answers (served_in (plan v) v.journal.past 0 (Answer n a))) ≡ []
+answered-commits {u} {v} {n} {q} d names a t h =
+    ap (λ o. commits d (seen_answers (served_by 0 o a))) t.asks.1.0
+    ∙ (append-nil (commits_for d t.asks.0.birth.origin t.asks.0.request a)
+    ∙ (ap (λ r. commits_for d t.asks.0.birth.origin r a) t.asks.1.1 ∙ send-commits d names t.asks.0.birth.origin q a h))
+
+pub drains-answered : {u v w : BooksView} {n : ℕ} {q : Request} (a : Reply) (l m : List LaneView) (i : List InletView) (names : List (List ℕ)) → Taken u v n q → Adds v w 0 (Answer n a)
+    → IsSendable names q → LanesGrew 0 (calls_for (doors v l i) q a) l m → Drains u w l m i i
+drains-answered {u} {v} {w} {n} {q} a l m i names t adds sendable grew =
     drains-add (drains-taken l i t) adds
-    (subst (λ js. LanesGrew 0 js l m) (sym (calls-are (doors v l i) a t)) grew)
-    (InletsGrew-none 0 i) (acts-held (Answer n a) t (eq-eqb n n refl))
+    (subst (λ js. LanesGrew 0 js l m) (sym (answered-calls (doors v l i) a t)) grew)
+    (subst (λ js. InletsGrew 0 js i i) (sym (answered-commits (doors v l i) names a t sendable)) (InletsGrew-none 0 i)) (acts-held (Answer n a) t (eq-eqb n n refl))
 
 pub acts-answered : {u v w : BooksView} {n : ℕ} {q : Request} (a : Reply) → Taken u v n q → Adds v w 0 (Answer n a) → IsLegalRun w → Acts u w
 acts-answered {u} {v} {w} {n} a t adds legal =
@@ -235,4 +253,4 @@ grew-none names q l m grew = subst (λ js. LanesGrew 0 js l m) (calls-none names
 pub drains-sent : {u v w : BooksView} {n : ℕ} {q : Request} (a : Reply) (r : Result Unit SendFault) (l m : List LaneView) (i : List InletView) → Taken u v n q → Adds v w 0 (Answer n a)
     → IsSendable (lane_names l) q → r ≢ Err fault.NoMemory → a ≡ answer_of r → LanesGrew 0 (calls_sent (lane_names l) q r) l m → Drains u w l m i i
 drains-sent {u} {v} {w} {n} {q} a r l m i t adds sendable made e grew =
-    drains-answered a l m i t adds (grew-answered v.set (inlet_names i) q a r l m sendable made e grew)
+    drains-answered a l m i (lane_names l) t adds sendable (grew-answered v.set (inlet_names i) q a r l m sendable made e grew)

@@ -8,7 +8,7 @@ use Rattle.eip_endpoint.proofs.InletLaws.{InletsGrew-names}
 use Rattle.eip_history.specs.Own.{turns}
 use Rattle.eip_history.specs.Place.{hands}
 use Rattle.eip_history.specs.Plan.{Plan}
-use Rattle.eip_history.specs.Rules.{IsLegal}
+use Rattle.eip_history.specs.Rules.{KeepsRules}
 use Rattle.eip_history.proofs.Limit.{legal-within}
 use Rattle.eip_books.specs.View.{BooksView, plan, IsLegalRun}
 use Rattle.eip_core.specs.Doors.{CanRun}
@@ -25,12 +25,12 @@ still-runs {u} {v} {l} {m} {i} {j} d can =
 pub fewer-turns : {u v : BooksView} {l m : List LaneView} {i j : List InletView} → Drains u v l m i j → IsLegalRun v → turns u.journal.past < turns v.journal.past
     → v.journal.turns - turns v.journal.past < u.journal.turns - turns u.journal.past
 fewer-turns {u} {v} d legal more =
-    let within = legal-within (plan v) v.journal.workers v.journal.turns v.journal.past legal in
+    let within = legal-within (plan v) v.journal.workers v.journal.turns v.journal.past legal.entries in
     omega (arith, within, more, d.same.turns)
 
 -- before the first entry no hand is out
 none-yet : (s : Plan) → hands s [] ≡ 0
-unfolding IsLegal
+unfolding KeepsRules
 none-yet s = let within = legal-within s 0 0 [] tt in omega (arith, within)
 
 pub none-out : (v : BooksView) → v.journal.past ≡ [] → hands (plan v) v.journal.past ≡ 0

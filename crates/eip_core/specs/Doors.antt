@@ -7,18 +7,11 @@ use Rattle.eip_route.specs.declared.step.Step.{Step}
 use Rattle.eip_route.specs.declared.step.Step.TheVariants as step
 use Rattle.eip_route.specs.declared.route.Route.{Route}
 use Rattle.eip_route.specs.declared.route.RouteSet.{RouteSet}
-use Rattle.eip_frames.specs.declared.request.Target.{Target}
 use Rattle.eip_endpoint.specs.Lanes.{first_named}
+use Rattle.eip_endpoint.specs.Outside.{Doors, lane_of}
 use Rattle.eip_meaning.specs.Meaning.{steps_of, is_told_route}
-use Rattle.eip_history.specs.Texts.{lane_of}
 use Rattle.eip_history.specs.Rules.{IsSource}
 use Rattle.eip_plan.specs.Plan.{plan_of}
-
--- the index of a route's inlet and its printed URI, and the index of a target's lane, from 0
-pub record Doors : Type 0 where
-  pub inlet : ℕ → Option ℕ
-  pub uri : ℕ → List ℕ
-  pub lane : Target → Option ℕ
 
 -- the first inlet of this name, if there is a name
 abbrev pub inlet_named : List (List ℕ) → Option (List ℕ) → Option ℕ

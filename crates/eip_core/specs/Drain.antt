@@ -4,15 +4,16 @@ use Rattle.eip_ledger.specs.declared.place.Stop.{Stop}
 use Rattle.eip_ledger.specs.declared.place.Stop.TheVariants.{NoMemory}
 use Rattle.eip_endpoint.specs.Lanes.{LaneView, LanesGrew, lane_names}
 use Rattle.eip_endpoint.specs.Inlets.{InletView, InletsGrew, inlet_names}
+use Rattle.eip_endpoint.specs.Outside.{Doors, calls}
 use Rattle.eip_history.specs.Plan.{Plan}
 use Rattle.eip_history.specs.Own.{Past, turns}
 use Rattle.eip_history.specs.Place.{hands, ready_numbers}
-use Rattle.eip_history.specs.Rules.{first}
+use Rattle.eip_history.specs.Rules.{Served, served, first}
 use Rattle.eip_history.specs.Stop.{stop_of, actor, is_of}
 use Rattle.eip_history.specs.Work.{work}
 use Rattle.eip_books.specs.View.{BooksView, plan, IsLegalRun, IsSameRun}
-use Rattle.eip_core.specs.Doors.{CanRun, Doors, doors_of}
-use Rattle.eip_core.specs.Outside.{inlet_acts, lane_calls}
+use Rattle.eip_core.specs.Doors.{CanRun, doors_of}
+use Rattle.eip_core.specs.Outside.{seen_answers, inlet_acts}
 
 -- the stop of the journal, or want of memory
 abbrev pub IsStop : BooksView → Stop → Type 0
@@ -42,14 +43,17 @@ abbrev pub IsPlainBehind : Plan → Past → Past → Type 0
 IsPlainBehind s past [] = Unit {0}
 IsPlainBehind s past (e ∷ behind) = IsPlainBehind s past behind × (e.worker ≡ 0) × IsTrue (is_of (actor s (behind ++ past)) e.kind)
 
--- entries were made behind the journal, each by the actor whose turn it was; lanes and inlets did what these entries say, in their order
+-- entries were made behind the journal, each by the actor whose turn it was, and by them requests were answered; lanes and inlets did what
+-- these entries and answers say, in their order
 pub record Drains (old new : BooksView) (lanes_old lanes_new : List LaneView) (inlets_old inlets_new : List InletView) : Type 0 where
   pub behind : Past
   pub past : new.journal.past ≡ behind ++ old.journal.past
+  pub answered : List Served
+  pub answers : served (plan old) new.journal.past ≡ served (plan old) old.journal.past ++ answered
   pub same : IsSameRun old new
   pub plain : IsPlainBehind (plan old) old.journal.past behind
-  pub lanes : LanesGrew 0 (lane_calls (plan old) (doors old lanes_old inlets_old) old.journal.past behind) lanes_old lanes_new
-  pub inlets : InletsGrew 0 (inlet_acts (doors old lanes_old inlets_old) behind) inlets_old inlets_new
+  pub lanes : LanesGrew 0 (calls (doors old lanes_old inlets_old) (seen_answers answered)) lanes_old lanes_new
+  pub inlets : InletsGrew 0 (inlet_acts (doors old lanes_old inlets_old) behind answered) inlets_old inlets_new
 
 -- from one past to a later one no turn is lost, and where none was taken there is less left to do
 pub record Progresses (s : Plan) (old new : Past) : Type 0 where

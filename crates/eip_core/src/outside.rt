@@ -1,12 +1,12 @@
 ghost use Rattle.std.specs.Prelude.{◌≡◌, ◌<◌, IfOk, IfSome, IsSome, IsErrOf, Some, length, slice_get, true, bytes_eq, option_map};
 ghost use Rattle.eip_frames.specs.Fits.{fits};
 ghost use Rattle.eip_frames.specs.declared.answer.Answer.TheVariants.{Exists};
-ghost use Rattle.eip_history.specs.Texts.{lane_of};
 ghost use Rattle.eip_endpoint.specs.Pulls.{IsFair};
 ghost use Rattle.eip_endpoint.specs.Lanes.{LanesGrew, first_named, lane_names};
 ghost use Rattle.eip_endpoint.specs.Inlets.{InletsGrew, acts_of_pull, inlet_names};
+ghost use Rattle.eip_endpoint.specs.Outside.{acts_by, lane_of};
 ghost use Rattle.eip_core.specs.Doors.{inlet_at, uri_at};
-ghost use Rattle.eip_core.specs.Outside.{refusal_of, acts_by, IsSendable, calls_sent, is_rest};
+ghost use Rattle.eip_core.specs.Outside.{refusal_of, IsSendable, calls_sent, is_rest};
 
 use eip_endpoint::{Inlets, Lanes, PullFault, Pulled, Refusal, SendFault, find_inlet};
 use eip_frames::{Request, Target};

@@ -124,7 +124,8 @@ fn is_served_step<L: Lanes>(step: &Step, lanes: &L) -> bool
         | Step::Multicast { .. }
         | Step::Recipients { .. }
         | Step::Aggregate(_)
-        | Step::Idempotent { .. } => true,
+        | Step::Idempotent { .. }
+        | Step::Try { .. } => true,
     }
 }
 

@@ -3,7 +3,7 @@ use Rattle.std.proofs.Common.{◌≡◌, ℕ, List, [], ◌++◌, length, ap, �
 use Rattle.std.specs.List.{flat_map}
 use Rattle.eip_route.specs.declared.route.RouteSet.{RouteSet}
 use Rattle.eip_history.specs.Own.{Past}
-use Rattle.eip_history.specs.Rules.{IsLegal}
+use Rattle.eip_history.specs.Rules.{KeepsRules}
 use Rattle.eip_history.specs.Stop.{open_groups}
 use Rattle.eip_history.specs.BookText.{line_of_group, groups_text}
 use Rattle.eip_history.proofs.TextSteps.{groups-all}
@@ -22,5 +22,5 @@ pub six-joined : (old a b c d e f r1 r2 r3 r4 r5 r6 : List ℕ) → r1 ≡ old +
 six-joined old a b c d e f r1 r2 r3 r4 r5 r6 e1 e2 e3 e4 e5 e6 = rw (e6, e5, e4, e3, e2, e1) (simp append_assoc)
 
 -- a run of a route set has no lines of groups
-pub no-group-lines : (set : RouteSet) (workers limit : ℕ) (past : Past) → IsLegal (plan_of set) workers limit past → groups_text (plan_of set) past (length (open_groups (plan_of set) past)) ≡ []
+pub no-group-lines : (set : RouteSet) (workers limit : ℕ) (past : Past) → KeepsRules (plan_of set) workers limit past → groups_text (plan_of set) past (length (open_groups (plan_of set) past)) ≡ []
 no-group-lines set workers limit past legal = groups-all (plan_of set) past ∙ ap (flat_map line_of_group) (no-open-groups set workers limit past legal)

@@ -16,9 +16,13 @@ risen n = min (n + 1) (2 ^ 64 - 1)
 abbrev pub fails_next : Counter → Bool
 fails_next c = list_any (λ k. k == risen c.number) c.failing
 
+-- the counter behind the next call, by whether it fails
+abbrev pub counted_as : Bool → Counter → Counter
+counted_as fails c = record { failing = c.failing; number = risen c.number; faults = cond fails (risen c.faults) c.faults }
+
 -- the counter behind the next call
 abbrev pub counted : Counter → Counter
-counted c = record { failing = c.failing; number = risen c.number; faults = cond (fails_next c) (risen c.faults) c.faults }
+counted c = counted_as (fails_next c) c
 
 -- a counter before the first call
 abbrev pub fresh : List ℕ → Counter

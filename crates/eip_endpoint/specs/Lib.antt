@@ -10,3 +10,4 @@ pub mod MemoryLanes
 pub mod MemorySinks
 pub mod MemoryFolders
 pub mod MemorySources
+pub mod Outside

@@ -1,6 +1,6 @@
-ghost use Rattle.std.specs.Prelude.{◌≡◌, cond};
+ghost use Rattle.std.specs.Prelude.{◌≡◌, cond, true};
 ghost use Rattle.eip_text.specs.Causes.{Rises};
-ghost use Rattle.eip_endpoint.specs.Counters.{counted, fails_next, fresh};
+ghost use Rattle.eip_endpoint.specs.Counters.{counted, counted_as, fails_next, fresh};
 
 use std::marker::Model;
 
@@ -32,17 +32,33 @@ impl CallCounter {
         }
     }
 
-    /// Counts one call, and tells whether it fails. Both counts stand still at their greatest value.
+    /// Counts one call that fails, or one that doesn't. Both counts stand still at their greatest value.
+    fn count(&mut self, fails: bool)
+        ensures counted { self.new ≡ counted_as fails self.old }
+        ensures rises { Rises (cond fails 1 0) self.old.faults self.new.faults }
+    {
+        self.number = self.number.saturating_add(1);
+        if fails {
+            self.faults = self.faults.saturating_add(1);
+        }
+    }
+
+    /// Counts one call, and tells whether it fails.
     pub fn advance(&mut self) -> bool
         ensures fails { result ≡ fails_next self.old }
         ensures counted { self.new ≡ counted self.old }
         ensures rises { Rises (cond result 1 0) self.old.faults self.new.faults }
     {
-        self.number = self.number.saturating_add(1);
-        let fails = self.failing.contains(&self.number);
-        if fails {
-            self.faults = self.faults.saturating_add(1);
-        }
+        let fails = self.failing.contains(&self.number.saturating_add(1));
+        self.count(fails);
         fails
+    }
+
+    /// Counts one call that fails whatever its number.
+    pub fn refuse(&mut self)
+        ensures counted { self.new ≡ counted_as true self.old }
+        ensures rises { Rises 1 self.old.faults self.new.faults }
+    {
+        self.count(true);
     }
 }

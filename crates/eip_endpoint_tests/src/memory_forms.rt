@@ -264,6 +264,6 @@ fn lanes_and_inlets_are_called_by_their_index(rt: HostRuntime) -> Result<(), Fai
     let sent = found_and_sent(rt.alloc())?;
     let pulled = found_and_pulled(rt.alloc())?;
     assert!(rt; sent == [true; 3] && pulled == [true; 2]);
-    assert_eq!(rt; told_an_end(rt.alloc())?, Ok(()));
+    assert!(rt; told_an_end(rt.alloc())? == Ok(()));
     Ok(())
 }

@@ -7,7 +7,8 @@ use std::alloc::Global;
 
 /// The hub of a run of no routes, of at most so many turns, that has no entry.
 pub fn run_of_no_routes(alloc: Global, turns: u32) -> Result<Hub, NoMemory>
-    requires { turns ≤ 1000000 }
+    requires some { 1 ≤ turns }
+    requires limit { turns ≤ 1000000 }
 {
     let set = RouteSet {
         names: Names::none(alloc),

@@ -13,6 +13,8 @@ pub enum Strategy {
     Grouped,
     /// The bodies are whole numbers, and their sum stands in decimal.
     Sum,
+    /// The messages stand packed in one text, to be put in order (*Resequence EIP*); only a resequencer names it.
+    Batch,
 }
 
 /// How a body is cut into parts (Camel manual, *Split EIP*).
@@ -22,6 +24,8 @@ pub enum How {
     Token(Text),
     /// Into the elements of a JSON array.
     JsonArray,
+    /// Into the messages that are packed in it, in the order of this key (*Resequence EIP*); only a resequencer names it.
+    Batch(Key),
 }
 
 /// What of a message it is put in order by (Camel manual, *Resequence EIP*).

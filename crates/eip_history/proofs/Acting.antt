@@ -16,7 +16,7 @@ use Rattle.eip_history.specs.Plan.{Plan}
 use Rattle.eip_history.specs.Own.{Past, own, concerns, is_start, started, taker, taken_by, last_answer, or_answer, clock, ticked, numbered}
 use Rattle.eip_history.specs.Births.{births, fate, fate_by}
 use Rattle.eip_history.specs.Place.{ended, end_at, end_of, all_ended, Pause, Sleeps, Joins, Runs, pause_of, paused, in_hand, queued, place_by, place_of, is_in, is_ended, is_born_into}
-use Rattle.eip_history.specs.Rules.{IsLegal, May, MayAct}
+use Rattle.eip_history.specs.Rules.{KeepsRules, May, MayAct}
 use Rattle.eip_history.specs.Laws.{PlanLaws}
 use Rattle.eip_history.proofs.Told.{own-other, own-here}
 use Rattle.eip_history.proofs.Lists.{slice_get-some}
@@ -91,7 +91,7 @@ past-births s past i h = elim (cases_lt i (length (births s past))) [
 ]
 
 -- who is newborn has no entry
-pub newborn-silent : (s : Plan) (w limit : ℕ) (e : Entry) (past : Past) (x : ℕ) (b : Birth) → IsLegal s w limit (e ∷ past)
+pub newborn-silent : (s : Plan) (w limit : ℕ) (e : Entry) (past : Past) (x : ℕ) (b : Birth) → KeepsRules s w limit (e ∷ past)
     → numbered (births s past) x ≡ None → numbered (births s (e ∷ past)) x ≡ Some b → own b.number (e ∷ past) ≡ []
 newborn-silent s w limit e past zero b legal none at = absurd (cc at)
 newborn-silent s w limit e past (suc i) b legal none at =
@@ -100,7 +100,7 @@ newborn-silent s w limit e past (suc i) b legal none at =
     newborn-own s w limit e past b.number legal (omega (arith, l, n))
 
 -- an entry that isn't x's changes no end of x, born or not
-pub ended-beside : (s : Plan) (laws : PlanLaws s) (w limit : ℕ) (e : Entry) (past : Past) (x : ℕ) → IsLegal s w limit (e ∷ past)
+pub ended-beside : (s : Plan) (laws : PlanLaws s) (w limit : ℕ) (e : Entry) (past : Past) (x : ℕ) → KeepsRules s w limit (e ∷ past)
     → concerns x e.kind ≡ false → ended s (e ∷ past) x ≡ ended s past x
 unfolding ended fate
 ended-beside s laws w limit e past x legal c = by_birth (numbered (births s past) x) refl
@@ -146,7 +146,7 @@ paused-place s past b h = by_fate (fate s past b) refl h
     by_fate (AsksNext q p) t g = hand-ready (taker (own b.number past)) _ (out _ g)
     by_fate Strays t g = hand-ready (taker (own b.number past)) _ (out _ g)
 
-clock-grows : (s : Plan) (w limit : ℕ) (e : Entry) (past : Past) → IsLegal s w limit (e ∷ past) → clock past ≤ clock (e ∷ past)
+clock-grows : (s : Plan) (w limit : ℕ) (e : Entry) (past : Past) → KeepsRules s w limit (e ∷ past) → clock past ≤ clock (e ∷ past)
 unfolding clock
 clock-grows s w limit e past legal = by_kind e.kind (legal-may s w limit e past legal)
   where
@@ -155,7 +155,7 @@ clock-grows s w limit e past legal = by_kind e.kind (legal-may s w limit e past 
     by_kind _ may = omega arith
 
 -- whose newest entry is a Take waits for nothing, as long as it is in hand
-pub taken-ready : (s : Plan) (w limit : ℕ) (past : Past) (b : Birth) (v : ℕ) → IsLegal s w limit past
+pub taken-ready : (s : Plan) (w limit : ℕ) (past : Past) (b : Birth) (v : ℕ) → KeepsRules s w limit past
     → ((d : Birth) → numbered (births s past) b.number ≡ Some d → d ≡ b) → taker (own b.number past) ≡ Some v → paused (clock past) (all_ended s past) (pause_of (last_answer (own b.number past))) ≡ place_is.Ready
 taken-ready s w limit [] b v legal at h = absurd (let g = rw (own-none b.number) at h in cc g)
 taken-ready s w limit (e ∷ past) b v legal at h = by_test (concerns b.number e.kind) refl (λ g. taken-ready s w limit past b v (legal-tail s w limit e past legal) (λ d u. at d (birth-stays s e past b.number d u)) g)
@@ -189,7 +189,7 @@ taken-ready s w limit (e ∷ past) b v legal at h = by_test (concerns b.number e
         rw (own-other b.number e past c) (still (last_answer (own b.number past)) (ih (rw (own-other b.number e past c) at h)))
 
 -- the same behind a Return
-pub held-ready : (s : Plan) (w limit : ℕ) (e : Entry) (past : Past) (b : Birth) (v : ℕ) → IsLegal s w limit (e ∷ past)
+pub held-ready : (s : Plan) (w limit : ℕ) (e : Entry) (past : Past) (b : Birth) (v : ℕ) → KeepsRules s w limit (e ∷ past)
     → ((d : Birth) → numbered (births s past) b.number ≡ Some d → d ≡ b) → place_of s past b ≡ place_is.InHand v
     → paused (clock past) (all_ended s (e ∷ past)) (pause_of (last_answer (own b.number past))) ≡ place_is.Ready
 held-ready s w limit e past b v legal at h =
@@ -205,7 +205,7 @@ held-ready s w limit e past b v legal at h =
     by_standing (Able p) = absurd (let k = rw p at h in cc k)
 
 -- who is still in a queue has no entry
-pub queued-silent : (s : Plan) (w limit : ℕ) (past : Past) (b : Birth) (q : ℕ) → IsLegal s w limit past
+pub queued-silent : (s : Plan) (w limit : ℕ) (past : Past) (b : Birth) (q : ℕ) → KeepsRules s w limit past
     → ((d : Birth) → numbered (births s past) b.number ≡ Some d → d ≡ b) → b.origin ≡ from.Queue q → started (own b.number past) ≡ false
     → own b.number past ≡ []
 queued-silent s w limit [] b q legal at o h = own-none b.number
@@ -293,7 +293,7 @@ in-acting s e past b q h c =
     by_start false r v g = g
 
 -- who waits in a queue has no entry
-pub waiting-silent : (s : Plan) (w limit : ℕ) (past : Past) (b : Birth) (q : ℕ) → IsLegal s w limit past
+pub waiting-silent : (s : Plan) (w limit : ℕ) (past : Past) (b : Birth) (q : ℕ) → KeepsRules s w limit past
     → ((d : Birth) → numbered (births s past) b.number ≡ Some d → d ≡ b) → is_in q (place_of s past b) ≡ true → own b.number past ≡ []
 waiting-silent s w limit past b q legal at h =
     let t = in-waiting q b (own b.number past) (fate s past b) (sym (in-is s past b q) ∙ h) in

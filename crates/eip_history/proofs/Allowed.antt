@@ -23,7 +23,7 @@ use Rattle.eip_history.specs.Plan.{Plan, Added, Gives, Faults}
 use Rattle.eip_history.specs.Own.{Past, own, last_answer, started, taker, answers, starved, clock, or_answer, answer_in, turns}
 use Rattle.eip_history.specs.Births.{Asked, fate, asked_by, asked, arrival_of}
 use Rattle.eip_history.specs.Place.{ended, joined, cons_option, all_ended, pause_of, paused, in_hand, queued, place_by, place_of, waiting, hands, place}
-use Rattle.eip_history.specs.Rules.{IsLegal, first, IsBelow, MayAnswer, MayAct, Content, next, holder_of, added_at, group_at, is_fault}
+use Rattle.eip_history.specs.Rules.{KeepsRules, first, IsBelow, MayAnswer, MayAct, Content, next, holder_of, added_at, group_at, is_fault}
 use Rattle.eip_history.specs.Stop.{is_over, stop_of, first_fault, with_fault, held_or_drained, open_groups}
 use Rattle.eip_history.specs.Laws.{PlanLaws, last_of}
 use Rattle.eip_history.specs.Groups.{cause_at}
@@ -130,7 +130,7 @@ asks-given s past b k h = by_test (starved (own b.number past)) h
     by_test false g = by_mean (s.mean b (answers (own b.number past))) refl g
 
 -- below the limit where no hand is out and the run is at no stop
-pub waits-below : (s : Plan) (w limit : ℕ) (past : Past) → IsLegal s w limit past → hands s past ≡ 0 → stop_of s limit past ≡ None
+pub waits-below : (s : Plan) (w limit : ℕ) (past : Past) → KeepsRules s w limit past → hands s past ≡ 0 → stop_of s limit past ≡ None
     → (is_over s past ≡ false) × IsBelow s limit past
 unfolding stop_of
 waits-below s w limit past legal home e = by_over (is_over s past) (turns past == limit) (hands s past == 0) refl refl (eq-eqb (hands s past) 0 home) e

@@ -14,7 +14,7 @@ use Rattle.eip_history.specs.Plan.{Plan}
 use Rattle.eip_history.specs.Own.{Past, concerns, answer_in, is_start, is_starve, numbered}
 use Rattle.eip_history.specs.Births.{births, made_at}
 use Rattle.eip_history.specs.Place.{place_of, ended, end_of, queued, is_in, is_ended, is_busy, is_born_into, busy}
-use Rattle.eip_history.specs.Rules.{IsLegal}
+use Rattle.eip_history.specs.Rules.{KeepsRules}
 use Rattle.eip_history.specs.Laws.{PlanLaws}
 use Rattle.eip_history.specs.Tables.{bit}
 use Rattle.eip_history.specs.TableWords.{moves_busy}
@@ -44,7 +44,7 @@ none-picked q [] = refl
 none-picked q (b ∷ bs) = rw (newborn-idle q b) (none-picked q bs)
 
 -- nobody who is born by an entry is at work
-pub busy-more : (s : Plan) (laws : PlanLaws s) (w limit : ℕ) (e : Entry) (past : Past) (q : ℕ) → IsLegal s w limit (e ∷ past)
+pub busy-more : (s : Plan) (laws : PlanLaws s) (w limit : ℕ) (e : Entry) (past : Past) (q : ℕ) → KeepsRules s w limit (e ∷ past)
     → busy s (e ∷ past) q ≡ length (filter (λ (b : Birth). is_busy q b (place_of s (e ∷ past) b)) (births s past))
 busy-more s laws w limit e past q legal =
     busy-picked s (e ∷ past) q
@@ -66,13 +66,13 @@ busy-other s e past b q c =
     ∙ ap (λ v. is_born_into q b.origin && (not (is_in q (place_of s past b)) && not v)) f
 
 -- an entry of nobody
-pub busy-same : (s : Plan) (laws : PlanLaws s) (w limit : ℕ) (e : Entry) (past : Past) (q : ℕ) → IsLegal s w limit (e ∷ past)
+pub busy-same : (s : Plan) (laws : PlanLaws s) (w limit : ℕ) (e : Entry) (past : Past) (q : ℕ) → KeepsRules s w limit (e ∷ past)
     → ((x : ℕ) → concerns x e.kind ≡ false) → busy s (e ∷ past) q ≡ busy s past q
 busy-same s laws w limit e past q legal none =
     busy-more s laws w limit e past q legal
     ∙ (ap length (filter-same _ _ (births s past) (λ b. busy-other s e past b q (none b.number))) ∙ sym (busy-now s past q))
 
-busy-change : (s : Plan) (laws : PlanLaws s) (w limit : ℕ) (e : Entry) (past : Past) (q x : ℕ) (b : Birth) → IsLegal s w limit (e ∷ past)
+busy-change : (s : Plan) (laws : PlanLaws s) (w limit : ℕ) (e : Entry) (past : Past) (q x : ℕ) (b : Birth) → KeepsRules s w limit (e ∷ past)
     → numbered (births s past) x ≡ Some b → ((y : ℕ) → y ≢ x → concerns y e.kind ≡ false)
     → busy s (e ∷ past) q + bit (is_busy q b (place_of s past b)) ≡ busy s past q + bit (is_busy q b (place_of s (e ∷ past) b))
 busy-change s laws w limit e past q zero b legal at only = absurd (cc at)
@@ -84,7 +84,7 @@ busy-change s laws w limit e past q (suc i) b legal at only =
     omega (arith, m, n, c)
 
 -- an entry of x, who acts: where x came through the queue, one fewer is at work if it ends
-pub busy-own : (s : Plan) (laws : PlanLaws s) (w limit : ℕ) (e : Entry) (past : Past) (q x : ℕ) (b : Birth) → IsLegal s w limit (e ∷ past)
+pub busy-own : (s : Plan) (laws : PlanLaws s) (w limit : ℕ) (e : Entry) (past : Past) (q x : ℕ) (b : Birth) → KeepsRules s w limit (e ∷ past)
     → numbered (births s past) x ≡ Some b → concerns x e.kind ≡ true → is_start e.kind ≡ false → ((y : ℕ) → y ≢ x → concerns y e.kind ≡ false)
     → busy s (e ∷ past) q + bit (is_born_into q b.origin && is_some (ended s (e ∷ past) x)) ≡ busy s past q
 busy-own s laws w limit e past q x b legal at c f only =
@@ -107,7 +107,7 @@ busy-own s laws w limit e past q x b legal at c f only =
     by_bits false v i d i' d' h1 h2 h3 h4 h = omega (arith, h)
 
 -- a Start: one more is at work on its queue, and as many on each other
-pub busy-start : (s : Plan) (laws : PlanLaws s) (w limit v r n : ℕ) (past : Past) (q : ℕ) → IsLegal s w limit ((record { worker = v; kind = Start r n }) ∷ past)
+pub busy-start : (s : Plan) (laws : PlanLaws s) (w limit v r n : ℕ) (past : Past) (q : ℕ) → KeepsRules s w limit ((record { worker = v; kind = Start r n }) ∷ past)
     → busy s ((record { worker = v; kind = Start r n }) ∷ past) q ≡ busy s past q + bit (r == q)
 busy-start s laws w limit v r n past q legal =
     let e : Entry = record { worker = v; kind = Start r n } in
@@ -143,11 +143,11 @@ busy-start s laws w limit v r n past q legal =
         ∙ (ap (λ u. (r == q) && (true && not u)) d ∙ elim (r == q) as (λ v. (v && true) ≡ v) [ true ↦ refl | false ↦ refl ]))
 
 -- an entry by which nobody starts or ends
-pub busy-stay : (s : Plan) (laws : PlanLaws s) (w limit v : ℕ) (k : Kind) (past : Past) (q : ℕ) → IsLegal s w limit ((record { worker = v; kind = k }) ∷ past)
+pub busy-stay : (s : Plan) (laws : PlanLaws s) (w limit v : ℕ) (k : Kind) (past : Past) (q : ℕ) → KeepsRules s w limit ((record { worker = v; kind = k }) ∷ past)
     → moves_busy k ≡ false → busy s ((record { worker = v; kind = k }) ∷ past) q ≡ busy s past q
 busy-stay s laws w limit v k past q legal h = by_kind k legal h
   where
-    own : (n : ℕ) (k' : Kind) → IsLegal s w limit ((record { worker = v; kind = k' }) ∷ past) → answer_in k' ≡ [] → is_starve k' ≡ false → is_start k' ≡ false
+    own : (n : ℕ) (k' : Kind) → KeepsRules s w limit ((record { worker = v; kind = k' }) ∷ past) → answer_in k' ≡ [] → is_starve k' ≡ false → is_start k' ≡ false
         → concerns n k' ≡ true → ((y : ℕ) → y ≢ n → concerns y k' ≡ false) → busy s ((record { worker = v; kind = k' }) ∷ past) q ≡ busy s past q
     own n k' l a u f c only =
         let e : Entry = record { worker = v; kind = k' } in
@@ -160,7 +160,7 @@ busy-stay s laws w limit v k past q legal h = by_kind k legal h
         let g = busy-own s laws w limit e past q n r.birth l r.born c f only in
         omega (arith, b, g)
 
-    by_kind : (k' : Kind) → IsLegal s w limit ((record { worker = v; kind = k' }) ∷ past) → moves_busy k' ≡ false
+    by_kind : (k' : Kind) → KeepsRules s w limit ((record { worker = v; kind = k' }) ∷ past) → moves_busy k' ≡ false
         → busy s ((record { worker = v; kind = k' }) ∷ past) q ≡ busy s past q
     by_kind (Take n) l g = own n (Take n) l refl refl refl (eq-eqb n n refl) (λ y ne. not-same y n ne)
     by_kind (Return n) l g = own n (Return n) l refl refl refl (eq-eqb n n refl) (λ y ne. not-same y n ne)

@@ -18,7 +18,7 @@ use Rattle.eip_history.specs.Own.{Past, own, concerns, last_answer, clock, or_an
 use Rattle.eip_history.specs.Groups.{Group, due_of, is_forced, Arrival, is_open, closed_by, is_due, put_group, arrived, is_for, last_at, after}
 use Rattle.eip_history.specs.Births.{Asked, Story, story, groups, grouped_by, grouped_for, asked, arrival_of}
 use Rattle.eip_history.specs.Place.{place_of}
-use Rattle.eip_history.specs.Rules.{IsLegal, May, dues, least, retry_due, MayAnswer, Content}
+use Rattle.eip_history.specs.Rules.{KeepsRules, May, dues, least, retry_due, MayAnswer, Content}
 use Rattle.eip_history.proofs.Told.{own-other, own-here}
 use Rattle.eip_history.proofs.Unborn.{legal-tail, legal-may, own-none}
 use Rattle.eip_history.proofs.Stuck.{Standing, InEnd, InQueue, Held, Asleep, Waits, Able, standing}
@@ -123,7 +123,7 @@ waits (request.Idem r k eager remove) d h = absurd (cc h)
 waits (request.Log n t) d h = absurd (cc h)
 waits (request.Finish e m c) d h = absurd (cc h)
 
-slept-most : (s : Plan) (w limit : ℕ) (past : Past) (y d : ℕ) → IsLegal s w limit past → last_answer (own y past) ≡ Some (reply.Slept d) → d ≤ most
+slept-most : (s : Plan) (w limit : ℕ) (past : Past) (y d : ℕ) → KeepsRules s w limit past → last_answer (own y past) ≡ Some (reply.Slept d) → d ≤ most
 slept-most s w limit [] y d legal h = let g = rw (own-none y) at h in absurd (cc g)
 slept-most s w limit (e ∷ past) y d legal h = by_test (concerns y e.kind) refl (λ g. slept-most s w limit past y d (legal-tail s w limit e past legal) g)
   where
@@ -150,7 +150,7 @@ pub record IsLate (s : Plan) (past : Past) : Type 0 where
   pub groups_late : EachGroup (Late s (clock past)) (groups s past)
 
 -- who is due is due no sooner than now
-due-late : (s : Plan) (w limit : ℕ) (past : Past) (t : ℕ) → IsLegal s w limit past → IsLate s past → least (dues s past) ≡ Some t
+due-late : (s : Plan) (w limit : ℕ) (past : Past) (t : ℕ) → KeepsRules s w limit past → IsLate s past → least (dues s past) ≡ Some t
     → (clock past ≤ t) × (t ≤ most)
 due-late s w limit past t legal late h = elim (due-at s past t h) [
   | inl d ↦ by_standing d.1 d.3 (standing s past d.1)
@@ -183,7 +183,7 @@ late-tick s now t gs e = closed-each (Late s now) (Late s t) by.Timeout (is_due 
     (λ g n h. λ d due. let x = h d due in
     let m = rw due at n in elim (cases_lt d t) [ inl l ↦ absurd (let k = le-leb d t (omega (arith, l)) in cc k) | inr l ↦ (l, x.1) ]) e
 
-late-step : (s : Plan) (w limit v : ℕ) (k : Kind) (past : Past) → IsLegal s w limit ((record { worker = v; kind = k }) ∷ past) → IsLate s past
+late-step : (s : Plan) (w limit v : ℕ) (k : Kind) (past : Past) → KeepsRules s w limit ((record { worker = v; kind = k }) ∷ past) → IsLate s past
     → IsLate s ((record { worker = v; kind = k }) ∷ past)
 unfolding clock story
 late-step s w limit v (Tick t) past legal late =
@@ -199,10 +199,10 @@ late-step s w limit v (Answer x a) past legal late =
     record { clock_most = late.clock_most; groups_late = late-by s (story s past) past (asked s past x) a late.clock_most late.groups_late }
 late-step s w limit v _ past legal late = record { clock_most = late.clock_most; groups_late = late.groups_late }
 
-pub legal-late : (s : Plan) (w limit : ℕ) (past : Past) → IsLegal s w limit past → IsLate s past
+pub legal-late : (s : Plan) (w limit : ℕ) (past : Past) → KeepsRules s w limit past → IsLate s past
 legal-late s w limit [] legal = late-none s
 legal-late s w limit (e ∷ past) legal = late-step s w limit e.worker e.kind past legal (legal-late s w limit past (legal-tail s w limit e past legal))
 
 -- a Tick's moment is no sooner than the clock
-pub clock-rises : (s : Plan) (w limit : ℕ) (past : Past) (t : ℕ) → IsLegal s w limit past → least (dues s past) ≡ Some t → clock past ≤ t
+pub clock-rises : (s : Plan) (w limit : ℕ) (past : Past) (t : ℕ) → KeepsRules s w limit past → least (dues s past) ≡ Some t → clock past ≤ t
 clock-rises s w limit past t legal h = (due-late s w limit past t legal (legal-late s w limit past legal) h).0

@@ -20,7 +20,7 @@ use Rattle.eip_history.specs.Own.{Past, own, concerns, numbered, last_answer, st
 use Rattle.eip_history.specs.Groups.{Group, is_forced, is_open, closed_by, is_due}
 use Rattle.eip_history.specs.Births.{story, births, groups, fate, fate_by, made_at, group_births, group_birth, grouped}
 use Rattle.eip_history.specs.Place.{all_ended, pause_of, Pause, Sleeps, Joins, Runs, paused, queued, place_by, place_of, is_in}
-use Rattle.eip_history.specs.Rules.{IsLegal, May, any_group, IsSource}
+use Rattle.eip_history.specs.Rules.{KeepsRules, May, any_group, IsSource}
 use Rattle.eip_history.specs.Laws.{PlanLaws}
 use Rattle.eip_history.specs.Work.{weight, weigh, source_weight, sum_below, open_count, births_work, sources_work, work}
 use Rattle.eip_history.proofs.Parts.{numbered-number}
@@ -86,7 +86,7 @@ pub record Tells (s : Plan) (w : ℕ) (k : Kind) (past : Past) : Type 0 where
   pub same_births : births s ((record { worker = w; kind = k }) ∷ past) ≡ births s past
   pub same_groups : groups s ((record { worker = w; kind = k }) ∷ past) ≡ groups s past
 
-pub old-weigh : (s : Plan) (w limit v : ℕ) (k : Kind) (past : Past) → IsLegal s w limit ((record { worker = v; kind = k }) ∷ past)
+pub old-weigh : (s : Plan) (w limit v : ℕ) (k : Kind) (past : Past) → KeepsRules s w limit ((record { worker = v; kind = k }) ∷ past)
     → ((x : ℕ) → concerns x k ≡ false) → clock past ≤ clock ((record { worker = v; kind = k }) ∷ past)
     → weigh (λ (b : Birth). weight (place_of s ((record { worker = v; kind = k }) ∷ past) b)) (births s past) ≤ births_work s past
 unfolding births_work
@@ -106,7 +106,7 @@ groups-told : (s : Plan) (w : ℕ) (k : Kind) (past : Past) → Tells s w k past
 groups-told s w k past h = ap open_count h.same_groups
 
 -- a source's entry
-falls-source : (s : Plan) (w limit v t : ℕ) (k : Kind) (past : Past) → IsLegal s w limit ((record { worker = v; kind = k }) ∷ past) → Tells s v k past
+falls-source : (s : Plan) (w limit v t : ℕ) (k : Kind) (past : Past) → KeepsRules s w limit ((record { worker = v; kind = k }) ∷ past) → Tells s v k past
     → IsSource s t → ((x : ℕ) → concerns x k ≡ false) → ((n : ℕ) → ticked k n ≡ n)
     → ((u : ℕ) (was : SourceState) → u ≢ t → moved v u k was ≡ was) → source_weight (moved v t k (source_state t past)) < source_weight (source_state t past)
     → work s ((record { worker = v; kind = k }) ∷ past) < work s past
@@ -120,7 +120,7 @@ falls-source s w limit v t k past legal told source none tick other less =
     omega (arith, a, b, g, r, less)
 
 -- an entry of an exchange, by which its own place weighs less
-falls-own : (s : Plan) (w limit v x : ℕ) (k : Kind) (past : Past) (b : Birth) → IsLegal s w limit ((record { worker = v; kind = k }) ∷ past)
+falls-own : (s : Plan) (w limit v x : ℕ) (k : Kind) (past : Past) (b : Birth) → KeepsRules s w limit ((record { worker = v; kind = k }) ∷ past)
     → Tells s v k past → numbered (births s past) x ≡ Some b
     → ((y : ℕ) → y ≢ x → concerns y k ≡ false) → ((n : ℕ) → ticked k n ≡ n) → ((u : ℕ) (was : SourceState) → moved v u k was ≡ was)
     → weight (place_of s ((record { worker = v; kind = k }) ∷ past) b) < weight (place_of s past b) → work s ((record { worker = v; kind = k }) ∷ past) < work s past
@@ -189,7 +189,7 @@ forced-some p (g ∷ gs) h = by_test (p g) refl h (λ i. forced-some p gs i)
     by_test true t i ih = rw t (omega arith)
     by_test false t i ih = rw t (ih i)
 
-falls-force : (s : Plan) (laws : PlanLaws s) (w limit v : ℕ) (past : Past) → IsLegal s w limit ((record { worker = v; kind = Force }) ∷ past)
+falls-force : (s : Plan) (laws : PlanLaws s) (w limit v : ℕ) (past : Past) → KeepsRules s w limit ((record { worker = v; kind = Force }) ∷ past)
     → any_group (is_forced s) (groups s past) ≡ true → work s ((record { worker = v; kind = Force }) ∷ past) < work s past
 unfolding births_work
 falls-force s laws w limit v past legal any =
@@ -278,7 +278,7 @@ unfolding story
 told-none s v past k h g = record { same_births = ap (λ xs. births s past ++ xs) h ∙ append-nil (births s past); same_groups = g }
 
 -- each legal entry that is no turn, no Tick and no Return lowers the work
-pub falls : (s : Plan) (laws : PlanLaws s) (w limit v : ℕ) (k : Kind) (past : Past) → IsLegal s w limit ((record { worker = v; kind = k }) ∷ past)
+pub falls : (s : Plan) (laws : PlanLaws s) (w limit v : ℕ) (k : Kind) (past : Past) → KeepsRules s w limit ((record { worker = v; kind = k }) ∷ past)
     → turns_in k ≡ 0 → ((t : ℕ) → k ≢ Tick t) → ((x : ℕ) → k ≢ Return x)
     → work s ((record { worker = v; kind = k }) ∷ past) < work s past
 falls s laws w limit v (Pull t) past legal z nt nr =

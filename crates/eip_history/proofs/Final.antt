@@ -16,7 +16,7 @@ use Rattle.eip_history.specs.Plan.{Plan}
 use Rattle.eip_history.specs.Own.{Past, own, concerns, numbered, last_answer, started, taker, clock}
 use Rattle.eip_history.specs.Births.{births, fate}
 use Rattle.eip_history.specs.Place.{ended, end_at, end_of, joined, cons_option, all_ended, pause_of, Pause, Sleeps, Joins, Runs, paused, in_hand, queued, place_by, place_of, is_in, is_ended}
-use Rattle.eip_history.specs.Rules.{IsLegal, May, MayAct, first}
+use Rattle.eip_history.specs.Rules.{KeepsRules, May, MayAct, first}
 use Rattle.eip_history.specs.Work.{weight}
 use Rattle.eip_history.proofs.Told.{own-other}
 use Rattle.eip_history.proofs.Unborn.{legal-may, place-born, first-placed}
@@ -64,7 +64,7 @@ end-place s past b h = by_fate (fate s past b) refl h
     by_fate Strays t g = absurd (cc g)
 
 -- who has ended, stays so
-pub ended-final : (s : Plan) (w limit : ℕ) (e : Entry) (past : Past) (x : ℕ) (b : Birth) → IsLegal s w limit (e ∷ past)
+pub ended-final : (s : Plan) (w limit : ℕ) (e : Entry) (past : Past) (x : ℕ) (b : Birth) → KeepsRules s w limit (e ∷ past)
     → numbered (births s past) x ≡ Some b → is_some (end_of (fate s past b)) ≡ true → concerns x e.kind ≡ false
 ended-final s w limit e past x b legal at h = elim (cases_Bool (concerns x e.kind)) [
   | inl c ↦ (let r = entry-live s limit past e.worker x e.kind (legal-may s w limit e past legal) c in
@@ -83,18 +83,18 @@ some-born s past x h = by_option (numbered (births s past) x) refl h
     by_option None e g = absurd (cc g)
 
 -- how who has ended ended, stays so
-pub ended-stays : (s : Plan) (w limit : ℕ) (e : Entry) (past : Past) (x : ℕ) → IsLegal s w limit (e ∷ past) → is_some (ended s past x) ≡ true
+pub ended-stays : (s : Plan) (w limit : ℕ) (e : Entry) (past : Past) (x : ℕ) → KeepsRules s w limit (e ∷ past) → is_some (ended s past x) ≡ true
     → ended s (e ∷ past) x ≡ ended s past x
 ended-stays s w limit e past x legal h =
     let b = some-born s past x h in
     ended-other s e past x b.0 b.1 (ended-final s w limit e past x b.0 legal b.1 (ap is_some (sym (ended-is s past x b.0 b.1)) ∙ h))
 
-pub ended-keeps : (s : Plan) (w limit : ℕ) (e : Entry) (past : Past) (x : ℕ) → IsLegal s w limit (e ∷ past) → is_some (ended s past x) ≡ true
+pub ended-keeps : (s : Plan) (w limit : ℕ) (e : Entry) (past : Past) (x : ℕ) → KeepsRules s w limit (e ∷ past) → is_some (ended s past x) ≡ true
     → is_some (ended s (e ∷ past) x) ≡ true
 ended-keeps s w limit e past x legal h = ap is_some (ended-stays s w limit e past x legal h) ∙ h
 
 -- parts that have all ended, stay so
-pub joined-keeps : (s : Plan) (w limit : ℕ) (e : Entry) (past : Past) (first count : ℕ) → IsLegal s w limit (e ∷ past)
+pub joined-keeps : (s : Plan) (w limit : ℕ) (e : Entry) (past : Past) (first count : ℕ) → KeepsRules s w limit (e ∷ past)
     → is_some (joined s past first count) ≡ true → is_some (joined s (e ∷ past) first count) ≡ true
 joined-keeps s w limit e past first zero legal h = refl
 joined-keeps s w limit e past first (suc k) legal h =
@@ -146,7 +146,7 @@ place-weight now now' all all' b o Strays l h =
     queue-weight b.origin (started o) _ _ (hand-weight (taker o) _ _ (pause-weight now now' all all' (pause_of (last_answer o)) l h))
 
 -- an entry makes no other exchange's place weigh more
-pub weight-other : (s : Plan) (w limit : ℕ) (e : Entry) (past : Past) (b : Birth) → IsLegal s w limit (e ∷ past) → concerns b.number e.kind ≡ false
+pub weight-other : (s : Plan) (w limit : ℕ) (e : Entry) (past : Past) (b : Birth) → KeepsRules s w limit (e ∷ past) → concerns b.number e.kind ≡ false
     → clock past ≤ clock (e ∷ past) → weight (place_of s (e ∷ past) b) ≤ weight (place_of s past b)
 unfolding place_of
 weight-other s w limit e past b legal c l =

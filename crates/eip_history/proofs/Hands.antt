@@ -14,7 +14,7 @@ use Rattle.eip_history.specs.Plan.{Plan}
 use Rattle.eip_history.specs.Own.{Past, own, concerns, numbered, last_answer, started, taker, clock, taken_by}
 use Rattle.eip_history.specs.Births.{births, fate, fate_by}
 use Rattle.eip_history.specs.Place.{ended, end_of, joined, cons_option, all_ended, pause_of, paused, in_hand, queued, place_by, place_of}
-use Rattle.eip_history.specs.Rules.{IsLegal, May}
+use Rattle.eip_history.specs.Rules.{KeepsRules, May}
 use Rattle.eip_history.specs.Tables.{bit}
 use Rattle.eip_history.proofs.Parts.{numbered-number}
 use Rattle.eip_history.proofs.Told.{own-other, own-here}
@@ -43,7 +43,7 @@ ready-live s past b h = by_fate (fate_by s b (own b.number past)) refl h
     by_fate (AsksNext q p) t g = record { no_end = rw t refl; out = queue-out b.origin (started (own b.number past)) _ g }
     by_fate Strays t g = record { no_end = rw t refl; out = queue-out b.origin (started (own b.number past)) _ g }
 
-pub taken-live : (s : Plan) (w limit : ℕ) (past : Past) (x v : ℕ) (b : Birth) → IsLegal s w limit past → b.number ≡ x
+pub taken-live : (s : Plan) (w limit : ℕ) (past : Past) (x v : ℕ) (b : Birth) → KeepsRules s w limit past → b.number ≡ x
     → ((d : Birth) → numbered (births s past) x ≡ Some d → d ≡ b) → taker (own x past) ≡ Some v → IsLive s b (own x past)
 taken-live s w limit [] x v b legal n same h = absurd (let g = rw (own-none x) at h in cc g)
 taken-live s w limit (e ∷ past) x v b legal n same h =
@@ -66,7 +66,7 @@ taken-live s w limit (e ∷ past) x v b legal n same h =
     by_test false c ih = rw (own-other x e past c) (ih (rw (own-other x e past c) at h))
 
 -- who has a Take as newest entry is in hand
-pub taken-in-hand : (s : Plan) (w limit : ℕ) (past : Past) (x v : ℕ) (b : Birth) → IsLegal s w limit past → numbered (births s past) x ≡ Some b
+pub taken-in-hand : (s : Plan) (w limit : ℕ) (past : Past) (x v : ℕ) (b : Birth) → KeepsRules s w limit past → numbered (births s past) x ≡ Some b
     → taker (own b.number past) ≡ Some v → place_of s past b ≡ place_is.InHand v
 unfolding place_of fate
 taken-in-hand s w limit past x v b legal at t =

@@ -3,14 +3,14 @@ use Rattle.std.proofs.Common.{◌++◌, reverse, refl, arith, inl}
 use Rattle.eip_history.specs.Own.{own, source_state, clock, turns}
 use Rattle.eip_history.specs.Births.{story, fate}
 use Rattle.eip_history.specs.Place.{takes_out, pulls_out, place, place_of, ended, numbers_at, count_at, busy}
-use Rattle.eip_history.specs.Rules.{IsLegal, unfinished, startable, dues, served, holder_of}
+use Rattle.eip_history.specs.Rules.{KeepsRules, unfinished, startable, dues, served, holder_of}
 use Rattle.eip_history.specs.Example.{small, early, middle, late, past_of}
 use Rattle.eip_history.specs.Histories.{pair, taken_in, sent, pair_past, starving, pair_outlets}
 use Rattle.eip_history.specs.Owner.{IsOwned}
 use Rattle.eip_history.proofs.Rows.{early_legal}
 
-pub middle_legal : IsLegal small 0 100 (past_of (early ++ middle))
-unfolding own story fate ended place place_of clock dues unfinished startable source_state numbers_at busy count_at turns pulls_out takes_out served holder_of IsLegal
+pub middle_legal : KeepsRules small 0 100 (past_of (early ++ middle))
+unfolding own story fate ended place place_of clock dues unfinished startable source_state numbers_at busy count_at turns pulls_out takes_out served holder_of KeepsRules
 middle_legal = (
   (
     (
@@ -46,8 +46,8 @@ middle_legal = (
 )
 
 -- a queue, a split, a wait and its tick, a key, a group closed by its size and one by its timeout
-pub late_legal : IsLegal small 0 100 (past_of (early ++ middle ++ late))
-unfolding own story fate ended place place_of clock dues unfinished startable source_state numbers_at busy count_at turns pulls_out takes_out served holder_of IsLegal
+pub late_legal : KeepsRules small 0 100 (past_of (early ++ middle ++ late))
+unfolding own story fate ended place place_of clock dues unfinished startable source_state numbers_at busy count_at turns pulls_out takes_out served holder_of KeepsRules
 late_legal = (
   (
     (
@@ -78,8 +78,8 @@ late_legal = (
   (record { none_ready = refl; no_hand = refl; none_startable = refl; sources_done = refl }, omega arith, refl),
 )
 
-pub taken_in_legal : IsLegal pair 2 100 (reverse taken_in)
-unfolding own story fate ended place place_of clock dues unfinished startable source_state numbers_at busy count_at turns pulls_out takes_out served holder_of IsLegal
+pub taken_in_legal : KeepsRules pair 2 100 (reverse taken_in)
+unfolding own story fate ended place place_of clock dues unfinished startable source_state numbers_at busy count_at turns pulls_out takes_out served holder_of KeepsRules
 taken_in_legal = (
   (
     (
@@ -98,8 +98,8 @@ taken_in_legal = (
   ((omega arith, refl), refl, refl),
 )
 
-pub sent_legal : IsLegal pair 2 100 (reverse (taken_in ++ sent))
-unfolding own story fate ended place place_of clock dues unfinished startable source_state numbers_at busy count_at turns pulls_out takes_out served holder_of IsLegal
+pub sent_legal : KeepsRules pair 2 100 (reverse (taken_in ++ sent))
+unfolding own story fate ended place place_of clock dues unfinished startable source_state numbers_at busy count_at turns pulls_out takes_out served holder_of KeepsRules
 sent_legal = (
   (
     (
@@ -135,8 +135,8 @@ sent_legal = (
 )
 
 -- two sources, one key, two sends, an item refused and a source that failed
-pub pair_legal : IsLegal pair 2 100 pair_past
-unfolding own story fate ended place place_of clock dues unfinished startable source_state numbers_at busy count_at turns pulls_out takes_out served holder_of IsLegal
+pub pair_legal : KeepsRules pair 2 100 pair_past
+unfolding own story fate ended place place_of clock dues unfinished startable source_state numbers_at busy count_at turns pulls_out takes_out served holder_of KeepsRules
 pair_legal = (
   (
     (
@@ -163,8 +163,8 @@ pair_legal = (
   ((omega arith, refl), refl),
 )
 
-pub starving_legal : IsLegal pair 0 100 (past_of starving)
-unfolding own story fate ended place place_of clock dues unfinished startable source_state numbers_at busy count_at turns pulls_out takes_out served holder_of IsLegal
+pub starving_legal : KeepsRules pair 0 100 (past_of starving)
+unfolding own story fate ended place place_of clock dues unfinished startable source_state numbers_at busy count_at turns pulls_out takes_out served holder_of KeepsRules
 starving_legal = (
   (
     (

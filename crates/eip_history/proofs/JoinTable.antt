@@ -9,7 +9,7 @@ use Rattle.eip_ledger.specs.declared.entry.Kind.TheVariants.{Answer, Starve}
 use Rattle.eip_history.specs.Plan.{Plan}
 use Rattle.eip_history.specs.Own.{Past, own, concerns, answer_in, is_starve, last_answer, or_answer}
 use Rattle.eip_history.specs.Place.{ended}
-use Rattle.eip_history.specs.Rules.{IsLegal}
+use Rattle.eip_history.specs.Rules.{KeepsRules}
 use Rattle.eip_history.specs.Laws.{PlanLaws}
 use Rattle.eip_history.specs.TableWords.{unless_ended, born_last, open_parts, parts_in, moves_joins}
 use Rattle.eip_history.proofs.Told.{own-other, own-here}
@@ -19,7 +19,7 @@ use Rattle.eip_history.proofs.Moves.{ends-nobody}
 use Rattle.eip_history.proofs.Acting.{ended-beside}
 
 -- an entry that isn't x's leaves x's join as it was
-pub parts-same : (s : Plan) (laws : PlanLaws s) (w limit : ℕ) (e : Entry) (past : Past) (x : ℕ) → IsLegal s w limit (e ∷ past)
+pub parts-same : (s : Plan) (laws : PlanLaws s) (w limit : ℕ) (e : Entry) (past : Past) (x : ℕ) → KeepsRules s w limit (e ∷ past)
     → concerns x e.kind ≡ false → open_parts s (e ∷ past) x ≡ open_parts s past x
 unfolding open_parts
 parts-same s laws w limit e past x legal c =
@@ -37,7 +37,7 @@ unless-twice (Some u) (Some v) q h k = refl
 unless-twice (Some u) None q h k = absurd (let g = h refl in cc g)
 
 -- an entry of x: a Born opens its join, another answer closes it, and so does its end
-pub parts-own : (s : Plan) (w limit : ℕ) (e : Entry) (past : Past) (x : ℕ) → IsLegal s w limit (e ∷ past) → concerns x e.kind ≡ true
+pub parts-own : (s : Plan) (w limit : ℕ) (e : Entry) (past : Past) (x : ℕ) → KeepsRules s w limit (e ∷ past) → concerns x e.kind ≡ true
     → open_parts s (e ∷ past) x ≡ unless_ended (ended s (e ∷ past) x) (parts_in e.kind (open_parts s past x))
 unfolding open_parts
 parts-own s w limit e past x legal c =
@@ -50,7 +50,7 @@ unless-same None q = refl
 unless-same (Some f) q = refl
 
 -- an entry by which no join opens or closes leaves each as it was
-pub parts-stay : (s : Plan) (laws : PlanLaws s) (w limit v : ℕ) (k : Kind) (past : Past) (x : ℕ) → IsLegal s w limit ((record { worker = v; kind = k }) ∷ past)
+pub parts-stay : (s : Plan) (laws : PlanLaws s) (w limit v : ℕ) (k : Kind) (past : Past) (x : ℕ) → KeepsRules s w limit ((record { worker = v; kind = k }) ∷ past)
     → moves_joins k ≡ false → open_parts s ((record { worker = v; kind = k }) ∷ past) x ≡ open_parts s past x
 unfolding open_parts
 parts-stay s laws w limit v k past x legal h = elim (cases_Bool (concerns x k)) [

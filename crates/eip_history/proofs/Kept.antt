@@ -17,7 +17,7 @@ use Rattle.eip_history.specs.Plan.{Plan}
 use Rattle.eip_history.specs.Own.{Past, concerns, answer_in, is_starve, numbered}
 use Rattle.eip_history.specs.Births.{Asked, births, asked}
 use Rattle.eip_history.specs.Place.{ended}
-use Rattle.eip_history.specs.Rules.{IsLegal, Claim, claims, claim_of, claim_for, claimer, holder_of, keeps, holds, lasts, least, is_key, is_claim_of, served, served_in, served_by}
+use Rattle.eip_history.specs.Rules.{KeepsRules, Claim, claims, claim_of, claim_for, claimer, holder_of, keeps, holds, lasts, least, is_key, is_claim_of, served, served_in, served_by}
 use Rattle.eip_history.specs.Kept.{Hold, hold_by, hold_at, kept, turned, holds_key, hold_number, holding_numbers, is_fresh, moves_keys}
 use Rattle.eip_history.proofs.Unborn.{asked-born, birth-stays}
 use Rattle.eip_history.proofs.Parts.{numbered-number, asked-birth}
@@ -139,7 +139,7 @@ turned-other : (x : ℕ) (o p : Option Finished) (c : Claim) → (c.number == x)
 turned-other x None p c f hs = elim (cases_Bool (keeps c p)) [ inl l ↦ rw l refl | inr l ↦ rw l refl ]
 turned-other x (Some u) p c f hs = elim (cases_Bool (keeps c p)) [ inl l ↦ rw (l, f) refl | inr l ↦ rw l refl ]
 
-kept-turns : (s : Plan) (w limit : ℕ) (e : Entry) (past : Past) (x : ℕ) (cs : List Claim) → IsLegal s w limit (e ∷ past)
+kept-turns : (s : Plan) (w limit : ℕ) (e : Entry) (past : Past) (x : ℕ) (cs : List Claim) → KeepsRules s w limit (e ∷ past)
     → ((y : ℕ) → y ≢ x → concerns y e.kind ≡ false) → AllBorn s past cs
     → filter_map (hold_at s (e ∷ past)) cs ≡ filter_map (turned x (ended s (e ∷ past) x)) (filter_map (hold_at s past) cs)
 kept-turns s w limit e past x [] legal only born = refl
@@ -177,7 +177,7 @@ kept-turns s w limit e past x (c ∷ cs) legal only born =
         ∙ turned-other x (ended s (e ∷ past) x) (ended s past c.number) c f rest
 
 -- an entry of x: x's claims turn where it ends by it
-pub kept-own : (s : Plan) (w limit : ℕ) (e : Entry) (past : Past) (x : ℕ) → IsLegal s w limit (e ∷ past) → ((y : ℕ) → y ≢ x → concerns y e.kind ≡ false)
+pub kept-own : (s : Plan) (w limit : ℕ) (e : Entry) (past : Past) (x : ℕ) → KeepsRules s w limit (e ∷ past) → ((y : ℕ) → y ≢ x → concerns y e.kind ≡ false)
     → kept s (e ∷ past) ≡ filter_map (turned x (ended s (e ∷ past) x)) (kept s past) ++ filter_map (hold_at s (e ∷ past)) (claimed s e past)
 unfolding kept
 kept-own s w limit e past x legal only =

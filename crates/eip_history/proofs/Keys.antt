@@ -20,7 +20,7 @@ use Rattle.eip_history.specs.Plan.{Plan}
 use Rattle.eip_history.specs.Own.{Past}
 use Rattle.eip_history.specs.Births.{Asked, asked}
 use Rattle.eip_history.specs.Place.{ended}
-use Rattle.eip_history.specs.Rules.{IsLegal, May, MayAnswer, Content, served, served_in, served_by, Claim, claims, claim_of, claim_for, claimer, keeps, holds, is_key, is_holding, is_claim_of, least, or_least, holders, holder_of}
+use Rattle.eip_history.specs.Rules.{KeepsRules, May, MayAnswer, Content, served, served_in, served_by, Claim, claims, claim_of, claim_for, claimer, keeps, holds, is_key, is_holding, is_claim_of, least, or_least, holders, holder_of}
 use Rattle.eip_history.specs.Keys.{Holds, IsFree, IsLeastHolder, IsKeyAnswer, is_eager_of}
 use Rattle.eip_history.proofs.AnswerFacts.{answers-to}
 use Rattle.eip_history.proofs.Unborn.{legal-tail, legal-may}
@@ -157,7 +157,7 @@ least-some s past r k h l = by_holder (holder_of s past r k) refl
 
 -- the answer to an offered key is Fresh where nobody holds it, else it names the least holder
 pub key-answered : (s : Plan) (w limit v x : ℕ) (a : Reply) (past : Past) (q : Asked) (r k : List ℕ) (eager remove : Bool)
-    → IsLegal s w limit ((record { worker = v; kind = Answer x a }) ∷ past) → asked s past x ≡ Some q → q.request ≡ request.Idem r k eager remove
+    → KeepsRules s w limit ((record { worker = v; kind = Answer x a }) ∷ past) → asked s past x ≡ Some q → q.request ≡ request.Idem r k eager remove
     → IsKeyAnswer s past r k a
 key-answered s w limit v x a past q r k eager remove legal at same =
     let facts = answers-to s limit past v x a q (legal-may s w limit _ past legal) at in
@@ -171,7 +171,7 @@ key-answered s w limit v x a past q r k eager remove legal at same =
 -- ---- what stays
 
 -- a claim that has not been given up behind an entry had not been given up before it
-pub keeps-before : (s : Plan) (w limit : ℕ) (e : Entry) (past : Past) (c : Claim) → IsLegal s w limit (e ∷ past)
+pub keeps-before : (s : Plan) (w limit : ℕ) (e : Entry) (past : Past) (c : Claim) → KeepsRules s w limit (e ∷ past)
     → keeps c (ended s (e ∷ past) c.number) ≡ true → keeps c (ended s past c.number) ≡ true
 keeps-before s w limit e past c legal h = by_end (ended s past c.number) refl
   where
@@ -180,7 +180,7 @@ keeps-before s w limit e past c legal h = by_end (ended s past c.number) refl
     by_end (Some f) t = ap (keeps c) (sym (ended-stays s w limit e past c.number legal (ap is_some t))) ∙ h
 
 -- the claims of who has ended hold or don't, for ever
-pub holds-on : (s : Plan) (w limit : ℕ) (e : Entry) (past : Past) (c : Claim) → IsLegal s w limit (e ∷ past)
+pub holds-on : (s : Plan) (w limit : ℕ) (e : Entry) (past : Past) (c : Claim) → KeepsRules s w limit (e ∷ past)
     → is_some (ended s past c.number) ≡ true → is_holding s (e ∷ past) c ≡ is_holding s past c
 holds-on s w limit e past c legal h = ap (holds c) (ended-stays s w limit e past c.number legal h)
 
@@ -189,7 +189,7 @@ eager-keeps : (c : Claim) (o : Option Finished) → c.eager ≡ true → holds c
 eager-keeps c None t = t
 eager-keeps c (Some f) t = refl
 
-eager-before : (s : Plan) (w limit : ℕ) (e : Entry) (past : Past) (r k : List ℕ) (c : Claim) → IsLegal s w limit (e ∷ past)
+eager-before : (s : Plan) (w limit : ℕ) (e : Entry) (past : Past) (r k : List ℕ) (c : Claim) → KeepsRules s w limit (e ∷ past)
     → is_eager_of s (e ∷ past) r k c ≡ true → is_eager_of s past r k c ≡ true
 eager-before s w limit e past r k c legal h =
     let a = and_parts c.eager (is_claim_of s (e ∷ past) r k c) h in
@@ -201,7 +201,7 @@ eager-before s w limit e past r k c legal h =
     both_true : {u v w : Bool} → u ≡ true → v ≡ true → w ≡ true → (u && (v && w)) ≡ true
     both_true a b c = rw (a, b, c) refl
 
-held-less : (s : Plan) (w limit : ℕ) (e : Entry) (past : Past) (r k : List ℕ) (xs : List Claim) → IsLegal s w limit (e ∷ past)
+held-less : (s : Plan) (w limit : ℕ) (e : Entry) (past : Past) (r k : List ℕ) (xs : List Claim) → KeepsRules s w limit (e ∷ past)
     → length (filter (is_eager_of s (e ∷ past) r k) xs) ≤ length (filter (is_eager_of s past r k) xs)
 held-less s w limit e past r k xs legal =
     fewer (is_eager_of s past r k) (is_eager_of s (e ∷ past) r k) xs (λ c h. eager-before s w limit e past r k c legal h)
@@ -226,7 +226,7 @@ claims-what x (request.Idem r k eager remove) reply.Fresh = OneClaim r k eager r
 claims-what x _ _ = NoClaim refl
 
 -- at most one eager claim holds a key
-pub one-eager-holder : (s : Plan) (w limit : ℕ) (past : Past) (r k : List ℕ) → IsLegal s w limit past → length (filter (is_eager_of s past r k) (claims s past)) ≤ 1
+pub one-eager-holder : (s : Plan) (w limit : ℕ) (past : Past) (r k : List ℕ) → KeepsRules s w limit past → length (filter (is_eager_of s past r k) (claims s past)) ≤ 1
 unfolding served
 one-eager-holder s w limit [] r k legal = omega arith
 one-eager-holder s w limit (e ∷ past) r k legal =
@@ -273,7 +273,7 @@ one-eager-holder s w limit (e ∷ past) r k legal =
     by_kind _ may one old = rw (append-nil (served s past)) one
 
 -- so a key all of whose claims are eager has at most one holder
-pub one-holder : (s : Plan) (w limit : ℕ) (past : Past) (r k : List ℕ) → IsLegal s w limit past
+pub one-holder : (s : Plan) (w limit : ℕ) (past : Past) (r k : List ℕ) → KeepsRules s w limit past
     → ((i : ℕ) (c : Claim) → slice_get (claims s past) i ≡ Some c → is_key r k c ≡ true → c.eager ≡ true) → length (holders s past r k) ≤ 1
 one-holder s w limit past r k legal eager =
     let one = one-eager-holder s w limit past r k legal in

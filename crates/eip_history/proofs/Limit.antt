@@ -14,7 +14,7 @@ use Rattle.eip_history.specs.Plan.{Plan}
 use Rattle.eip_history.specs.Own.{Past, own, concerns, numbered, numbers_below, taker, SourceState, Out, source_state, is_out, turns, turns_in, moved, taken_by}
 use Rattle.eip_history.specs.Births.{story, births, made_at}
 use Rattle.eip_history.specs.Place.{place_of, hands, pulls_out, takes_out, is_taken}
-use Rattle.eip_history.specs.Rules.{IsLegal, MayAct, IsSource}
+use Rattle.eip_history.specs.Rules.{KeepsRules, MayAct, IsSource}
 use Rattle.eip_history.specs.Tables.{AreNumberedFrom, bit}
 use Rattle.eip_history.proofs.Told.{births-numbered, births-more, made-numbered, own-other, own-here}
 use Rattle.eip_history.proofs.Parts.{numbered-number}
@@ -68,7 +68,7 @@ above-none : (past : Past) (n m : ℕ) (bs : List Birth) → n < m → ((x : ℕ
 above-none past n m [] l h ns = refl
 above-none past n m (b ∷ bs) l h ns = let o = h b.number (omega (arith, ns.0, l)) in rw o (above-none past n (m + 1) bs (omega (arith, l)) h ns.1)
 
-takes-old : (s : Plan) (w limit : ℕ) (e : Entry) (past : Past) → IsLegal s w limit (e ∷ past)
+takes-old : (s : Plan) (w limit : ℕ) (e : Entry) (past : Past) → KeepsRules s w limit (e ∷ past)
     → takes_out s (e ∷ past) ≡ length (filter (is_taken (e ∷ past)) (births s past))
 unfolding takes_out
 takes-old s w limit e past legal =
@@ -83,7 +83,7 @@ takes-old s w limit e past legal =
     ) refl
 
 -- an entry of no exchange
-takes-same : (s : Plan) (w limit : ℕ) (e : Entry) (past : Past) → IsLegal s w limit (e ∷ past) → ((x : ℕ) → concerns x e.kind ≡ false)
+takes-same : (s : Plan) (w limit : ℕ) (e : Entry) (past : Past) → KeepsRules s w limit (e ∷ past) → ((x : ℕ) → concerns x e.kind ≡ false)
     → takes_out s (e ∷ past) ≡ takes_out s past
 unfolding takes_out
 takes-same s w limit e past legal h =
@@ -91,7 +91,7 @@ takes-same s w limit e past legal h =
     ∙ ap length (filter-same (is_taken (e ∷ past)) (is_taken past) (births s past) (λ b. ap (λ o. is_some (taker o)) (own-other b.number e past (h b.number))))
 
 -- an entry of exchange x
-takes-change : (s : Plan) (w limit : ℕ) (e : Entry) (past : Past) (i : ℕ) (b : Birth) → IsLegal s w limit (e ∷ past)
+takes-change : (s : Plan) (w limit : ℕ) (e : Entry) (past : Past) (i : ℕ) (b : Birth) → KeepsRules s w limit (e ∷ past)
     → slice_get (births s past) i ≡ Some b → ((x : ℕ) → x ≢ suc i → concerns x e.kind ≡ false)
     → takes_out s (e ∷ past) + bit (is_taken past b) ≡ takes_out s past + bit (is_taken (e ∷ past) b)
 unfolding takes_out
@@ -105,7 +105,7 @@ bit-most : (v : Bool) → bit v ≤ 1
 bit-most true = omega arith
 bit-most false = omega arith
 
-takes-of : (s : Plan) (w limit : ℕ) (e : Entry) (past : Past) (x : ℕ) (b : Birth) → IsLegal s w limit (e ∷ past) → numbered (births s past) x ≡ Some b
+takes-of : (s : Plan) (w limit : ℕ) (e : Entry) (past : Past) (x : ℕ) (b : Birth) → KeepsRules s w limit (e ∷ past) → numbered (births s past) x ≡ Some b
     → ((y : ℕ) → y ≢ x → concerns y e.kind ≡ false)
     → takes_out s (e ∷ past) + bit (is_taken past b) ≡ takes_out s past + bit (is_taken (e ∷ past) b)
 takes-of s w limit e past zero b legal at h = absurd (cc at)
@@ -133,7 +133,7 @@ taken-after s e past x b at c t =
     ap (λ o. is_some (taker o)) (own-here b.number e past (rw n c)) ∙ ap is_some t
 
 -- an entry of x that is no Take takes nobody in hand
-takes-fall : (s : Plan) (w limit : ℕ) (e : Entry) (past : Past) (x : ℕ) (b : Birth) → IsLegal s w limit (e ∷ past)
+takes-fall : (s : Plan) (w limit : ℕ) (e : Entry) (past : Past) (x : ℕ) (b : Birth) → KeepsRules s w limit (e ∷ past)
     → numbered (births s past) x ≡ Some b → ((y : ℕ) → y ≢ x → concerns y e.kind ≡ false)
     → concerns x e.kind ≡ true → taken_by e.worker e.kind ≡ None → takes_out s (e ∷ past) + bit (is_taken past b) ≡ takes_out s past
 takes-fall s w limit e past x b legal at only c t =
@@ -149,7 +149,7 @@ pub source-after : (w t : ℕ) (k : Kind) (past : Past) → source_state t ((rec
 unfolding source_state
 source-after w t k past = refl
 
-pub within-source : (s : Plan) (w limit v t : ℕ) (k : Kind) (past : Past) → IsLegal s w limit ((record { worker = v; kind = k }) ∷ past) → IsSource s t
+pub within-source : (s : Plan) (w limit v t : ℕ) (k : Kind) (past : Past) → KeepsRules s w limit ((record { worker = v; kind = k }) ∷ past) → IsSource s t
     → source_state t past ≡ Out v
     → ((x : ℕ) → concerns x k ≡ false) → ((u : ℕ) (was : SourceState) → u ≢ t → moved v u k was ≡ was) → is_out (moved v t k (source_state t past)) ≡ false
     → hands s ((record { worker = v; kind = k }) ∷ past) + 1 ≡ hands s past
@@ -161,7 +161,7 @@ within-source s w limit v t k past legal source out none other after =
     let b : bit (is_out (source_state t past)) ≡ 1 = ap (λ st. bit (is_out st)) out in
     omega (arith, ts, ps, a, b)
 
-pub within-own : (s : Plan) (w limit v x : ℕ) (k : Kind) (past : Past) (b : Birth) → IsLegal s w limit ((record { worker = v; kind = k }) ∷ past)
+pub within-own : (s : Plan) (w limit v x : ℕ) (k : Kind) (past : Past) (b : Birth) → KeepsRules s w limit ((record { worker = v; kind = k }) ∷ past)
     → numbered (births s past) x ≡ Some b
     → ((y : ℕ) → y ≢ x → concerns y k ≡ false) → concerns x k ≡ true → taken_by v k ≡ None → ((u : ℕ) (was : SourceState) → moved v u k was ≡ was)
     → hands s ((record { worker = v; kind = k }) ∷ past) + bit (is_taken past b) ≡ hands s past
@@ -171,7 +171,7 @@ within-own s w limit v x k past b legal at only c t none =
     let ps = pulls-same s e past none in
     omega (arith, ts, ps)
 
-pub within-take : (s : Plan) (w limit v x : ℕ) (past : Past) (b : Birth) → IsLegal s w limit ((record { worker = v; kind = Take x }) ∷ past)
+pub within-take : (s : Plan) (w limit v x : ℕ) (past : Past) (b : Birth) → KeepsRules s w limit ((record { worker = v; kind = Take x }) ∷ past)
     → numbered (births s past) x ≡ Some b → hands s ((record { worker = v; kind = Take x }) ∷ past) ≤ hands s past + 1
 within-take s w limit v x past b legal at =
     let e : Entry = record { worker = v; kind = Take x } in
@@ -179,7 +179,7 @@ within-take s w limit v x past b legal at =
     let ps = pulls-same s e past (λ u was. refl) in
     omega (arith, ts, ps, bit-most (is_taken (e ∷ past) b))
 
-pub within-pull : (s : Plan) (w limit v t : ℕ) (past : Past) → IsLegal s w limit ((record { worker = v; kind = Pull t }) ∷ past) → t < s.routes
+pub within-pull : (s : Plan) (w limit v t : ℕ) (past : Past) → KeepsRules s w limit ((record { worker = v; kind = Pull t }) ∷ past) → t < s.routes
     → hands s ((record { worker = v; kind = Pull t }) ∷ past) ≤ hands s past + 1
 within-pull s w limit v t past legal l =
     let e : Entry = record { worker = v; kind = Pull t } in
@@ -187,7 +187,7 @@ within-pull s w limit v t past legal l =
     let ps = pulls-change s e past t l (λ u was ne. rw (not-same u t ne) refl) in
     omega (arith, ts, ps, bit-most (is_out (source_state t (e ∷ past))))
 
-pub within-none : (s : Plan) (w limit v : ℕ) (k : Kind) (past : Past) → IsLegal s w limit ((record { worker = v; kind = k }) ∷ past)
+pub within-none : (s : Plan) (w limit v : ℕ) (k : Kind) (past : Past) → KeepsRules s w limit ((record { worker = v; kind = k }) ∷ past)
     → ((x : ℕ) → concerns x k ≡ false) → ((u : ℕ) (was : SourceState) → moved v u k was ≡ was)
     → hands s ((record { worker = v; kind = k }) ∷ past) ≡ hands s past
 within-none s w limit v k past legal none same =
@@ -209,12 +209,12 @@ unfolding pulls_out takes_out source_state story
 none-hands s = rw (below-nobody s.routes) refl
 
 -- turns and hands stay within the limit
-pub legal-within : (s : Plan) (w limit : ℕ) (past : Past) → IsLegal s w limit past → turns past + hands s past ≤ limit
-unfolding IsLegal
+pub legal-within : (s : Plan) (w limit : ℕ) (past : Past) → KeepsRules s w limit past → turns past + hands s past ≤ limit
+unfolding KeepsRules
 legal-within s w limit [] legal = omega (arith, none-turns, none-hands s)
 legal-within s w limit (e ∷ past) legal = step e.kind legal (legal-within s w limit past legal.0)
   where
-    step : (k : Kind) → IsLegal s w limit ((record { worker = e.worker; kind = k }) ∷ past) → turns past + hands s past ≤ limit
+    step : (k : Kind) → KeepsRules s w limit ((record { worker = e.worker; kind = k }) ∷ past) → turns past + hands s past ≤ limit
         → turns ((record { worker = e.worker; kind = k }) ∷ past) + hands s ((record { worker = e.worker; kind = k }) ∷ past) ≤ limit
     step (Pull t) l ih = omega (arith, turns-more (record { worker = e.worker; kind = Pull t }) past, l.2.2, within-pull s w limit e.worker t past l l.2.0.0)
     step (Accept t item m) l ih =

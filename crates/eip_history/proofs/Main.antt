@@ -6,7 +6,7 @@ use Rattle.eip_ledger.specs.declared.entry.Kind.TheVariants.{Pull, Accept, Refus
 use Rattle.eip_history.specs.Plan.{Plan}
 use Rattle.eip_history.specs.Own.{Past, turns}
 use Rattle.eip_history.specs.Place.{hands}
-use Rattle.eip_history.specs.Rules.{IsLegal, May, IsBelow}
+use Rattle.eip_history.specs.Rules.{IsLegal, KeepsRules, May, IsBelow}
 use Rattle.eip_history.specs.Laws.{PlanLaws}
 use Rattle.eip_history.specs.Stop.{stop_of}
 use Rattle.eip_history.specs.Work.{work}
@@ -19,7 +19,7 @@ use Rattle.eip_history.proofs.Clock.{clock-rises}
 
 -- each legal entry but a Return is a turn or lowers the work
 pub turns-or-falls : (s : Plan) (laws : PlanLaws s) (w limit v : ℕ) (k : Kind) (past : Past)
-    → IsLegal s w limit ((record { worker = v; kind = k }) ∷ past) → ((x : ℕ) → k ≢ Return x)
+    → KeepsRules s w limit ((record { worker = v; kind = k }) ∷ past) → ((x : ℕ) → k ≢ Return x)
     → (turns ((record { worker = v; kind = k }) ∷ past) ≡ turns past + 1) ⊎ (work s ((record { worker = v; kind = k }) ∷ past) < work s past)
 unfolding turns
 turns-or-falls s laws w limit v (Accept t i m) past legal nr = inl refl
@@ -38,14 +38,14 @@ turns-or-falls s laws w limit v (Starve x) past legal nr = inr (falls s laws w l
 turns-or-falls s laws w limit v Force past legal nr = inr (falls s laws w limit v Force past legal refl (λ t e. cc e) nr)
 
 -- where no hand is out and the run is at no stop, it is below the limit and somebody may act
-pub somebody-acts : (s : Plan) (laws : PlanLaws s) (w limit : ℕ) (past : Past) → IsLegal s w limit past → hands s past ≡ 0
+pub somebody-acts : (s : Plan) (laws : PlanLaws s) (w limit : ℕ) (past : Past) → KeepsRules s w limit past → hands s past ≡ 0
     → stop_of s limit past ≡ None → IsBelow s limit past × Acts s limit past
 somebody-acts s laws w limit past legal home stop =
     let b = waits-below s w limit past legal home stop in
     (b.1, not-stuck s laws w limit past legal home b.0)
 
--- a legal entry behind a legal past
+-- an entry that meets its rule, behind a legal past
 pub legal-add : (s : Plan) (w limit : ℕ) (e : Entry) (past : Past) → IsLegal s w limit past → e.worker ≤ w → May s limit past e.worker e.kind
     → IsLegal s w limit (e ∷ past)
-unfolding IsLegal
-legal-add s w limit e past l v m = (l, v, m)
+unfolding KeepsRules
+legal-add s w limit e past l v m = record { few_workers = l.few_workers; some_turns = l.some_turns; few_turns = l.few_turns; entries = (l.entries, v, m) }

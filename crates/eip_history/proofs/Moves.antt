@@ -17,7 +17,7 @@ use Rattle.eip_history.specs.Plan.{Plan}
 use Rattle.eip_history.specs.Own.{Past, own, concerns, numbered, answer_in, is_starve, answers, starved, ticked}
 use Rattle.eip_history.specs.Births.{births, fate, fate_by}
 use Rattle.eip_history.specs.Place.{place_of, end_of}
-use Rattle.eip_history.specs.Rules.{IsLegal}
+use Rattle.eip_history.specs.Rules.{KeepsRules}
 use Rattle.eip_history.specs.Moves.{IsParent, CanMove}
 use Rattle.eip_history.proofs.Told.{own-other, own-here}
 use Rattle.eip_history.proofs.Unborn.{legal-tail, legal-may, entry-born}
@@ -53,7 +53,7 @@ no-parent s past b d n at none = by_origin d.origin refl
     by_origin (from.Group g) same = refl
 
 -- an entry of n by which n may end
-stays-beside : (s : Plan) (w limit : ℕ) (e : Entry) (past : Past) (n : ℕ) (b : Birth) → IsLegal s w limit (e ∷ past) → concerns n e.kind ≡ true
+stays-beside : (s : Plan) (w limit : ℕ) (e : Entry) (past : Past) (n : ℕ) (b : Birth) → KeepsRules s w limit (e ∷ past) → concerns n e.kind ≡ true
     → ((y : ℕ) → y ≢ n → concerns y e.kind ≡ false) → ((t : ℕ) → ticked e.kind t ≡ t) → b.number ≢ n → (IsParent s past b n → ⊥)
     → place_of s (e ∷ past) b ≡ place_of s past b
 stays-beside s w limit e past n b legal here only t other none =
@@ -61,7 +61,7 @@ stays-beside s w limit e past n b legal here only t other none =
     place-end-other s w limit e past n d.0 b (legal-tail s w limit e past legal) d.1 only other (no-parent s past b d.0 n d.1 none) t
 
 -- an entry of n that ends nobody
-stays-apart : (s : Plan) (w limit : ℕ) (e : Entry) (past : Past) (b : Birth) → IsLegal s w limit (e ∷ past) → answer_in e.kind ≡ [] → is_starve e.kind ≡ false
+stays-apart : (s : Plan) (w limit : ℕ) (e : Entry) (past : Past) (b : Birth) → KeepsRules s w limit (e ∷ past) → answer_in e.kind ≡ [] → is_starve e.kind ≡ false
     → ((t : ℕ) → ticked e.kind t ≡ t) → concerns b.number e.kind ≡ false → place_of s (e ∷ past) b ≡ place_of s past b
 stays-apart s w limit e past b legal a v t other = place-other s w limit e past b (legal-tail s w limit e past legal) (ends-nobody s e past a v) other t
 
@@ -77,7 +77,7 @@ woken-same t place_is.Joining none = refl
 woken-same t place_is.Ready none = refl
 
 -- who cannot be moved by an entry stands where it stood
-pub place-stays : (s : Plan) (w limit v : ℕ) (k : Kind) (past : Past) (b : Birth) → IsLegal s w limit ((record { worker = v; kind = k }) ∷ past)
+pub place-stays : (s : Plan) (w limit v : ℕ) (k : Kind) (past : Past) (b : Birth) → KeepsRules s w limit ((record { worker = v; kind = k }) ∷ past)
     → (CanMove s past k b → ⊥) → place_of s ((record { worker = v; kind = k }) ∷ past) b ≡ place_of s past b
 place-stays s w limit v (Pull t) past b legal none = stays-apart s w limit _ past b legal refl refl (λ n. refl) refl
 place-stays s w limit v (Accept t item m) past b legal none = stays-apart s w limit _ past b legal refl refl (λ n. refl) refl

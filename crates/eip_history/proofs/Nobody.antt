@@ -11,7 +11,7 @@ use Rattle.eip_history.specs.Laws.{PlanLaws}
 use Rattle.eip_history.specs.Own.{Past, own, taker, numbered, numbers_below, source_state, is_out, turns}
 use Rattle.eip_history.specs.Births.{births, groups}
 use Rattle.eip_history.specs.Place.{hands, numbers_at, ready_numbers, is_held, is_taken, takes_out, pulls_out, place_of, count_at, at_place, is_ended}
-use Rattle.eip_history.specs.Rules.{IsLegal, startable, unfinished, least, dues, any_group}
+use Rattle.eip_history.specs.Rules.{KeepsRules, startable, unfinished, least, dues, any_group}
 use Rattle.eip_history.specs.Groups.{is_forced}
 use Rattle.eip_history.specs.Stop.{is_over, stop_of, Actor, TheExchange, TheSource, TheQueue, TheClock, TheForce, Nobody, first_or, actor, first_fault, with_fault, held_or_drained, open_groups, unended}
 use Rattle.eip_history.proofs.Stuck.{none-from, none-at, length-none}
@@ -53,7 +53,7 @@ pulls-none : (s : Plan) (past : Past) → numbers_below (λ t. is_out (source_st
 unfolding pulls_out
 pulls-none s past h = ap length h
 
-takes-none : (s : Plan) (w limit : ℕ) (past : Past) → IsLegal s w limit past → numbers_at s past is_held ≡ [] → takes_out s past ≡ 0
+takes-none : (s : Plan) (w limit : ℕ) (past : Past) → KeepsRules s w limit past → numbers_at s past is_held ≡ [] → takes_out s past ≡ 0
 unfolding takes_out
 takes-none s w limit past legal h = ap length (none-from (is_taken past) (births s past) (λ i b at. by_taker i b at (taker (own b.number past)) refl))
   where
@@ -65,7 +65,7 @@ takes-none s w limit past legal h = ap length (none-from (is_taken past) (births
         absurd (let g = rw p at f in cc g)
 
 -- where the schedule names nobody, nothing waits
-pub nobody-over : (s : Plan) (laws : PlanLaws s) (w limit : ℕ) (past : Past) → IsLegal s w limit past → actor s past ≡ Nobody → is_over s past ≡ true
+pub nobody-over : (s : Plan) (laws : PlanLaws s) (w limit : ℕ) (past : Past) → KeepsRules s w limit past → actor s past ≡ Nobody → is_over s past ≡ true
 nobody-over s laws w limit past legal h =
     let n = none-to-act s past h in
     let p = pulls-none s past n.none_out in
@@ -74,7 +74,7 @@ nobody-over s laws w limit past legal h =
     (record { none_ready = n.none_ready; no_hand = omega (arith, p, t); none_startable = n.none_startable; sources_done = n.sources_done }) n.none_due n.none_forced
 
 -- so the run is at a stop there
-pub nobody-stops : (s : Plan) (laws : PlanLaws s) (w limit : ℕ) (past : Past) → IsLegal s w limit past → actor s past ≡ Nobody
+pub nobody-stops : (s : Plan) (laws : PlanLaws s) (w limit : ℕ) (past : Past) → KeepsRules s w limit past → actor s past ≡ Nobody
     → (stop : Stop) × (stop_of s limit past ≡ Some stop)
 unfolding stop_of
 nobody-stops s laws w limit past legal h =

@@ -14,7 +14,7 @@ use Rattle.eip_history.specs.Plan.{Plan}
 use Rattle.eip_history.specs.Own.{Past, own, concerns, numbered, clock, ticked}
 use Rattle.eip_history.specs.Births.{births, fate, fate_by, made_at}
 use Rattle.eip_history.specs.Place.{end_of, all_ended, queued, place_by, place_of, numbers_at, number_of}
-use Rattle.eip_history.specs.Rules.{IsLegal}
+use Rattle.eip_history.specs.Rules.{KeepsRules}
 use Rattle.eip_history.specs.Laws.{PlanLaws}
 use Rattle.eip_history.specs.Tables.{AreNumberedFrom, without, put_in}
 use Rattle.eip_history.proofs.Told.{births-numbered, births-more, made-numbered}
@@ -45,7 +45,7 @@ newborn-filter s laws past p n m (b ∷ bs) l h ns =
     rw (newborn-at s laws past b (h b.number (omega (arith, ns.0, l))), newborn-filter s laws past p n (m + 1) bs (omega (arith, l)) h ns.1) refl
 
 -- the numbers at a place: those of the births before, by any test that tells their place behind the entry, and the newborn's
-pub numbers-after : (s : Plan) (laws : PlanLaws s) (w limit : ℕ) (e : Entry) (past : Past) → IsLegal s w limit (e ∷ past)
+pub numbers-after : (s : Plan) (laws : PlanLaws s) (w limit : ℕ) (e : Entry) (past : Past) → KeepsRules s w limit (e ∷ past)
     → (p : Place → Bool) (q : Birth → Bool)
     → filter (λ (b : Birth). p (place_of s (e ∷ past) b)) (births s past) ≡ filter q (births s past)
     → numbers_at s (e ∷ past) p ≡ map number_of (filter q (births s past)) ++ map number_of (filter (λ (b : Birth). p (newborn_place b)) (made_at s past e.kind))
@@ -66,7 +66,7 @@ unfolding numbers_at
 numbers-at-is s past p = refl
 
 -- family 1: an entry of nobody and without a Tick (Pull, Accept, Refuse, SourceEnd, SourceFault, Force)
-pub numbers-quiet : (s : Plan) (laws : PlanLaws s) (w limit : ℕ) (e : Entry) (past : Past) → IsLegal s w limit (e ∷ past)
+pub numbers-quiet : (s : Plan) (laws : PlanLaws s) (w limit : ℕ) (e : Entry) (past : Past) → KeepsRules s w limit (e ∷ past)
     → ((x : ℕ) → concerns x e.kind ≡ false) → ((n : ℕ) → ticked e.kind n ≡ n) → (p : Place → Bool)
     → numbers_at s (e ∷ past) p ≡ numbers_at s past p ++ map number_of (filter (λ (b : Birth). p (newborn_place b)) (made_at s past e.kind))
 numbers-quiet s laws w limit e past legal none t p =
@@ -76,7 +76,7 @@ numbers-quiet s laws w limit e past legal none t p =
     ∙ ap (λ xs. xs ++ map number_of (filter (λ (b : Birth). p (newborn_place b)) (made_at s past e.kind))) (numbers-at-is s past p)
 
 -- family 2: a Tick
-pub numbers-tick : (s : Plan) (laws : PlanLaws s) (w limit v t : ℕ) (past : Past) → IsLegal s w limit ((record { worker = v; kind = Tick t }) ∷ past)
+pub numbers-tick : (s : Plan) (laws : PlanLaws s) (w limit v t : ℕ) (past : Past) → KeepsRules s w limit ((record { worker = v; kind = Tick t }) ∷ past)
     → clock past ≤ t → (p : Place → Bool)
     → numbers_at s ((record { worker = v; kind = Tick t }) ∷ past) p
     ≡ map number_of (filter (λ (b : Birth). p (woken t (place_of s past b))) (births s past))
@@ -95,7 +95,7 @@ ends-none-own s e past x only same y b at = elim (cases_Bool (y == x)) [
 ]
 
 -- family 3: an entry of x that ends nothing: only x's own place changes; x = i + 1 leaves the numbers, joins them, or stays
-pub numbers-own-leave : (s : Plan) (laws : PlanLaws s) (w limit : ℕ) (e : Entry) (past : Past) (i : ℕ) → IsLegal s w limit (e ∷ past)
+pub numbers-own-leave : (s : Plan) (laws : PlanLaws s) (w limit : ℕ) (e : Entry) (past : Past) (i : ℕ) → KeepsRules s w limit (e ∷ past)
     → ((y : ℕ) → y ≢ 1 + i → concerns y e.kind ≡ false) → ((n : ℕ) → ticked e.kind n ≡ n)
     → EndsNone s e past → (p : Place → Bool) → ((b : Birth) → slice_get (births s past) i ≡ Some b → p (place_of s (e ∷ past) b) ≡ false)
     → numbers_at s (e ∷ past) p ≡ without (1 + i) (numbers_at s past p) ++ map number_of (filter (λ (b : Birth). p (newborn_place b)) (made_at s past e.kind))
@@ -107,7 +107,7 @@ numbers-own-leave s laws w limit e past i legal only t none p here =
     ∙ ap (without (1 + i)) (numbers-at-is s past p))
 
 -- family 4: an entry of x that ends it: x leaves, and its parent may join or leave besides. q is the test between
-pub numbers-end : (s : Plan) (laws : PlanLaws s) (w limit : ℕ) (e : Entry) (past : Past) (i j : ℕ) (d c : Birth) → IsLegal s w limit (e ∷ past)
+pub numbers-end : (s : Plan) (laws : PlanLaws s) (w limit : ℕ) (e : Entry) (past : Past) (i j : ℕ) (d c : Birth) → KeepsRules s w limit (e ∷ past)
     → ((y : ℕ) → y ≢ 1 + i → concerns y e.kind ≡ false) → ((n : ℕ) → ticked e.kind n ≡ n)
     → slice_get (births s past) i ≡ Some d → slice_get (births s past) j ≡ Some c → ((y : ℕ) → y ≢ 1 + j → is_part_of y d.origin ≡ false) → i ≢ j
     → (p : Place → Bool) → p (place_of s (e ∷ past) d) ≡ false → p (place_of s past c) ≡ false → p (place_of s (e ∷ past) c) ≡ true

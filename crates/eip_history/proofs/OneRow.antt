@@ -8,7 +8,7 @@ use Rattle.eip_history.specs.Plan.{Plan}
 use Rattle.eip_history.specs.Own.{Past, concerns, ticked}
 use Rattle.eip_history.specs.Births.{births, made_at}
 use Rattle.eip_history.specs.Place.{place_of, numbers_at, number_of, picked}
-use Rattle.eip_history.specs.Rules.{IsLegal}
+use Rattle.eip_history.specs.Rules.{KeepsRules}
 use Rattle.eip_history.specs.Laws.{PlanLaws}
 use Rattle.eip_history.specs.Tables.{AreNumberedFrom, put_in}
 use Rattle.eip_history.proofs.Told.{births-numbered}
@@ -59,7 +59,7 @@ differ-at f g n (c ∷ bs) (suc i) b at ns h =
     }
 
 -- family 3 for any table: an entry of x = i + 1 that ends nobody
-pub picked-own : {A : Type 0} (s : Plan) (w limit : ℕ) (e : Entry) (past : Past) (i : ℕ) (b : Birth) → IsLegal s w limit (e ∷ past)
+pub picked-own : {A : Type 0} (s : Plan) (w limit : ℕ) (e : Entry) (past : Past) (i : ℕ) (b : Birth) → KeepsRules s w limit (e ∷ past)
     → ((y : ℕ) → y ≢ 1 + i → concerns y e.kind ≡ false) → ((n : ℕ) → ticked e.kind n ≡ n)
     → EndsNone s e past → slice_get (births s past) i ≡ Some b → (pick : Birth → Place → Option A)
     → Differ A (picked s past pick) (filter_map
@@ -70,7 +70,7 @@ picked-own s w limit e past i b legal only t none at pick =
     (λ d ne. ap (pick d) (sym (place-other s w limit e past d (legal-tail s w limit e past legal) none (only d.number ne) t)))
 
 -- x joins the numbers
-pub numbers-own-join : (s : Plan) (laws : PlanLaws s) (w limit : ℕ) (e : Entry) (past : Past) (i : ℕ) (c : Birth) → IsLegal s w limit (e ∷ past)
+pub numbers-own-join : (s : Plan) (laws : PlanLaws s) (w limit : ℕ) (e : Entry) (past : Past) (i : ℕ) (c : Birth) → KeepsRules s w limit (e ∷ past)
     → ((y : ℕ) → y ≢ 1 + i → concerns y e.kind ≡ false) → ((n : ℕ) → ticked e.kind n ≡ n)
     → EndsNone s e past → (p : Place → Bool) → slice_get (births s past) i ≡ Some c
     → ((b : Birth) → slice_get (births s past) i ≡ Some b → (p (place_of s past b) ≡ false) × (p (place_of s (e ∷ past) b) ≡ true))

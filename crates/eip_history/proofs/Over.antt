@@ -20,7 +20,7 @@ use Rattle.eip_history.specs.Own.{Past, own, numbered, taker, answers, starved}
 use Rattle.eip_history.specs.Groups.{Group}
 use Rattle.eip_history.specs.Births.{Asked, Story, story, births, fate, asked_by, asked_of, made_at, made, made_by, made_for, part_births, group_births}
 use Rattle.eip_history.specs.Place.{ended, end_of, joined, place_of}
-use Rattle.eip_history.specs.Rules.{IsLegal}
+use Rattle.eip_history.specs.Rules.{KeepsRules}
 use Rattle.eip_history.specs.Laws.{PlanLaws, IsQueue}
 use Rattle.eip_history.proofs.Unborn.{numbered-within}
 use Rattle.eip_history.proofs.Parts.{parts-of, is_part_of, numbered-number}
@@ -52,7 +52,7 @@ joined-none s past first (suc k) h = by_first (ended s past first) refl (λ g. j
         by_rest (Some l) u = absurd (let g = rw (t, u) at h in cc g)
 
 -- the greatest exchange that hasn't ended isn't Joining
-pub no-joining : (s : Plan) (w limit : ℕ) (past : Past) → IsLegal s w limit past → AllRest s past → (k x : ℕ) (b : Birth)
+pub no-joining : (s : Plan) (w limit : ℕ) (past : Past) → KeepsRules s w limit past → AllRest s past → (k x : ℕ) (b : Birth)
     → numbered (births s past) x ≡ Some b → length (births s past) < x + k → place_of s past b ≡ place_is.Joining → ⊥
 no-joining s w limit past legal rest zero x b at l h = let n = numbered-within (births s past) x b at in omega (arith, l, n)
 no-joining s w limit past legal rest (suc k) x b at l h = by_standing (standing s past b) (λ y d g m j. no-joining s w limit past legal rest k y d g m j)

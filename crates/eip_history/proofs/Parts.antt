@@ -17,7 +17,7 @@ use Rattle.eip_ledger.specs.declared.entry.Kind.TheVariants.{Start, Take, Answer
 use Rattle.eip_history.specs.Plan.{Plan}
 use Rattle.eip_history.specs.Own.{Past, own, concerns, numbered, last_answer, or_answer}
 use Rattle.eip_history.specs.Births.{Asked, story, births, made_for, made_by, asked, asked_by, fate, part_births}
-use Rattle.eip_history.specs.Rules.{IsLegal, May, MayAnswer, next, Content}
+use Rattle.eip_history.specs.Rules.{KeepsRules, May, MayAnswer, next, Content}
 use Rattle.eip_history.proofs.Lists.{numbered-at}
 use Rattle.eip_history.proofs.Told.{own-other, own-here, births-numbered}
 use Rattle.eip_history.proofs.Unborn.{own-none, legal-tail, legal-may, asked-born, slice-right, birth-stays, numbered-within}
@@ -101,7 +101,7 @@ parts-born s limit past w x first count may =
     }
 
 -- where the last answer is a Born, its parts are born
-pub parts-of : (s : Plan) (w limit : ℕ) (past : Past) (y first count : ℕ) → IsLegal s w limit past
+pub parts-of : (s : Plan) (w limit : ℕ) (past : Past) (y first count : ℕ) → KeepsRules s w limit past
     → last_answer (own y past) ≡ Some (reply.Born first count) → AreParts s past y first count
 parts-of s w limit [] y first count legal h = let g = rw (own-none y) at h in absurd (cc g)
 parts-of s w limit (e ∷ past) y first count legal h =

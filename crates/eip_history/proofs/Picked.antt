@@ -10,7 +10,7 @@ use Rattle.eip_history.specs.Plan.{Plan}
 use Rattle.eip_history.specs.Own.{Past, own, concerns, clock, ticked}
 use Rattle.eip_history.specs.Births.{births, made_at}
 use Rattle.eip_history.specs.Place.{place_of, picked}
-use Rattle.eip_history.specs.Rules.{IsLegal}
+use Rattle.eip_history.specs.Rules.{KeepsRules}
 use Rattle.eip_history.specs.Laws.{PlanLaws}
 use Rattle.eip_history.specs.Tables.{AreNumberedFrom}
 use Rattle.eip_history.proofs.Told.{births-more, made-numbered}
@@ -32,7 +32,7 @@ newborn-picked s laws past pick n m (b ∷ bs) l h ns =
     ap (λ p. list_cons (pick b p) (filter_map (λ (d : Birth). pick d (place_of s past d)) bs)) e ∙ ap (list_cons (pick b (newborn_place b))) ih
 
 -- behind an entry: what the births before give by their places now, and what the newborn give
-pub picked-after : {A : Type 0} (s : Plan) (laws : PlanLaws s) (w limit : ℕ) (e : Entry) (past : Past) → IsLegal s w limit (e ∷ past)
+pub picked-after : {A : Type 0} (s : Plan) (laws : PlanLaws s) (w limit : ℕ) (e : Entry) (past : Past) → KeepsRules s w limit (e ∷ past)
     → (pick : Birth → Place → Option A)
     → picked s (e ∷ past) pick ≡ filter_map (λ (b : Birth). pick b (place_of s (e ∷ past) b)) (births s past)
     ++ filter_map (λ (b : Birth). pick b (newborn_place b)) (made_at s past e.kind)
@@ -45,7 +45,7 @@ picked-after s laws w limit e past legal pick =
     ∙ ap (λ xs. filter_map (λ (b : Birth). pick b (place_of s (e ∷ past) b)) (births s past) ++ xs) new)
 
 -- an entry of nobody, without a Tick
-pub picked-quiet : {A : Type 0} (s : Plan) (laws : PlanLaws s) (w limit : ℕ) (e : Entry) (past : Past) → IsLegal s w limit (e ∷ past)
+pub picked-quiet : {A : Type 0} (s : Plan) (laws : PlanLaws s) (w limit : ℕ) (e : Entry) (past : Past) → KeepsRules s w limit (e ∷ past)
     → ((x : ℕ) → concerns x e.kind ≡ false) → ((n : ℕ) → ticked e.kind n ≡ n) → (pick : Birth → Place → Option A)
     → picked s (e ∷ past) pick ≡ picked s past pick ++ filter_map (λ (b : Birth). pick b (newborn_place b)) (made_at s past e.kind)
 unfolding picked
@@ -57,7 +57,7 @@ picked-quiet s laws w limit e past legal none t pick =
 
 -- a Tick
 pub picked-tick : {A : Type 0} (s : Plan) (laws : PlanLaws s) (w limit v t : ℕ) (past : Past)
-    → IsLegal s w limit ((record { worker = v; kind = Tick t }) ∷ past) → clock past ≤ t → (pick : Birth → Place → Option A)
+    → KeepsRules s w limit ((record { worker = v; kind = Tick t }) ∷ past) → clock past ≤ t → (pick : Birth → Place → Option A)
     → picked s ((record { worker = v; kind = Tick t }) ∷ past) pick
     ≡ picked s past (λ b p. pick b (woken t p)) ++ filter_map (λ (b : Birth). pick b (newborn_place b)) (made_at s past (Tick t))
 unfolding picked

@@ -9,7 +9,7 @@ use Rattle.eip_history.specs.Plan.{Plan}
 use Rattle.eip_history.specs.Own.{Past, concerns, ticked, numbered}
 use Rattle.eip_history.specs.Births.{births}
 use Rattle.eip_history.specs.Place.{place_of, picked, numbers_at, count_at, busy, is_busy, number_of}
-use Rattle.eip_history.specs.Rules.{IsLegal}
+use Rattle.eip_history.specs.Rules.{KeepsRules}
 use Rattle.eip_history.proofs.Told.{births-numbered}
 use Rattle.eip_history.proofs.Unborn.{legal-tail}
 use Rattle.eip_history.proofs.Parts.{is_part_of, numbered-number}
@@ -17,7 +17,7 @@ use Rattle.eip_history.proofs.Places.{place-end-other}
 use Rattle.eip_history.proofs.OneRow.{Differ, differ-at}
 
 -- x = i + 1 may end by the entry and is nobody's part: only its own row changes
-pub picked-alone : {A : Type 0} (s : Plan) (w limit : ℕ) (e : Entry) (past : Past) (i : ℕ) (d : Birth) → IsLegal s w limit (e ∷ past)
+pub picked-alone : {A : Type 0} (s : Plan) (w limit : ℕ) (e : Entry) (past : Past) (i : ℕ) (d : Birth) → KeepsRules s w limit (e ∷ past)
     → ((y : ℕ) → y ≢ 1 + i → concerns y e.kind ≡ false) → ((n : ℕ) → ticked e.kind n ≡ n)
     → slice_get (births s past) i ≡ Some d → ((y : ℕ) → is_part_of y d.origin ≡ false) → (pick : Birth → Place → Option A)
     → Differ A (picked s past pick) (filter_map (λ (b : Birth). pick b (place_of s (e ∷ past) b)) (births s past))
@@ -36,7 +36,7 @@ pub record DifferTwice (A : Type 0) (before after : List A) (was now was_parent 
   pub parent : Differ A between after was_parent now_parent
 
 -- x = i + 1 may end by the entry and is a part of j + 1: these two rows change
-pub picked-end : {A : Type 0} (s : Plan) (w limit : ℕ) (e : Entry) (past : Past) (i j : ℕ) (d c : Birth) → IsLegal s w limit (e ∷ past)
+pub picked-end : {A : Type 0} (s : Plan) (w limit : ℕ) (e : Entry) (past : Past) (i j : ℕ) (d c : Birth) → KeepsRules s w limit (e ∷ past)
     → ((y : ℕ) → y ≢ 1 + i → concerns y e.kind ≡ false) → ((n : ℕ) → ticked e.kind n ≡ n)
     → slice_get (births s past) i ≡ Some d → slice_get (births s past) j ≡ Some c → i ≢ j
     → ((y : ℕ) → y ≢ 1 + j → is_part_of y d.origin ≡ false) → (pick : Birth → Place → Option A)

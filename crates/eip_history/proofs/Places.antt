@@ -15,7 +15,7 @@ use Rattle.eip_history.specs.Plan.{Plan}
 use Rattle.eip_history.specs.Own.{Past, own, concerns, numbered, last_answer, started, taker, clock, ticked}
 use Rattle.eip_history.specs.Births.{births, fate, fate_by}
 use Rattle.eip_history.specs.Place.{ended, end_at, end_of, joined, cons_option, all_ended, pause_of, Pause, Sleeps, Joins, Runs, paused, in_hand, queued, place_by, place_of}
-use Rattle.eip_history.specs.Rules.{IsLegal}
+use Rattle.eip_history.specs.Rules.{KeepsRules}
 use Rattle.eip_history.proofs.Told.{own-other}
 use Rattle.eip_history.proofs.Unborn.{birth-stays}
 use Rattle.eip_history.proofs.Parts.{parts-of, is_part_of, numbered-number}
@@ -83,7 +83,7 @@ unfolding clock
 clock-same e past h = h (clock past)
 
 -- an entry of nobody, or of another exchange that ends by it no exchange
-pub place-other : (s : Plan) (w limit : ℕ) (e : Entry) (past : Past) (b : Birth) → IsLegal s w limit past → EndsNone s e past
+pub place-other : (s : Plan) (w limit : ℕ) (e : Entry) (past : Past) (b : Birth) → KeepsRules s w limit past → EndsNone s e past
     → concerns b.number e.kind ≡ false → ((n : ℕ) → ticked e.kind n ≡ n) → place_of s (e ∷ past) b ≡ place_of s past b
 place-other s w limit e past b legal none c t =
     place-same s e past b c (clock-same e past t) (λ f k h.
@@ -91,7 +91,7 @@ place-other s w limit e past b legal none c t =
     ap is_some (joined-same s past (e ∷ past) f k (λ i l. let r = p.part i l in none (f + i) r.0 r.1)))
 
 -- an entry of x alone, by which x may end: only x's place and that of its parent change
-pub place-end-other : (s : Plan) (w limit : ℕ) (e : Entry) (past : Past) (x : ℕ) (d b : Birth) → IsLegal s w limit past
+pub place-end-other : (s : Plan) (w limit : ℕ) (e : Entry) (past : Past) (x : ℕ) (d b : Birth) → KeepsRules s w limit past
     → numbered (births s past) x ≡ Some d → ((y : ℕ) → y ≢ x → concerns y e.kind ≡ false)
     → b.number ≢ x → is_part_of b.number d.origin ≡ false → ((n : ℕ) → ticked e.kind n ≡ n) → place_of s (e ∷ past) b ≡ place_of s past b
 place-end-other s w limit e past x d b legal at only ne apart t =
@@ -143,7 +143,7 @@ woken-by now t all b o Strays l =
     ∙ (ap (queued b.origin (started o)) (woken-hand t (taker o) _) ∙ woken-queue t b.origin (started o) _)
 
 -- a Tick wakes who is due by then, and moves nobody else
-pub place-tick : (s : Plan) (w limit : ℕ) (v t : ℕ) (past : Past) (b : Birth) → IsLegal s w limit past → clock past ≤ t
+pub place-tick : (s : Plan) (w limit : ℕ) (v t : ℕ) (past : Past) (b : Birth) → KeepsRules s w limit past → clock past ≤ t
     → place_of s ((record { worker = v; kind = Tick t }) ∷ past) b ≡ woken t (place_of s past b)
 unfolding place_of clock
 place-tick s w limit v t past b legal l =

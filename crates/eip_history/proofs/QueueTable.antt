@@ -23,7 +23,7 @@ use Rattle.eip_history.specs.Own.{Past, concerns, is_start, numbered}
 use Rattle.eip_history.specs.Groups.{Group, is_due, is_forced}
 use Rattle.eip_history.specs.Births.{Asked, Story, story, births, asked, asked_of, made, made_at, made_by, made_for, next_number, part_births, group_births, queue_birth}
 use Rattle.eip_history.specs.Place.{place_of, queued, is_in, is_born_into, waiting, number_of}
-use Rattle.eip_history.specs.Rules.{IsLegal, first, next}
+use Rattle.eip_history.specs.Rules.{KeepsRules, first, next}
 use Rattle.eip_history.specs.Laws.{PlanLaws}
 use Rattle.eip_history.specs.Tables.{AreNumberedFrom}
 use Rattle.eip_history.specs.TableWords.{born_into, moves_waiting}
@@ -45,7 +45,7 @@ newborn-in q b = by_origin b.origin
     by_origin (from.Group n) = refl
 
 -- behind an entry: those who wait by a test that tells it, and who is born into the queue
-waiting-more : (s : Plan) (laws : PlanLaws s) (w limit : ℕ) (e : Entry) (past : Past) (q : ℕ) (p : Birth → Bool) → IsLegal s w limit (e ∷ past)
+waiting-more : (s : Plan) (laws : PlanLaws s) (w limit : ℕ) (e : Entry) (past : Past) (q : ℕ) (p : Birth → Bool) → KeepsRules s w limit (e ∷ past)
     → filter (λ (b : Birth). is_in q (place_of s (e ∷ past) b)) (births s past) ≡ filter p (births s past)
     → waiting s (e ∷ past) q ≡ map number_of (filter p (births s past)) ++ born_into q (made_at s past e.kind)
 waiting-more s laws w limit e past q p legal h =
@@ -54,7 +54,7 @@ waiting-more s laws w limit e past q p legal h =
     (filter-same (λ (b : Birth). is_in q (newborn_place b)) (λ (b : Birth). is_born_into q b.origin) (made_at s past e.kind) (newborn-in q))
 
 -- an entry of n alone, who acts
-same-own : (s : Plan) (w limit v n : ℕ) (k : Kind) (past : Past) (q : ℕ) → IsLegal s w limit ((record { worker = v; kind = k }) ∷ past)
+same-own : (s : Plan) (w limit v n : ℕ) (k : Kind) (past : Past) (q : ℕ) → KeepsRules s w limit ((record { worker = v; kind = k }) ∷ past)
     → concerns n k ≡ true → is_start k ≡ false → ((y : ℕ) → y ≢ n → concerns y k ≡ false)
     → filter (λ (b : Birth). is_in q (place_of s ((record { worker = v; kind = k }) ∷ past) b)) (births s past)
     ≡ filter (λ (b : Birth). is_in q (place_of s past b)) (births s past)
@@ -80,7 +80,7 @@ same-own s w limit v n k past q legal here f only =
 
 -- an entry that is no Start takes nobody out of a queue; who is born into the queue goes to its end
 pub waiting-same : (s : Plan) (laws : PlanLaws s) (w limit v : ℕ) (k : Kind) (past : Past) (q : ℕ)
-    → IsLegal s w limit ((record { worker = v; kind = k }) ∷ past) → is_start k ≡ false
+    → KeepsRules s w limit ((record { worker = v; kind = k }) ∷ past) → is_start k ≡ false
     → waiting s ((record { worker = v; kind = k }) ∷ past) q ≡ waiting s past q ++ born_into q (made_at s past k)
 waiting-same s laws w limit v k past q legal f =
     waiting-more s laws w limit _ past q (λ (b : Birth). is_in q (place_of s past b)) legal (by_kind k legal f)
@@ -93,7 +93,7 @@ waiting-same s laws w limit v k past q legal f =
     nobody : (k' : Kind) → ((x : ℕ) → concerns x k' ≡ false) → Same k'
     nobody k' none = filter-same _ _ (births s past) (λ b. in-other s (record { worker = v; kind = k' }) past b q (none b.number))
 
-    by_kind : (k' : Kind) → IsLegal s w limit ((record { worker = v; kind = k' }) ∷ past) → is_start k' ≡ false → Same k'
+    by_kind : (k' : Kind) → KeepsRules s w limit ((record { worker = v; kind = k' }) ∷ past) → is_start k' ≡ false → Same k'
     by_kind (Start r n) l g = absurd (cc g)
     by_kind (Take n) l g = same-own s w limit v n (Take n) past q l (eq-eqb n n refl) refl (λ y ne. not-same y n ne)
     by_kind (Answer n a) l g = same-own s w limit v n (Answer n a) past q l (eq-eqb n n refl) refl (λ y ne. not-same y n ne)
@@ -121,7 +121,7 @@ first-leaves p q n (b ∷ bs) x ns h other gone = by_test (p b) refl h (λ g. fi
         rw (t, other b ne, t) (ih g)
 
 -- a Start takes the first out of its queue, and nobody out of another
-pub waiting-start : (s : Plan) (laws : PlanLaws s) (w limit v r n : ℕ) (past : Past) (q : ℕ) → IsLegal s w limit ((record { worker = v; kind = Start r n }) ∷ past)
+pub waiting-start : (s : Plan) (laws : PlanLaws s) (w limit v r n : ℕ) (past : Past) (q : ℕ) → KeepsRules s w limit ((record { worker = v; kind = Start r n }) ∷ past)
     → waiting s past q ≡ cond (r == q) (n ∷ waiting s ((record { worker = v; kind = Start r n }) ∷ past) q) (waiting s ((record { worker = v; kind = Start r n }) ∷ past) q)
 waiting-start s laws w limit v r n past q legal = elim (cases_Bool (r == q)) [ inl t ↦ rw t (in_queue t) | inr f ↦ rw f (in_other f) ]
   where
@@ -203,7 +203,7 @@ none-made q s t past _ h = refl
 
 -- an entry by which nobody comes into a queue or leaves it
 pub waiting-stay : (s : Plan) (laws : PlanLaws s) (w limit v : ℕ) (k : Kind) (past : Past) (q : ℕ)
-    → IsLegal s w limit ((record { worker = v; kind = k }) ∷ past) → moves_waiting k ≡ false
+    → KeepsRules s w limit ((record { worker = v; kind = k }) ∷ past) → moves_waiting k ≡ false
     → waiting s ((record { worker = v; kind = k }) ∷ past) q ≡ waiting s past q
 waiting-stay s laws w limit v k past q legal h =
     waiting-same s laws w limit v k past q legal (no-start k h)
@@ -215,7 +215,7 @@ waiting-stay s laws w limit v k past q legal h =
 
 -- an offer that is queued puts the next number at the end of its queue, and leaves each other as it was
 pub waiting-offer : (s : Plan) (laws : PlanLaws s) (w limit v x n : ℕ) (past : Past) (k : Asked) (r : ℕ) (discard : Bool) (m : Message) (q : ℕ)
-    → IsLegal s w limit ((record { worker = v; kind = Answer x (reply.Queued n) }) ∷ past) → asked s past x ≡ Some k → k.request ≡ request.Offer r discard m
+    → KeepsRules s w limit ((record { worker = v; kind = Answer x (reply.Queued n) }) ∷ past) → asked s past x ≡ Some k → k.request ≡ request.Offer r discard m
     → waiting s ((record { worker = v; kind = Answer x (reply.Queued n) }) ∷ past) q ≡ waiting s past q ++ cond (r == q) (next s past ∷ []) []
 waiting-offer s laws w limit v x n past k r discard m q legal at same =
     waiting-same s laws w limit v (Answer x (reply.Queued n)) past q legal refl

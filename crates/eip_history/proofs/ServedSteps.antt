@@ -8,7 +8,7 @@ use Rattle.eip_ledger.specs.declared.entry.Entry.{Entry}
 use Rattle.eip_history.specs.Plan.{Plan}
 use Rattle.eip_history.specs.Own.{Past}
 use Rattle.eip_history.specs.Rules.{Served, served, served_in}
-use Rattle.eip_history.specs.Texts.{call_for, calls, commit_for, commits, note_for, notes, given, given_in}
+use Rattle.eip_history.specs.Texts.{note_for, notes}
 use Rattle.eip_history.specs.BookText.{note_line, log_text_of}
 
 pub served-none : (s : Plan) → served s [] ≡ []
@@ -27,26 +27,6 @@ pub notes-more : (s : Plan) (e : Entry) (past : Past)
     → notes s (e ∷ past) ≡ notes s past ++ filter_map (λ (v : Served). note_for v.asked.birth.number v.asked.request v.answer) (served_in s past e.worker e.kind)
 unfolding served
 notes-more s e past = filter_map-append (λ (v : Served). note_for v.asked.birth.number v.asked.request v.answer) (served s past) (served_in s past e.worker e.kind)
-
-pub calls-more : (lane : List ℕ) (s : Plan) (e : Entry) (past : Past)
-    → calls lane s (e ∷ past) ≡ calls lane s past ++ filter_map (λ (v : Served). call_for lane v.asked.request v.answer) (served_in s past e.worker e.kind)
-unfolding served
-calls-more lane s e past = filter_map-append (λ (v : Served). call_for lane v.asked.request v.answer) (served s past) (served_in s past e.worker e.kind)
-
-pub commits-more : (source : ℕ) (s : Plan) (e : Entry) (past : Past)
-    → commits source s (e ∷ past)
-    ≡ commits source s past ++ filter_map (λ (v : Served). commit_for source v.asked.birth.origin v.asked.request v.answer) (served_in s past e.worker e.kind)
-unfolding served
-commits-more source s e past =
-    filter_map-append (λ (v : Served). commit_for source v.asked.birth.origin v.asked.request v.answer) (served s past) (served_in s past e.worker e.kind)
-
-pub given-none : (source : ℕ) → given source [] ≡ []
-unfolding given
-given-none source = refl
-
-pub given-more : (source : ℕ) (e : Entry) (past : Past) → given source (e ∷ past) ≡ given source past ++ given_in source e.kind
-unfolding given
-given-more source e past = refl
 
 -- the log only grows
 pub log-more : (s : Plan) (e : Entry) (past : Past)

@@ -18,7 +18,7 @@ use Rattle.eip_history.specs.Plan.{Plan}
 use Rattle.eip_history.specs.Own.{Past, own, concerns, started, taker, taken_by, last_answer, or_answer, clock, ticked, numbered}
 use Rattle.eip_history.specs.Births.{births, fate, fate_by}
 use Rattle.eip_history.specs.Place.{ended, end_of, all_ended, Pause, Sleeps, Joins, Runs, pause_of, paused, in_hand, queued, place_by, place_of, place, is_in}
-use Rattle.eip_history.specs.Rules.{IsLegal, May, retry_due}
+use Rattle.eip_history.specs.Rules.{KeepsRules, May, retry_due}
 use Rattle.eip_history.specs.Laws.{PlanLaws}
 use Rattle.eip_history.specs.TableWords.{unless_ended, moves_sleepers, sleeps, slept_by, slept_in, slept_on}
 use Rattle.eip_history.proofs.Told.{own-other, own-here}
@@ -72,7 +72,7 @@ unfolding sleeps place
 sleeps-unborn s past x at = rw at refl
 
 -- who is born by an entry doesn't sleep behind it
-newborn-awake : (s : Plan) (laws : PlanLaws s) (w limit : ℕ) (e : Entry) (past : Past) (x : ℕ) → IsLegal s w limit (e ∷ past)
+newborn-awake : (s : Plan) (laws : PlanLaws s) (w limit : ℕ) (e : Entry) (past : Past) (x : ℕ) → KeepsRules s w limit (e ∷ past)
     → numbered (births s past) x ≡ None → sleeps s (e ∷ past) x ≡ None
 newborn-awake s laws w limit e past x legal none = by_birth (numbered (births s (e ∷ past)) x) refl
   where
@@ -94,7 +94,7 @@ moment-other s e past b c t =
     ∙ moment-by (clock past) (all_ended s past) (all_ended s (e ∷ past)) b (own b.number past) (fate s past b)))
 
 -- an entry that isn't x's, and no Tick, leaves x as it slept
-pub sleeps-same : (s : Plan) (laws : PlanLaws s) (w limit : ℕ) (e : Entry) (past : Past) (x : ℕ) → IsLegal s w limit (e ∷ past)
+pub sleeps-same : (s : Plan) (laws : PlanLaws s) (w limit : ℕ) (e : Entry) (past : Past) (x : ℕ) → KeepsRules s w limit (e ∷ past)
     → concerns x e.kind ≡ false → ((n : ℕ) → ticked e.kind n ≡ n) → sleeps s (e ∷ past) x ≡ sleeps s past x
 sleeps-same s laws w limit e past x legal c t = by_birth (numbered (births s past) x) refl
   where
@@ -115,7 +115,7 @@ woken-moment t place_is.Joining = refl
 woken-moment t place_is.Ready = refl
 
 -- at a Tick all sleep on whose moment is beyond it
-pub sleeps-tick : (s : Plan) (laws : PlanLaws s) (w limit v t : ℕ) (past : Past) (x : ℕ) → IsLegal s w limit ((record { worker = v; kind = Tick t }) ∷ past)
+pub sleeps-tick : (s : Plan) (laws : PlanLaws s) (w limit v t : ℕ) (past : Past) (x : ℕ) → KeepsRules s w limit ((record { worker = v; kind = Tick t }) ∷ past)
     → sleeps s ((record { worker = v; kind = Tick t }) ∷ past) x ≡ slept_on t (sleeps s past x)
 sleeps-tick s laws w limit v t past x legal = by_birth (numbered (births s past) x) refl
   where
@@ -185,7 +185,7 @@ starved-ends s v n past b c = ap (fate_by s b) (own-here b.number (record { work
 born-one : (s : Plan) (past : Past) (x : ℕ) (b : Birth) → numbered (births s past) x ≡ Some b → (d : Birth) → numbered (births s past) b.number ≡ Some d → d ≡ b
 born-one s past x b at d u = let n = numbered-number s past x b at in let g = rw n at u in cc
 
-return-ready : (s : Plan) (w limit v n : ℕ) (past : Past) (x : ℕ) (b : Birth) → IsLegal s w limit ((record { worker = v; kind = Return n }) ∷ past)
+return-ready : (s : Plan) (w limit v n : ℕ) (past : Past) (x : ℕ) (b : Birth) → KeepsRules s w limit ((record { worker = v; kind = Return n }) ∷ past)
     → numbered (births s past) x ≡ Some b → concerns x (Return n) ≡ true
     → paused (clock past) (all_ended s ((record { worker = v; kind = Return n }) ∷ past)) (pause_of (last_answer (own b.number past))) ≡ place_is.Ready
 return-ready s w limit v n past x b l at c =
@@ -196,7 +196,7 @@ return-ready s w limit v n past x b l at c =
     let same : p.0 ≡ b = cc in
     held-ready s w limit _ past b may.1.0 l (born-one s past x b at) (subst (λ d. place_of s past d ≡ place_is.InHand may.1.0) same p.2)
 
-start-ready : (s : Plan) (w limit v q n : ℕ) (past : Past) (x : ℕ) (b : Birth) → IsLegal s w limit ((record { worker = v; kind = Start q n }) ∷ past)
+start-ready : (s : Plan) (w limit v q n : ℕ) (past : Past) (x : ℕ) (b : Birth) → KeepsRules s w limit ((record { worker = v; kind = Start q n }) ∷ past)
     → numbered (births s past) x ≡ Some b → concerns x (Start q n) ≡ true
     → paused (clock past) (all_ended s ((record { worker = v; kind = Start q n }) ∷ past)) (pause_of (last_answer (own b.number past))) ≡ place_is.Ready
 start-ready s w limit v q n past x b l at c =
@@ -209,7 +209,7 @@ start-ready s w limit v q n past x b l at c =
     ap (λ o. paused (clock past) (all_ended s ((record { worker = v; kind = Start q n }) ∷ past)) (pause_of (last_answer o))) none
 
 -- an entry of x: x sleeps behind an answer that lets it sleep, and behind no other entry of it, nor behind its end
-pub sleeps-own : (s : Plan) (w limit v x : ℕ) (k : Kind) (past : Past) → IsLegal s w limit ((record { worker = v; kind = k }) ∷ past) → concerns x k ≡ true
+pub sleeps-own : (s : Plan) (w limit v x : ℕ) (k : Kind) (past : Past) → KeepsRules s w limit ((record { worker = v; kind = k }) ∷ past) → concerns x k ≡ true
     → sleeps s ((record { worker = v; kind = k }) ∷ past) x ≡ unless_ended (ended s ((record { worker = v; kind = k }) ∷ past) x) (slept_in (clock past) k)
 unfolding clock
 sleeps-own s w limit v x k past legal c = by_kind k legal c
@@ -217,7 +217,7 @@ sleeps-own s w limit v x k past legal c = by_kind k legal c
     behind : Kind → Past
     behind k' = (record { worker = v; kind = k' }) ∷ past
 
-    none-here : (k' : Kind) (b : Birth) → IsLegal s w limit (behind k') → numbered (births s past) x ≡ Some b → concerns x k' ≡ true → slept_in (clock past) k' ≡ None
+    none-here : (k' : Kind) (b : Birth) → KeepsRules s w limit (behind k') → numbered (births s past) x ≡ Some b → concerns x k' ≡ true → slept_in (clock past) k' ≡ None
         → retry_due (place_by (clock (behind k')) (all_ended s (behind k')) b ((record { worker = v; kind = k' }) ∷ own b.number past) (fate s (behind k') b)) ≡ None
         → sleeps s (behind k') x ≡ unless_ended (ended s (behind k') x) (slept_in (clock past) k')
     none-here k' b l at c' n h =
@@ -226,7 +226,7 @@ sleeps-own s w limit v x k past legal c = by_kind k legal c
         ∙ (ap retry_due (place-here s (record { worker = v; kind = k' }) past b (rw m c'))
         ∙ (h ∙ (sym (unless-none (ended s (behind k') x)) ∙ ap (unless_ended (ended s (behind k') x)) (sym n))))
 
-    by_kind : (k' : Kind) → IsLegal s w limit (behind k') → concerns x k' ≡ true
+    by_kind : (k' : Kind) → KeepsRules s w limit (behind k') → concerns x k' ≡ true
         → sleeps s (behind k') x ≡ unless_ended (ended s (behind k') x) (slept_in (clock past) k')
     by_kind (Answer n a) l c' =
         let r = entry-actor s limit past v x (Answer n a) (legal-may s w limit (record { worker = v; kind = Answer n a }) past l) c' refl in
@@ -299,7 +299,7 @@ no-tick (Tick t) h n = absurd (cc h)
 no-tick _ h n = refl
 
 -- by such an entry the sleepers stay as they were
-pub sleeps-stay : (s : Plan) (laws : PlanLaws s) (w limit v : ℕ) (k : Kind) (past : Past) (x : ℕ) → IsLegal s w limit ((record { worker = v; kind = k }) ∷ past)
+pub sleeps-stay : (s : Plan) (laws : PlanLaws s) (w limit v : ℕ) (k : Kind) (past : Past) (x : ℕ) → KeepsRules s w limit ((record { worker = v; kind = k }) ∷ past)
     → moves_sleepers k ≡ false → sleeps s ((record { worker = v; kind = k }) ∷ past) x ≡ sleeps s past x
 sleeps-stay s laws w limit v k past x legal h = elim (cases_Bool (concerns x k)) [
   | inl c ↦ sleeps-own s w limit v x k past legal c

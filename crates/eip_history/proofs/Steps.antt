@@ -4,7 +4,7 @@ use Rattle.eip_ledger.specs.declared.entry.Entry.{Entry}
 use Rattle.eip_history.specs.Plan.{Plan}
 use Rattle.eip_history.specs.Own.{Past, Idle, source_state, clock, ticked, turns}
 use Rattle.eip_history.specs.Births.{story, groups, grouped}
-use Rattle.eip_history.specs.Rules.{IsLegal}
+use Rattle.eip_history.specs.Rules.{KeepsRules}
 use Rattle.eip_history.specs.Stop.{first_fault, fault_in, or_else, IsPlain, actor, is_of}
 
 pub source-none : (t : ℕ) → source_state t [] ≡ Idle
@@ -40,8 +40,8 @@ pub fault-more : (e : Entry) (past : Past) → first_fault (e ∷ past) ≡ or_e
 unfolding first_fault
 fault-more e past = refl
 
-pub legal-none : (s : Plan) (w limit : ℕ) → IsLegal s w limit []
-unfolding IsLegal
+pub legal-none : (s : Plan) (w limit : ℕ) → KeepsRules s w limit []
+unfolding KeepsRules
 legal-none s w limit = tt
 
 pub plain-none : (s : Plan) → IsPlain s []

@@ -14,7 +14,7 @@ use Rattle.eip_history.specs.Own.{Past, clock}
 use Rattle.eip_history.specs.Groups.{Group, due_of, closed_by, is_due}
 use Rattle.eip_history.specs.Births.{story, births, groups, group_births}
 use Rattle.eip_history.specs.Place.{place_of}
-use Rattle.eip_history.specs.Rules.{IsLegal, dues, least, or_least, retry_due}
+use Rattle.eip_history.specs.Rules.{KeepsRules, dues, least, or_least, retry_due}
 use Rattle.eip_history.specs.Laws.{PlanLaws}
 use Rattle.eip_history.specs.Work.{weight, weigh, open_count, births_work, work}
 use Rattle.eip_history.proofs.Unborn.{legal-tail, legal-may, newborn-own}
@@ -93,7 +93,7 @@ tick-clock : (v t : ℕ) (past : Past) → clock ((record { worker = v; kind = T
 unfolding clock
 tick-clock v t past = refl
 
-wakes : (s : Plan) (w limit v t j : ℕ) (past : Past) (b : Birth) → IsLegal s w limit ((record { worker = v; kind = Tick t }) ∷ past) → clock past ≤ t
+wakes : (s : Plan) (w limit v t j : ℕ) (past : Past) (b : Birth) → KeepsRules s w limit ((record { worker = v; kind = Tick t }) ∷ past) → clock past ≤ t
     → slice_get (births s past) j ≡ Some b → retry_due (place_of s past b) ≡ Some t
     → weigh (λ (d : Birth). weight (place_of s ((record { worker = v; kind = Tick t }) ∷ past) d)) (births s past) < births_work s past
 unfolding births_work
@@ -106,7 +106,7 @@ wakes s w limit v t j past b legal l at due =
     weigh-less (λ (d : Birth). weight (place_of s past d)) (λ (d : Birth). weight (place_of s (e ∷ past) d)) (births s past) j b at less
     (λ i d at_d. weight-other s w limit e past d legal refl (omega (arith, l, c)))
 
-pub falls-tick : (s : Plan) (laws : PlanLaws s) (w limit v t : ℕ) (past : Past) → IsLegal s w limit ((record { worker = v; kind = Tick t }) ∷ past)
+pub falls-tick : (s : Plan) (laws : PlanLaws s) (w limit v t : ℕ) (past : Past) → KeepsRules s w limit ((record { worker = v; kind = Tick t }) ∷ past)
     → clock past ≤ t → work s ((record { worker = v; kind = Tick t }) ∷ past) < work s past
 unfolding births_work
 falls-tick s laws w limit v t past legal l =

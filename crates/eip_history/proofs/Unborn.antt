@@ -13,16 +13,16 @@ use Rattle.eip_history.specs.Plan.{Plan}
 use Rattle.eip_history.specs.Own.{Past, own, concerns, numbered}
 use Rattle.eip_history.specs.Births.{Asked, births, asked, asked_of, asked_by, fate, made_at}
 use Rattle.eip_history.specs.Place.{place, place_of, numbers_at, is_in, number_of}
-use Rattle.eip_history.specs.Rules.{IsLegal, May, first}
+use Rattle.eip_history.specs.Rules.{KeepsRules, May, first}
 use Rattle.eip_history.specs.Tables.{AreNumberedFrom}
 use Rattle.eip_history.proofs.Told.{own-other, births-more, births-numbered}
 
-pub legal-tail : (s : Plan) (w limit : ℕ) (e : Entry) (past : Past) → IsLegal s w limit (e ∷ past) → IsLegal s w limit past
-unfolding IsLegal
+pub legal-tail : (s : Plan) (w limit : ℕ) (e : Entry) (past : Past) → KeepsRules s w limit (e ∷ past) → KeepsRules s w limit past
+unfolding KeepsRules
 legal-tail s w limit e past l = l.0
 
-pub legal-may : (s : Plan) (w limit : ℕ) (e : Entry) (past : Past) → IsLegal s w limit (e ∷ past) → May s limit past e.worker e.kind
-unfolding IsLegal
+pub legal-may : (s : Plan) (w limit : ℕ) (e : Entry) (past : Past) → KeepsRules s w limit (e ∷ past) → May s limit past e.worker e.kind
+unfolding KeepsRules
 legal-may s w limit e past l = l.2
 
 pub option-some : {A B : Type 0} (f : A → B) (o : Option A) (y : B) → option_map f o ≡ Some y → (x : A) × (o ≡ Some x) × (f x ≡ y)
@@ -94,14 +94,14 @@ silent-step s limit e past x may l = elim (cases_Bool (concerns x e.kind)) [
   | inr f ↦ f
 ]
 
-pub unborn-own : (s : Plan) (w limit : ℕ) (past : Past) (x : ℕ) → IsLegal s w limit past → length (births s past) < x → own x past ≡ []
+pub unborn-own : (s : Plan) (w limit : ℕ) (past : Past) (x : ℕ) → KeepsRules s w limit past → length (births s past) < x → own x past ≡ []
 unborn-own s w limit [] x legal l = own-none x
 unborn-own s w limit (e ∷ past) x legal l =
     let l' : length (births s past) < x = omega (arith, l, births-grow s e past) in
     own-other x e past (silent-step s limit e past x (legal-may s w limit e past legal) l') ∙ unborn-own s w limit past x (legal-tail s w limit e past legal) l'
 
 -- nor has the newborn
-pub newborn-own : (s : Plan) (w limit : ℕ) (e : Entry) (past : Past) (x : ℕ) → IsLegal s w limit (e ∷ past) → length (births s past) < x → own x (e ∷ past) ≡ []
+pub newborn-own : (s : Plan) (w limit : ℕ) (e : Entry) (past : Past) (x : ℕ) → KeepsRules s w limit (e ∷ past) → length (births s past) < x → own x (e ∷ past) ≡ []
 newborn-own s w limit e past x legal l =
     own-other x e past (silent-step s limit e past x (legal-may s w limit e past legal) l) ∙ unborn-own s w limit past x (legal-tail s w limit e past legal) l
 

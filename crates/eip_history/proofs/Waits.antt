@@ -11,7 +11,7 @@ use Rattle.eip_history.specs.Own.{Past, numbered}
 use Rattle.eip_history.specs.Groups.{Group, due_of, is_forced}
 use Rattle.eip_history.specs.Births.{births, groups}
 use Rattle.eip_history.specs.Place.{place_of, numbers_at, count_at, ready_numbers, waiting, hands, is_ready, is_in, is_ended, is_busy, busy, is_born_into, is_startable, number_of, at_place, is_some_first, takes_out, is_taken}
-use Rattle.eip_history.specs.Rules.{IsLegal, IsQuiet, dues, least, retry_due, startable, unfinished, any_group, first}
+use Rattle.eip_history.specs.Rules.{KeepsRules, IsQuiet, dues, least, retry_due, startable, unfinished, any_group, first}
 use Rattle.eip_history.specs.Stop.{is_over, unended, will_close}
 use Rattle.eip_history.specs.Laws.{PlanLaws}
 use Rattle.eip_history.proofs.Stuck.{none-at, none-from, map-none, length-none, append-none, some-none-at, below-none, least-none, Standing, InEnd, InQueue, Held, Asleep, Waits, Able, standing}
@@ -49,7 +49,7 @@ queue-not-busy q r = by_test (r == q)
     by_test true = refl
     by_test false = refl
 
-not-busy : (s : Plan) (w limit : ℕ) (past : Past) (q x : ℕ) (b : Birth) → IsLegal s w limit past → AllRest s past
+not-busy : (s : Plan) (w limit : ℕ) (past : Past) (q x : ℕ) (b : Birth) → KeepsRules s w limit past → AllRest s past
     → numbered (births s past) x ≡ Some b → is_busy q b (place_of s past b) ≡ false
 not-busy s w limit past q x b legal rest at = by_standing (standing s past b)
   where
@@ -61,7 +61,7 @@ not-busy s w limit past q x b legal rest at = by_standing (standing s past b)
     by_standing (Able p) = absurd (rest.no_ready x b at p)
     by_standing (Waits f c la a p) = absurd (no-joining s w limit past legal rest (suc (length (births s past))) x b at (omega arith) p)
 
-busy-none : (s : Plan) (w limit : ℕ) (past : Past) (q : ℕ) → IsLegal s w limit past → AllRest s past → busy s past q ≡ 0
+busy-none : (s : Plan) (w limit : ℕ) (past : Past) (q : ℕ) → KeepsRules s w limit past → AllRest s past → busy s past q ≡ 0
 unfolding busy
 busy-none s w limit past q legal rest =
     ap length (none-from (λ (b : Birth). is_busy q b (place_of s past b)) (births s past) (λ i b h. not-busy s w limit past q (suc i) b legal rest h))
@@ -75,7 +75,7 @@ unfolding startable
 startable-at s past q e l = below-none (λ r. s.is_queue r && is_startable s past r) s.routes q e l
 
 -- nobody waits in a queue
-no-queue : (s : Plan) (laws : PlanLaws s) (w limit : ℕ) (past : Past) (q x : ℕ) (b : Birth) → IsLegal s w limit past → IsQuiet s past → AllRest s past
+no-queue : (s : Plan) (laws : PlanLaws s) (w limit : ℕ) (past : Past) (q x : ℕ) (b : Birth) → KeepsRules s w limit past → IsQuiet s past → AllRest s past
     → numbered (births s past) x ≡ Some b → b.origin ≡ from.Queue q → place_of s past b ≡ place_is.Queue q → ⊥
 no-queue s laws w limit past q zero b legal quiet rest at o p = cc at
 no-queue s laws w limit past q (suc i) b legal quiet rest at o p =
@@ -87,7 +87,7 @@ no-queue s laws w limit past q (suc i) b legal quiet rest at o p =
     ≡ true = lt-ltb (busy s past q) (s.queue q).consumers (omega (arith, busy-none s w limit past q legal rest, laws.consumers q)) in
     let g = rw (known.1, waits, free) at st in cc g
 
-ended-all : (s : Plan) (laws : PlanLaws s) (w limit : ℕ) (past : Past) (x : ℕ) (b : Birth) → IsLegal s w limit past → IsQuiet s past → AllRest s past
+ended-all : (s : Plan) (laws : PlanLaws s) (w limit : ℕ) (past : Past) (x : ℕ) (b : Birth) → KeepsRules s w limit past → IsQuiet s past → AllRest s past
     → numbered (births s past) x ≡ Some b → not (is_ended (place_of s past b)) ≡ false
 ended-all s laws w limit past x b legal quiet rest at = by_standing (standing s past b)
   where
@@ -99,7 +99,7 @@ ended-all s laws w limit past x b legal quiet rest at = by_standing (standing s 
     by_standing (Able p) = absurd (rest.no_ready x b at p)
     by_standing (Waits f c la a p) = absurd (no-joining s w limit past legal rest (suc (length (births s past))) x b at (omega arith) p)
 
-unended-none : (s : Plan) (laws : PlanLaws s) (w limit : ℕ) (past : Past) → IsLegal s w limit past → IsQuiet s past → AllRest s past → unended s past ≡ 0
+unended-none : (s : Plan) (laws : PlanLaws s) (w limit : ℕ) (past : Past) → KeepsRules s w limit past → IsQuiet s past → AllRest s past → unended s past ≡ 0
 unfolding count_at
 unended-none s laws w limit past legal quiet rest =
     ap length (none-from (λ (b : Birth). not (is_ended (place_of s past b))) (births s past) (λ i b h. ended-all s laws w limit past (suc i) b legal quiet rest h))
@@ -123,7 +123,7 @@ unfolding dues
 dues-groups s past e = (append-none (filter_map (λ (c : Birth). retry_due (place_of s past c)) (births s past)) (filter_map (due_of s) (groups s past)) e).1
 
 -- where nobody may act, nothing waits
-pub nothing-waits : (s : Plan) (laws : PlanLaws s) (w limit : ℕ) (past : Past) → IsLegal s w limit past → IsQuiet s past → least (dues s past) ≡ None
+pub nothing-waits : (s : Plan) (laws : PlanLaws s) (w limit : ℕ) (past : Past) → KeepsRules s w limit past → IsQuiet s past → least (dues s past) ≡ None
     → any_group (is_forced s) (groups s past) ≡ false → is_over s past ≡ true
 unfolding is_over
 nothing-waits s laws w limit past legal quiet none force =
@@ -141,7 +141,7 @@ pub data Acts (s : Plan) (limit : ℕ) (past : Past) : Type 0 where
   Forces : IsQuiet s past → least (dues s past) ≡ None → any_group (is_forced s) (groups s past) ≡ true → Acts s limit past
 
 -- no state is stuck
-pub not-stuck : (s : Plan) (laws : PlanLaws s) (w limit : ℕ) (past : Past) → IsLegal s w limit past → hands s past ≡ 0 → is_over s past ≡ false
+pub not-stuck : (s : Plan) (laws : PlanLaws s) (w limit : ℕ) (past : Past) → KeepsRules s w limit past → hands s past ≡ 0 → is_over s past ≡ false
     → Acts s limit past
 not-stuck s laws w limit past legal home e = by_ready (ready_numbers s past) refl
   where

@@ -23,7 +23,6 @@ use Rattle.eip_history.specs.Births.{story, fate, births}
 use Rattle.eip_history.specs.Place.{place_of, ended, numbers_at, count_at, busy, pulls_out, takes_out}
 use Rattle.eip_history.specs.Rules.{served, holders, holder_of, unfinished, startable, dues}
 use Rattle.eip_history.specs.Stop.{first_fault, is_over, stop_of}
-use Rattle.eip_history.specs.Texts.{Sent, calls, Item, Bad, given}
 use Rattle.eip_history.specs.Counts.{accepted_count, refused_count}
 use Rattle.eip_history.specs.BookText.{RouteNames, exchange_line, stop_line, log_text_of, exchanges_text, refusals_text, groups_text, summary_text_of, book_text_of}
 use Rattle.eip_history.specs.Owner.{owner, Outlets}
@@ -113,14 +112,6 @@ in_hand_of_one = refl
 pub first_holds : holder_of pair pair_past (codes "r") (codes "k") ≡ Some 1
 unfolding own story fate ended place_of clock served holder_of
 first_holds = refl
-
-pub lane_calls : map (λ (c : Sent). c.outcome) (calls (codes "lane:x") pair pair_past) ≡ reply.Done ∷ reply.SendFailed ∷ []
-unfolding own story fate ended served
-lane_calls = refl
-
-pub second_gave : given 1 pair_past ≡ Item (codes "b1") (plain (codes "b")) ∷ Bad (codes "b2") refused.TooLong ∷ []
-unfolding given
-second_gave = refl
 
 pub turns_spent : turns pair_past ≡ 9
 unfolding turns

@@ -231,7 +231,14 @@ May s limit past w Force = IsQuiet s past × IsBelow s limit past × (least (due
 May s limit past w (Starve x) = (place s past x ≡ Some place_is.Ready) ⊎ (place s past x ≡ Some (place_is.InHand w))
 May s limit past w (Return x) = (w ≡ 0) × ((v : ℕ) × (place s past x ≡ Some (place_is.InHand v)))
 
--- each entry meets its rule on the prefix before it
-unfoldable pub IsLegal : Plan → ℕ → ℕ → Past → Type 0
-IsLegal s workers limit [] = Unit {0}
-IsLegal s workers limit (e ∷ past) = IsLegal s workers limit past × (e.worker ≤ workers) × May s limit past e.worker e.kind
+-- each entry is of one of the workers, and meets its rule on the prefix before it
+unfoldable pub KeepsRules : Plan → ℕ → ℕ → Past → Type 0
+KeepsRules s workers limit [] = Unit {0}
+KeepsRules s workers limit (e ∷ past) = KeepsRules s workers limit past × (e.worker ≤ workers) × May s limit past e.worker e.kind
+
+-- a legal journal: at most 16 workers beside worker 0, a limit of 1 to 1,000,000 turns, and entries that keep their rules
+pub record IsLegal (s : Plan) (workers limit : ℕ) (past : Past) : Type 0 where
+  pub few_workers : workers ≤ 16
+  pub some_turns : 1 ≤ limit
+  pub few_turns : limit ≤ 1000000
+  pub entries : KeepsRules s workers limit past

@@ -1,4 +1,4 @@
--- What is always true of a legal journal.
+-- What is always true of a journal that keeps the rules, as a legal one does.
 use Rattle.std.specs.Prelude.{ℕ, ◌≡◌, ◌≢◌, ◌+◌, ◌<◌, ◌≤◌, ◌⊎◌, Bool, true, List, ◌∷◌, Some, None, is_some, length, filter, map}
 use Rattle.std.specs.List.{flat_map}
 use Rattle.eip_frames.specs.declared.answer.Answer.{Answer as Reply}
@@ -15,7 +15,7 @@ use Rattle.eip_history.specs.Births.{Asked, asked, groups}
 use Rattle.eip_history.specs.Pieces.{Mark, marked, is_of_key}
 use Rattle.eip_history.specs.Place.{ended, hands}
 use Rattle.eip_history.specs.Plan.{Plan}
-use Rattle.eip_history.specs.Rules.{IsLegal, IsBelow, Claim, claims, is_holding}
+use Rattle.eip_history.specs.Rules.{KeepsRules, IsBelow, Claim, claims, is_holding}
 use Rattle.eip_history.specs.Keys.{IsKeyAnswer, is_eager_of}
 use Rattle.eip_history.specs.Stop.{stop_of}
 use Rattle.eip_history.specs.Work.{work}
@@ -23,34 +23,34 @@ use Rattle.eip_history.proofs.Waits.{Acts}
 
 -- where no hand is out and no stop is met, turns are left and somebody may act
 abbrev pub SomebodyActs : Type 0
-SomebodyActs = (s : Plan) → PlanLaws s → (workers limit : ℕ) (past : Past) → IsLegal s workers limit past → hands s past ≡ 0 → stop_of s limit past ≡ None
+SomebodyActs = (s : Plan) → PlanLaws s → (workers limit : ℕ) (past : Past) → KeepsRules s workers limit past → hands s past ≡ 0 → stop_of s limit past ≡ None
     → IsBelow s limit past × Acts s limit past
 
 -- each entry but a Return is a turn, or there is less left to do behind it
 abbrev pub TurnOrProgress : Type 0
-TurnOrProgress = (s : Plan) → PlanLaws s → (workers limit worker : ℕ) (k : Kind) (past : Past) → IsLegal s workers limit ((record { worker = worker; kind = k }) ∷ past)
+TurnOrProgress = (s : Plan) → PlanLaws s → (workers limit worker : ℕ) (k : Kind) (past : Past) → KeepsRules s workers limit ((record { worker = worker; kind = k }) ∷ past)
     → ((x : ℕ) → k ≢ Return x)
     → (turns ((record { worker = worker; kind = k }) ∷ past) ≡ turns past + 1) ⊎ (work s ((record { worker = worker; kind = k }) ∷ past) < work s past)
 
 -- who has ended has ended behind each further entry
 abbrev pub EndsOnce : Type 0
-EndsOnce = (s : Plan) (workers limit : ℕ) (e : Entry) (past : Past) (x : ℕ) → IsLegal s workers limit (e ∷ past) → is_some (ended s past x) ≡ true
+EndsOnce = (s : Plan) (workers limit : ℕ) (e : Entry) (past : Past) (x : ℕ) → KeepsRules s workers limit (e ∷ past) → is_some (ended s past x) ≡ true
     → is_some (ended s (e ∷ past) x) ≡ true
 
 -- no two eager claims hold one key
 abbrev pub OneEagerHolder : Type 0
-OneEagerHolder = (s : Plan) (workers limit : ℕ) (past : Past) (repository key : List ℕ) → IsLegal s workers limit past
+OneEagerHolder = (s : Plan) (workers limit : ℕ) (past : Past) (repository key : List ℕ) → KeepsRules s workers limit past
     → length (filter (is_eager_of s past repository key) (claims s past)) ≤ 1
 
 -- an offered key is answered Fresh where nobody holds it, else Duplicate of its least holder
 abbrev pub KeysAnswered : Type 0
 KeysAnswered = (s : Plan) (workers limit worker x : ℕ) (a : Reply) (past : Past) (k : Asked) (repository key : List ℕ) (eager remove : Bool)
-    → IsLegal s workers limit ((record { worker = worker; kind = Answer x a }) ∷ past) → asked s past x ≡ Some k
+    → KeepsRules s workers limit ((record { worker = worker; kind = Answer x a }) ∷ past) → asked s past x ≡ Some k
     → k.request ≡ Idem repository key eager remove → IsKeyAnswer s past repository key a
 
 -- whether a claim of who has ended holds its key, no further entry changes
 abbrev pub HeldForEver : Type 0
-HeldForEver = (s : Plan) (workers limit : ℕ) (e : Entry) (past : Past) (c : Claim) → IsLegal s workers limit (e ∷ past)
+HeldForEver = (s : Plan) (workers limit : ℕ) (e : Entry) (past : Past) (c : Claim) → KeepsRules s workers limit (e ∷ past)
     → is_some (ended s past c.number) ≡ true → is_holding s (e ∷ past) c ≡ is_holding s past c
 
 -- the parts of the groups of an aggregator and key, group by group, are its arrivals in the journal's order

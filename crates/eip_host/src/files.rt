@@ -1,27 +1,26 @@
-ghost use Rattle.std.specs.Prelude.{◌≡◌, ◌≢◌, ◌<◌, ℕ, List, Result, Some, length, IfOk, IfSome, string_bytes};
-ghost use Rattle.std.specs.IoError.{error_kind};
-ghost use Rattle.std.specs.declared.io.Error.{Error as SystemError};
+ghost use Rattle.std.specs.Prelude.{◌≡◌, ◌≢◌, ◌<◌, Some, length, IfOk, IfSome, IsTrue, string_bytes};
 ghost use Rattle.eip_text.specs.Causes.{Rises};
 ghost use Rattle.eip_endpoint.specs.Content.{IfTold};
-ghost use Rattle.eip_endpoint.specs.Files.{read_of, bytes_at, IsWithin, files_failure};
+ghost use Rattle.eip_endpoint.specs.Files.{read_of, bytes_at, is_there, IsWithin, IsAscending, AreNamesIn, others, moved, Changes, Writes, files_failure};
 ghost use Rattle.eip_host.specs.Paths.{path_of, untold_files, IsUnopened, WasTried};
 
+use crate::output::put_all;
 use crate::reading::{ReadFault, new_piece, read_behind};
-use eip_endpoint::{FileRead, Files, FilesFault};
+use crate::system::FileSystem;
+use eip_endpoint::{FileRead, Files, FilesFault, Mover, in_byte_order};
 use eip_text::{NoMemory, Series, Text};
-use std::alloc::Global;
+use std::alloc::{AllocError, Global};
 use std::io::{Error, ErrorKind, Read};
-use std::{fs, rt};
 
 /// The path of a file: its folder, `/` and its name.
-fn path_of(alloc: Global, folder: &Text, name: &Text) -> Result<String, NoMemory>
+fn joined(alloc: Global, folder: &str, name: &str) -> Result<String, AllocError>
     ensures { IfOk result (λ path. string_bytes path ≡ path_of folder.now name.now) }
 {
-    let mut path = String::from_str(alloc, folder.as_str())?;
-    if folder.as_str() != "/" {
+    let mut path = String::from_str(alloc, folder)?;
+    if folder != "/" {
         path.push_str("/")?;
     }
-    path.push_str(name.as_str())?;
+    path.push_str(name)?;
     Ok(path)
 }
 
@@ -78,33 +77,15 @@ pub fn read_within<R: Read>(
     }
 }
 
-/// What opens files by their paths, as a system does.
-pub trait FileSystem {
-    /// What an opened file is read by.
-    type File: Read + Drop;
-
-    /// What opening a path may give.
-    ghost opens: { Self → List ℕ → Result Self.File SystemError → Type 0 };
-
-    /// Opens the file of a path for reading.
-    fn open(&self, path: &str) -> Result<Self::File, Error>
-        ensures { opens self.now path.now result };
-}
-
-/// The host's files, by a runtime. They don't tell what opening a path gives.
-#[derive(Drop)]
-pub struct HostFileSystem<'r, R> {
-    pub runtime: &'r R,
-}
-
-impl<'r, R: rt::Files> FileSystem for HostFileSystem<'r, R> {
-    type File = R::File;
-
-    ghost opens = { λ _ _ _. Unit {0} };
-
-    fn open(&self, path: &str) -> Result<R::File, Error> {
-        fs::open(self.runtime, path)
+/// The names in byte order.
+fn ordered(alloc: Global, names: &[String]) -> Result<Vec<Text>, NoMemory>
+    ensures { IfOk result (λ texts. IsAscending texts.items) }
+{
+    let mut borrowed = Vec::new(alloc);
+    for name in names {
+        borrowed.push(name.as_str())?;
     }
+    in_byte_order(alloc, borrowed)
 }
 
 /// The files of a system, each under the path of its folder and its name. They tell no content.
@@ -138,12 +119,136 @@ impl<D: FileSystem> HostFiles<D> {
         ensures within { IfOk result (IsWithin limit) }
         ensures tried { result ≢ Err FilesFault.NoMemory → WasTried (D.opens self.now.system) D.File.remaining (path_of folder.now name.now) limit result }
     {
-        let Ok(path) = path_of(self.alloc, folder, name) else {
+        let Ok(path) = joined(self.alloc, folder.as_str(), name.as_str()) else {
             return Err(FilesFault::NoMemory);
         };
         match self.system.open(path.as_str()) {
             Ok(mut file) => read_within(self.alloc, &mut file, limit),
             Err(error) => unopened(&error),
+        }
+    }
+
+    /// Counts a call by its answer.
+    fn count<T>(&mut self, answer: &Result<T, FilesFault>)
+        ensures faults { Rises (files_failure answer.now) self.old.faults self.new.faults }
+    {
+        if let Err(FilesFault::Failed) = answer {
+            self.faults = self.faults.saturating_add(1);
+        }
+    }
+
+    /// The names of the plain files of a folder, none where it is not there.
+    fn names(&self, folder: &Text) -> Result<Vec<String>, Error> {
+        let found = match self.system.names(self.alloc, folder.as_str()) {
+            Ok(names) => names,
+            Err(error) if error.kind() == ErrorKind::NotFound => Vec::new(self.alloc),
+            Err(error) => return Err(error),
+        };
+        let mut names = Vec::new(self.alloc);
+        for name in found {
+            let path = joined(self.alloc, folder.as_str(), name.as_str())?;
+            if self.system.is_file(path.as_str())? {
+                names.push(name)?;
+            }
+        }
+        Ok(names)
+    }
+
+    /// What listing a folder answers.
+    fn listing(&self, folder: &Text) -> Result<Vec<Text>, FilesFault>
+        ensures { IfOk result (λ names. IsAscending names.items) }
+    {
+        let names = match self.names(folder) {
+            Ok(names) => names,
+            Err(error) if error.kind() == ErrorKind::OutOfMemory => {
+                return Err(FilesFault::NoMemory);
+            }
+            Err(_) => return Err(FilesFault::Failed),
+        };
+        match ordered(self.alloc, names.as_slice()) {
+            Ok(names) => Ok(names),
+            Err(NoMemory) => Err(FilesFault::NoMemory),
+        }
+    }
+
+    /// Whether the path of a file is one.
+    fn is_there(&self, folder: &Text, name: &Text) -> Result<bool, FilesFault> {
+        let Ok(path) = joined(self.alloc, folder.as_str(), name.as_str()) else {
+            return Err(FilesFault::NoMemory);
+        };
+        match self.system.is_file(path.as_str()) {
+            Ok(there) => Ok(there),
+            Err(_) => Err(FilesFault::Failed),
+        }
+    }
+
+    /// Opens a file for writing. Its folder is made where it is not there.
+    fn open_to_write(&self, folder: &str, path: &str, append: bool) -> Result<D::File, Error> {
+        match self.system.open_to_write(path, append) {
+            Ok(file) => Ok(file),
+            Err(error) if error.kind() == ErrorKind::NotFound => {
+                self.system.make_folder(folder)?;
+                self.system.open_to_write(path, append)
+            }
+            Err(error) => Err(error),
+        }
+    }
+
+    /// Opens the path of a file and writes all of the bytes.
+    fn open_and_write(
+        &self,
+        folder: &Text,
+        name: &Text,
+        bytes: &[u8],
+        append: bool,
+    ) -> Result<(), FilesFault> {
+        let Ok(path) = joined(self.alloc, folder.as_str(), name.as_str()) else {
+            return Err(FilesFault::NoMemory);
+        };
+        let Ok(mut file) = self.open_to_write(folder.as_str(), path.as_str(), append) else {
+            return Err(FilesFault::Failed);
+        };
+        if put_all(&mut file, bytes) {
+            Ok(())
+        } else {
+            Err(FilesFault::Failed)
+        }
+    }
+
+    /// Gives a file another path. The folder of that path is made where it is not there.
+    fn rename_into(&self, from: &str, folder: &str, to: &str) -> Result<(), Error> {
+        match self.system.rename(from, to) {
+            Ok(()) => Ok(()),
+            Err(error) if error.kind() == ErrorKind::NotFound => {
+                self.system.make_folder(folder)?;
+                self.system.rename(from, to)
+            }
+            Err(error) => Err(error),
+        }
+    }
+
+    /// Moves a file to another folder.
+    fn move_to(&self, folder: &Text, name: &Text, to: &Text) -> Result<(), FilesFault> {
+        let Ok(from) = joined(self.alloc, folder.as_str(), name.as_str()) else {
+            return Err(FilesFault::NoMemory);
+        };
+        let Ok(path) = joined(self.alloc, to.as_str(), name.as_str()) else {
+            return Err(FilesFault::NoMemory);
+        };
+        match self.rename_into(from.as_str(), to.as_str(), path.as_str()) {
+            Ok(()) => Ok(()),
+            Err(_) => Err(FilesFault::Failed),
+        }
+    }
+
+    /// Removes the path of a file.
+    fn take_away(&self, folder: &Text, name: &Text) -> Result<(), FilesFault> {
+        let Ok(path) = joined(self.alloc, folder.as_str(), name.as_str()) else {
+            return Err(FilesFault::NoMemory);
+        };
+        match self.system.remove(path.as_str()) {
+            Ok(()) => Ok(()),
+            Err(_) => Err(FilesFault::Failed),
         }
     }
 }
@@ -152,6 +257,29 @@ impl<D: FileSystem> Files for HostFiles<D> {
     ghost files = { λ _. untold_files };
 
     ghost files_faults = { λ f. f.faults };
+
+    /// The names of the plain files of a folder, and of links to such.
+    fn list(&mut self, folder: &Text) -> Result<Vec<Text>, FilesFault>
+        ensures same { untold_files ≡ untold_files }
+        ensures names { IfOk result (λ names. IfTold untold_files (AreNamesIn folder.now names.items)) }
+        ensures ascending { IfOk result (λ names. IsAscending names.items) }
+        ensures faults { Rises (files_failure result) self.old.faults self.new.faults }
+    {
+        let answer = self.listing(folder);
+        self.count(&answer);
+        answer
+    }
+
+    /// Whether the path of a folder and a name is that of a plain file, or of a link to one.
+    fn has(&mut self, folder: &Text, name: &Text) -> Result<bool, FilesFault>
+        ensures same { untold_files ≡ untold_files }
+        ensures has { IfOk result (λ there. IfTold untold_files (λ all. there ≡ is_there folder.now name.now all)) }
+        ensures faults { Rises (files_failure result) self.old.faults self.new.faults }
+    {
+        let answer = self.is_there(folder, name);
+        self.count(&answer);
+        answer
+    }
 
     /// Reads the file under the path of its folder and its name: `Missing` exactly where opening that path gave
     /// `NotFound`, and `Failed` where it gave another error or the file could not be read.
@@ -163,9 +291,47 @@ impl<D: FileSystem> Files for HostFiles<D> {
         ensures tried { result ≢ Err FilesFault.NoMemory → WasTried (D.opens self.old.system) D.File.remaining (path_of folder.now name.now) limit result }
     {
         let answer = self.open_and_read(folder, name, limit);
-        if let Err(FilesFault::Failed) = answer {
-            self.faults = self.faults.saturating_add(1);
-        }
+        self.count(&answer);
+        answer
+    }
+
+    /// Writes a file. The folders that are not there are made.
+    fn write(
+        &mut self,
+        folder: &Text,
+        name: &Text,
+        bytes: &[u8],
+        append: bool,
+    ) -> Result<(), FilesFault>
+        ensures written { Writes folder.now name.now bytes.now append untold_files result untold_files }
+        ensures faults { Rises (files_failure result) self.old.faults self.new.faults }
+    {
+        let answer = self.open_and_write(folder, name, bytes, append);
+        self.count(&answer);
+        answer
+    }
+}
+
+impl<D: FileSystem> Mover for HostFiles<D> {
+    /// Moves a file to another folder, which is made where it is not there.
+    fn rename(&mut self, folder: &Text, name: &Text, to: &Text) -> Result<(), FilesFault>
+        ensures there { IfOk result (λ _. IfTold untold_files (λ all. IsTrue (is_there folder.now name.now all))) }
+        ensures moved { Changes (moved folder.now name.now to.now) untold_files result untold_files }
+        ensures faults { Rises (files_failure result) self.old.faults self.new.faults }
+    {
+        let answer = self.move_to(folder, name, to);
+        self.count(&answer);
+        answer
+    }
+
+    /// Removes the file under the path of its folder and its name.
+    fn remove(&mut self, folder: &Text, name: &Text) -> Result<(), FilesFault>
+        ensures there { IfOk result (λ _. IfTold untold_files (λ all. IsTrue (is_there folder.now name.now all))) }
+        ensures removed { Changes (others folder.now name.now) untold_files result untold_files }
+        ensures faults { Rises (files_failure result) self.old.faults self.new.faults }
+    {
+        let answer = self.take_away(folder, name);
+        self.count(&answer);
         answer
     }
 }

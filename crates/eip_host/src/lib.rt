@@ -6,9 +6,11 @@ pub mod files;
 pub mod lines;
 pub mod output;
 mod reading;
+pub mod system;
 pub mod words;
 
-pub use files::{FileSystem, HostFileSystem, HostFiles};
+pub use files::HostFiles;
 pub use lines::LineSource;
 pub use output::{Output, say};
+pub use system::{FileSystem, HostFileSystem};
 pub use words::{Question, question_of, words_of};

@@ -7,7 +7,7 @@ use eip_endpoint::{Sink, SinkFault};
 use std::io::Write;
 
 /// Writes all of the bytes, and says whether that was done. Where it was not, the front of them may be written.
-fn put_all<W: Write>(writer: &mut W, bytes: &[u8]) -> bool
+pub fn put_all<W: Write>(writer: &mut W, bytes: &[u8]) -> bool
     ensures put { Put (W.contents writer.old) bytes.now result (W.contents writer.new) }
     ensures empty { bytes.now ≡ [] → IsTrue result }
 {

@@ -234,7 +234,7 @@ fn output_of(alloc: Global, failing: u64) -> Output<Kept> {
 fn a_piece_is_written_to_its_end(rt: HostRuntime) -> Result<(), Fail> {
     let mut out = output_of(rt.alloc(), 0);
     assert!(rt; out.write(b"abcde").is_ok());
-    assert_eq!(rt; say(&mut out, "f\n", 0), 0);
+    assert!(rt; say(&mut out, "f\n", 0) == 0);
     assert!(rt; out.writer.bytes.as_slice() == b"abcdef\n".as_slice());
     Ok(())
 }
@@ -243,10 +243,10 @@ fn a_piece_is_written_to_its_end(rt: HostRuntime) -> Result<(), Fail> {
 fn a_failed_writing_is_counted_behind_the_front(rt: HostRuntime) -> Result<(), Fail> {
     let mut out = output_of(rt.alloc(), 2);
     assert!(rt; out.write(b"abcde") == Err(SinkFault::Failed));
-    assert_eq!(rt; out.faults, 1);
+    assert!(rt; out.faults == 1);
     assert!(rt; out.writer.bytes.as_slice() == b"ab".as_slice());
-    assert_eq!(rt; say(&mut output_of(rt.alloc(), 1), "x", 0), 2);
-    assert_eq!(rt; say(&mut output_of(rt.alloc(), 1), "x", 5), 5);
+    assert!(rt; say(&mut output_of(rt.alloc(), 1), "x", 0) == 2);
+    assert!(rt; say(&mut output_of(rt.alloc(), 1), "x", 5) == 5);
     Ok(())
 }
 
@@ -300,10 +300,10 @@ fn a_file_of_the_system_is_read(rt: HostRuntime) -> Result<(), Fail> {
     assert!(rt; matches!(read, Ok(FileRead::TooLong)));
     let read = read_at(alloc, &mut files, ".", "b.json", 2);
     assert!(rt; matches!(read, Ok(FileRead::Missing)));
-    assert_eq!(rt; files.faults, 0);
+    assert!(rt; files.faults == 0);
     let read = read_at(alloc, &mut files, "/", ".", 2);
     assert!(rt; matches!(read, Err(FilesFault::Failed)));
-    assert_eq!(rt; files.faults, 1);
+    assert!(rt; files.faults == 1);
     Ok(())
 }
 
@@ -326,6 +326,6 @@ fn the_page_of_help_tells_each_command_and_status(rt: HostRuntime) -> Result<(),
     for part in TOLD {
         assert!(rt; HELP.contains(part), "no {part}");
     }
-    assert_eq!(rt; VERSION, "eip 0.1.0\n");
+    assert!(rt; VERSION == "eip 0.1.0\n");
     Ok(())
 }

@@ -44,6 +44,8 @@ impl Hub {
     /// The hub of a run that has no entry yet, for workers with the numbers 0 to `workers` and at most `turns` turns.
     pub fn new(alloc: Global, set: RouteSet, workers: u32, turns: u32) -> Result<Hub, NoMemory>
         requires few { length set.routes ≤ 256 }
+        requires workers { workers ≤ 16 }
+        requires some { 1 ≤ turns }
         requires limit { turns ≤ 1000000 }
         ensures set { IfOk result (λ h. h.set ≡ set) }
         ensures workers { IfOk result (λ h. h.journal.workers ≡ workers) }

@@ -39,19 +39,22 @@ fn is_listed(
     Ok(text.as_str() == want)
 }
 
+/// Lists between commas, and the endpoints as they are printed.
+const LISTED: [(&str, &str); 6] = [
+    ("log:a, ,log:b", "log:a|log:b|"),
+    ("log:a", "log:a|"),
+    ("", ""),
+    (" ,\t, ", ""),
+    (
+        "\t direct:x \t,seda:q?size=2,,file:out?fileExist=Fail",
+        "direct:x|seda:q?size=2|file:out?fileExist=Fail|",
+    ),
+    ("line:h:7,lane:x", "line:h:7|lane:x|"),
+];
+
 #[test]
 fn a_list_is_cut_trimmed_and_without_empty_items(rt: HostRuntime) -> Result<(), Fail> {
-    for (value, want) in [
-        ("log:a, ,log:b", "log:a|log:b|"),
-        ("log:a", "log:a|"),
-        ("", ""),
-        (" ,\t, ", ""),
-        (
-            "\t direct:x \t,seda:q?size=2,,file:out?fileExist=Fail",
-            "direct:x|seda:q?size=2|file:out?fileExist=Fail|",
-        ),
-        ("line:h:7,lane:x", "line:h:7|lane:x|"),
-    ] {
+    for (value, want) in LISTED {
         assert!(rt; is_listed(rt.alloc(), value, ",", want)?, "of {value}");
     }
     assert!(rt; is_listed(rt.alloc(), "log:a --log:b", "--", "log:a|log:b|")?);
@@ -62,20 +65,22 @@ fn fault_of(alloc: Global, value: &str) -> Option<RecipientFault> {
     listed(alloc, value, ",").err()
 }
 
+/// Lists between commas, and the place of the first item that is refused.
+const UNSENDABLE: [(&str, usize); 7] = [
+    ("log:a, ,LOG:b", 1),
+    ("stream:in", 0),
+    ("log:a,line:listen:7,LOG:b", 1),
+    ("log:a,,log:b,load:3", 2),
+    ("log:a;log:b", 0),
+    ("log:a,seda:q?size=0", 1),
+    ("log:a,log:a b", 1),
+];
+
 #[test]
 fn the_first_item_that_a_message_cannot_be_sent_to_is_refused(rt: HostRuntime) -> Result<(), Fail> {
-    for (value, place) in [
-        ("log:a, ,LOG:b", 1),
-        ("stream:in", 0),
-        ("log:a,line:listen:7,LOG:b", 1),
-        ("log:a,,log:b,load:3", 2),
-        ("log:a;log:b", 0),
-        ("log:a,seda:q?size=0", 1),
-        ("log:a,log:a b", 1),
-    ] {
-        assert_eq!(rt;
-            fault_of(rt.alloc(), value),
-            Some(RecipientFault::BadRecipient(place)),
+    for (value, place) in UNSENDABLE {
+        assert!(rt;
+            fault_of(rt.alloc(), value) == Some(RecipientFault::BadRecipient(place)),
             "of {value}"
         );
     }
@@ -93,19 +98,12 @@ fn count_of(alloc: Global, text: &str, times: usize) -> Result<usize, RecipientF
 
 #[test]
 fn a_list_has_at_most_10000_items(rt: HostRuntime) -> Result<(), Fail> {
-    assert_eq!(rt; count_of(rt.alloc(), "log:a,", 10_000), Ok(10_000));
-    assert_eq!(rt;
-        count_of(rt.alloc(), "log:a,", 10_001),
-        Err(RecipientFault::TooManyParts(10_001))
+    assert!(rt; count_of(rt.alloc(), "log:a,", 10_000) == Ok(10_000));
+    assert!(rt;
+        count_of(rt.alloc(), "log:a,", 10_001) == Err(RecipientFault::TooManyParts(10_001))
     );
-    assert_eq!(rt;
-        count_of(rt.alloc(), "x, ,", 10_001),
-        Err(RecipientFault::TooManyParts(10_001))
-    );
-    assert_eq!(rt;
-        count_of(rt.alloc(), "x,", 10_000),
-        Err(RecipientFault::BadRecipient(0))
-    );
-    assert_eq!(rt; count_of(rt.alloc(), " ,", 32_768), Ok(0));
+    assert!(rt; count_of(rt.alloc(), "x, ,", 10_001) == Err(RecipientFault::TooManyParts(10_001)));
+    assert!(rt; count_of(rt.alloc(), "x,", 10_000) == Err(RecipientFault::BadRecipient(0)));
+    assert!(rt; count_of(rt.alloc(), " ,", 32_768) == Ok(0));
     Ok(())
 }

@@ -7,52 +7,65 @@ use std::test::*;
 const BOTH: &str =
     "[{\"b\":\"hi\",\"h\":[\"Order\",\"1\"],\"p\":[]},{\"b\":\"\",\"h\":[],\"p\":[\"a\",\"\\n\",\"c\",\"\\\"d\\\"\"]}]";
 
-/// The last property and how many properties there are of the last message that a text is packed of.
-fn last_property(alloc: Global, text: &Text) -> Result<(String, usize), PackFault> {
-    let list = unpack(alloc, text)?;
-    let Some(last) = list.last() else {
-        return Err(PackFault::NotPacked);
+/// Whether the last message that a text is packed of has so many properties, the last one with this name and value.
+fn is_last_property(
+    alloc: Global,
+    text: &str,
+    count: usize,
+    wanted: (&str, &str),
+) -> Result<bool, PackFault> {
+    let text = Text::of_str(alloc, text)?;
+    let list = unpack(alloc, &text)?;
+    let Some(message) = list.last() else {
+        return Ok(false);
     };
-    let Some((name, value)) = last.properties.items().last() else {
-        return Err(PackFault::NotPacked);
+    let properties = message.properties.items();
+    let Some((name, value)) = properties.last() else {
+        return Ok(false);
     };
-    let said = format!(in alloc; "{}={}", name.as_str(), value.as_str())?;
-    Ok((said, last.properties.items().len()))
+    Ok(properties.len() == count && (name.as_str(), value.as_str()) == wanted)
 }
 
 /// A text unpacked and packed again.
-fn again(alloc: Global, text: &Text) -> Result<Text, PackFault> {
-    let list = unpack(alloc, text)?;
+fn again(alloc: Global, text: &str) -> Result<Text, PackFault> {
+    let text = Text::of_str(alloc, text)?;
+    let list = unpack(alloc, &text)?;
     Ok(pack(alloc, &list)?)
+}
+
+fn is_same_again(alloc: Global, text: &str) -> Result<bool, PackFault> {
+    Ok(again(alloc, text)?.as_str() == text)
 }
 
 #[test]
 fn packed_messages_are_unpacked_again(rt: HostRuntime) -> Result<(), Fail> {
-    let text = Text::of_str(rt.alloc(), BOTH)?;
-    let (last, count) = last_property(rt.alloc(), &text)?;
-    assert!(rt; last.as_str() == "c=\"d\"");
-    assert_eq!(rt; count, 2);
-    assert!(rt; again(rt.alloc(), &text)?.as_str() == BOTH);
+    assert!(rt; is_last_property(rt.alloc(), BOTH, 2, ("c", "\"d\""))?);
+    assert!(rt; is_same_again(rt.alloc(), BOTH)?);
     Ok(())
 }
 
+/// Texts that no messages are packed to.
+const NOT_PACKED: [&str; 9] = [
+    "{}",
+    "[] ",
+    "[[]]",
+    "[{\"b\":1,\"h\":[],\"p\":[]}]",
+    "[{\"b\":\"x\",\"h\":[\"a\"],\"p\":[]}]",
+    "[{\"h\":[],\"b\":\"x\",\"p\":[]}]",
+    "[{\"b\":\"x\",\"h\":[],\"p\":[],\"q\":[]}]",
+    "[{\"b\": \"x\",\"h\":[],\"p\":[]}]",
+    "[{\"b\":\"\\u0041\",\"h\":[],\"p\":[]}]",
+];
+
+fn is_not_packed(alloc: Global, text: &str) -> bool {
+    matches!(again(alloc, text), Err(PackFault::NotPacked))
+}
+
 #[test]
-fn other_texts_are_not_packed(rt: HostRuntime) -> Result<(), Fail> {
-    for text in [
-        "{}",
-        "[] ",
-        "[[]]",
-        "[{\"b\":1,\"h\":[],\"p\":[]}]",
-        "[{\"b\":\"x\",\"h\":[\"a\"],\"p\":[]}]",
-        "[{\"h\":[],\"b\":\"x\",\"p\":[]}]",
-        "[{\"b\":\"x\",\"h\":[],\"p\":[],\"q\":[]}]",
-        "[{\"b\": \"x\",\"h\":[],\"p\":[]}]",
-        "[{\"b\":\"\\u0041\",\"h\":[],\"p\":[]}]",
-    ] {
-        let text = Text::of_str(rt.alloc(), text)?;
-        assert_eq!(rt; again(rt.alloc(), &text).err(), Some(PackFault::NotPacked));
+fn other_texts_are_not_packed(rt: HostRuntime) {
+    for text in NOT_PACKED {
+        assert!(rt; is_not_packed(rt.alloc(), text), "of {text}");
     }
-    Ok(())
 }
 
 fn key_of(alloc: Global, key: Option<&str>) -> Result<Option<Text>, NoMemory> {
@@ -86,19 +99,31 @@ fn bodies_in_order(alloc: Global, keys: &[Option<&str>]) -> Result<String, NoMem
     Ok(bodies)
 }
 
+fn is_in_order(alloc: Global, keys: &[Option<&str>], want: &str) -> Result<bool, NoMemory> {
+    Ok(bodies_in_order(alloc, keys)?.as_str() == want)
+}
+
+/// Keys, and the bodies in the order in which they go on.
+const ORDERED: [(&[Option<&str>], &str); 2] = [
+    (&[Some("10"), Some("9"), Some("x")], "bac"),
+    (
+        &[
+            Some("b"),
+            None,
+            Some("-3"),
+            Some("7"),
+            Some("007"),
+            Some(""),
+            Some("b"),
+        ],
+        "cdebfag",
+    ),
+];
+
 #[test]
 fn messages_go_on_in_order_of_their_keys(rt: HostRuntime) -> Result<(), Fail> {
-    let rows = [Some("10"), Some("9"), Some("x")];
-    assert!(rt; bodies_in_order(rt.alloc(), &rows)?.as_str() == "bac");
-    let rows = [
-        Some("b"),
-        None,
-        Some("-3"),
-        Some("7"),
-        Some("007"),
-        Some(""),
-        Some("b"),
-    ];
-    assert!(rt; bodies_in_order(rt.alloc(), &rows)?.as_str() == "cdebfag");
+    for (keys, want) in ORDERED {
+        assert!(rt; is_in_order(rt.alloc(), keys, want)?, "want {want}");
+    }
     Ok(())
 }

@@ -43,29 +43,32 @@ fn taking(alloc: Global, clauses: &[&str], kind: &str) -> Result<Option<usize>, 
     Ok(choose(given.as_slice(), &fault))
 }
 
+/// The clauses of most rows, each by its names.
+const CLAUSES: &[&str] = &[
+    "java.lang.Exception",
+    "QueueFull,acme.NotNumber",
+    "org.acme.SendFailed",
+    "SendFailed",
+];
+
+/// Clauses, the kind of a fault, and which clause takes it.
+const TAKEN: [(&[&str], &str, Option<usize>); 8] = [
+    (CLAUSES, "SendFailed", Some(2)),
+    (CLAUSES, "NotNumber", Some(1)),
+    (CLAUSES, "QueueFull", Some(1)),
+    (CLAUSES, "TooLong", Some(0)),
+    (CLAUSES, "Exception", Some(0)),
+    (CLAUSES, "acme.NotNumber", Some(0)),
+    (&["QueueFull", "x.SendFailed"], "TooLong", None),
+    (&[], "SendFailed", None),
+];
+
 #[test]
 fn the_first_clause_that_names_the_kind_takes_the_fault(rt: HostRuntime) -> Result<(), Fail> {
-    let clauses = [
-        "java.lang.Exception",
-        "QueueFull,acme.NotNumber",
-        "org.acme.SendFailed",
-        "SendFailed",
-    ];
-    for (kind, want) in [
-        ("SendFailed", Some(2)),
-        ("NotNumber", Some(1)),
-        ("QueueFull", Some(1)),
-        ("TooLong", Some(0)),
-        ("Exception", Some(0)),
-        ("acme.NotNumber", Some(0)),
-    ] {
-        assert_eq!(rt; taking(rt.alloc(), &clauses, kind)?, want, "of {kind}");
+    for (clauses, kind, want) in TAKEN {
+        let taken = taking(rt.alloc(), clauses, kind)?;
+        assert!(rt; taken == want, "of {kind}");
     }
-    assert_eq!(rt;
-        taking(rt.alloc(), &["QueueFull", "x.SendFailed"], "TooLong")?,
-        None
-    );
-    assert_eq!(rt; taking(rt.alloc(), &[], "SendFailed")?, None);
     Ok(())
 }
 
@@ -78,29 +81,32 @@ fn a_clause_gives_what_it_has_and_the_handler_the_rest(rt: HostRuntime) {
         ..policy_of(Some(2), Some(7))
     };
     let nothing = policy_of(None, None);
-    assert_eq!(rt; merged(&nothing, &handler), handler);
-    assert_eq!(rt; merged(&handler, &nothing), handler);
+    assert!(rt; merged(&nothing, &handler) == handler);
+    assert!(rt; merged(&handler, &nothing) == handler);
     let none_again = policy_of(Some(0), None);
     let want = Policy {
         maximum: Some(0),
         ..handler
     };
-    assert_eq!(rt; merged(&none_again, &handler), want);
+    assert!(rt; merged(&none_again, &handler) == want);
 }
+
+/// A policy's maximum, the faults so far, and whether the step is tried again.
+const TRIES: [(Option<u32>, u32, bool); 7] = [
+    (Some(2), 1, true),
+    (Some(2), 2, true),
+    (Some(2), 3, false),
+    (Some(1), 2, false),
+    (Some(0), 1, false),
+    (None, 1, false),
+    (Some(1_000), 1_000, true),
+];
 
 #[test]
 fn a_step_is_tried_again_as_often_as_its_policy_says(rt: HostRuntime) {
-    for (maximum, faults, want) in [
-        (Some(2), 1, true),
-        (Some(2), 2, true),
-        (Some(2), 3, false),
-        (Some(1), 2, false),
-        (Some(0), 1, false),
-        (None, 1, false),
-        (Some(1_000), 1_000, true),
-    ] {
+    for (maximum, faults, want) in TRIES {
         let policy = policy_of(maximum, None);
-        assert_eq!(rt; may_retry(&policy, faults), want, "of {faults} faults");
+        assert!(rt; may_retry(&policy, faults) == want, "of {faults} faults");
     }
 }
 
@@ -121,29 +127,29 @@ fn a_delay_grows_to_the_greatest(rt: HostRuntime) {
         greatest: Some(1_000),
         ..policy_of(None, Some(100))
     };
-    assert_eq!(rt; delays(&growing), [100, 300, 900, 1_000]);
-    assert_eq!(rt; delay(&growing, 1_000), 1_000);
+    assert!(rt; delays(&growing) == [100, 300, 900, 1_000]);
+    assert!(rt; delay(&growing, 1_000) == 1_000);
     let flat = Policy {
         backing_off: Some(false),
         ..growing
     };
-    assert_eq!(rt; delays(&flat), [100, 100, 100, 100]);
+    assert!(rt; delays(&flat) == [100, 100, 100, 100]);
     let none = Policy {
         greatest: Some(0),
         ..growing
     };
-    assert_eq!(rt; delays(&none), [0, 0, 0, 0]);
+    assert!(rt; delays(&none) == [0, 0, 0, 0]);
 }
 
 #[test]
 fn what_no_policy_says_has_a_default(rt: HostRuntime) {
     let nothing = policy_of(Some(2), None);
-    assert_eq!(rt; delays(&nothing), [1_000, 1_000, 1_000, 1_000]);
-    assert_eq!(rt; delay(&policy_of(Some(2), Some(3)), 1), 3);
+    assert!(rt; delays(&nothing) == [1_000, 1_000, 1_000, 1_000]);
+    assert!(rt; delay(&policy_of(Some(2), Some(3)), 1) == 3);
     let doubling = Policy {
         backing_off: Some(true),
         ..nothing
     };
-    assert_eq!(rt; delays(&doubling), [1_000, 2_000, 4_000, 8_000]);
-    assert_eq!(rt; delay(&doubling, 7), 60_000);
+    assert!(rt; delays(&doubling) == [1_000, 2_000, 4_000, 8_000]);
+    assert!(rt; delay(&doubling, 7) == 60_000);
 }

@@ -17,7 +17,7 @@ use Rattle.eip_history.specs.Own.{Past, own, starved, answers, numbered}
 use Rattle.eip_frames.specs.declared.answer.Completion.TheVariants as by
 use Rattle.eip_history.specs.Groups.{Group, is_due, is_forced, closed_by}
 use Rattle.eip_history.specs.Births.{Asked, Story, story, births, groups, asked, asked_by, asked_of, fate, fate_by, made, made_at, made_by, made_for, group_births, next_number, grouped, grouped_by, grouped_for}
-use Rattle.eip_history.specs.Rules.{IsLegal, May, MayAnswer}
+use Rattle.eip_history.specs.Rules.{KeepsRules, May, MayAnswer}
 use Rattle.eip_history.proofs.Told.{births-more}
 use Rattle.eip_history.proofs.Unborn.{legal-tail, legal-may, asked-born}
 use Rattle.eip_history.proofs.Over.{Each, each-append}
@@ -78,7 +78,7 @@ no-groups-made s a limit w past Force m h = ap (closed_by by.Force (is_forced s)
 no-groups-made s a limit w past _ m h = h
 
 -- there are no groups
-pub no-groups : (s : Plan) (a : AsksSimply s) (w limit : ℕ) (past : Past) → IsLegal s w limit past → groups s past ≡ []
+pub no-groups : (s : Plan) (a : AsksSimply s) (w limit : ℕ) (past : Past) → KeepsRules s w limit past → groups s past ≡ []
 unfolding story
 no-groups s a w limit [] legal = refl
 no-groups s a w limit (e ∷ past) legal = no-groups-made s a limit e.worker past e.kind (legal-may s w limit e past legal) (no-groups s a w limit past (legal-tail s w limit e past legal))
@@ -92,7 +92,7 @@ made-items s a limit w past Force m h = ap (λ gs. group_births s (next_number (
 made-items s a limit w past _ m h = refl
 
 -- only an accepted item makes a birth
-pub births-items : (s : Plan) (a : AsksSimply s) (w limit : ℕ) (e : Entry) (past : Past) → IsLegal s w limit (e ∷ past) → births s (e ∷ past) ≡ births s past ++ item_births s past e.kind
+pub births-items : (s : Plan) (a : AsksSimply s) (w limit : ℕ) (e : Entry) (past : Past) → KeepsRules s w limit (e ∷ past) → births s (e ∷ past) ≡ births s past ++ item_births s past e.kind
 births-items s a w limit e past legal =
     let tail = legal-tail s w limit e past legal in
     births-more s e past ∙ ap (λ bs. births s past ++ bs) (made-items s a limit e.worker past e.kind (legal-may s w limit e past legal) (no-groups s a w limit past tail))

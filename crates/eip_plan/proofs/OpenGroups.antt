@@ -3,11 +3,11 @@ use Rattle.std.proofs.Common.{◌≡◌, ℕ, [], filter, ap}
 use Rattle.eip_route.specs.declared.route.RouteSet.{RouteSet}
 use Rattle.eip_history.specs.Own.{Past}
 use Rattle.eip_history.specs.Groups.{is_open}
-use Rattle.eip_history.specs.Rules.{IsLegal}
+use Rattle.eip_history.specs.Rules.{KeepsRules}
 use Rattle.eip_history.specs.Stop.{open_groups}
 use Rattle.eip_plan.specs.Plan.{plan_of}
 use Rattle.eip_plan.proofs.Items.{no-groups}
 use Rattle.eip_plan.proofs.Laws.{plan-simple}
 
-pub no-open-groups : (set : RouteSet) (w limit : ℕ) (past : Past) → IsLegal (plan_of set) w limit past → open_groups (plan_of set) past ≡ []
+pub no-open-groups : (set : RouteSet) (w limit : ℕ) (past : Past) → KeepsRules (plan_of set) w limit past → open_groups (plan_of set) past ≡ []
 no-open-groups set w limit past legal = ap (filter is_open) (no-groups (plan_of set) (plan-simple set) w limit past legal)

@@ -61,11 +61,12 @@ fn routes_of(alloc: Global, routes: &[(&str, &str, u32)]) -> Result<Series<Route
 }
 
 fn names(alloc: Global) -> Result<Names, NoMemory> {
+    let lanes = Series::of(texts(alloc, &["file", "lane:out"])?);
     Ok(Names {
-        lanes: Series::of(texts(alloc, &["file", "lane:out"])?),
-        inlets: Series::of(texts(alloc, &[])?),
-        processors: Series::of(texts(alloc, &[])?),
-        predicates: Series::of(texts(alloc, &[])?),
+        lanes,
+        inlets: Series::of(Vec::new(alloc)),
+        processors: Series::of(Vec::new(alloc)),
+        predicates: Series::of(Vec::new(alloc)),
     })
 }
 
@@ -161,7 +162,7 @@ fn the_first_fault_of_a_set_is_found(rt: HostRuntime) -> Result<(), Fail> {
         ),
     ];
     for (routes, nested, wanted) in rows {
-        assert_eq!(rt; fault_of(rt.alloc(), routes, nested)?, wanted);
+        assert!(rt; fault_of(rt.alloc(), routes, nested)? == wanted);
     }
     Ok(())
 }
@@ -199,7 +200,7 @@ fn a_clause_is_handled_or_continued(rt: HostRuntime) -> Result<(), Fail> {
         (true, true, Some(SetFault::BothHandledAndContinued(0))),
     ];
     for (handled, continued, wanted) in rows {
-        assert_eq!(rt; clause_fault(rt.alloc(), handled, continued)?, wanted);
+        assert!(rt; clause_fault(rt.alloc(), handled, continued)? == wanted);
     }
     Ok(())
 }
@@ -231,7 +232,7 @@ fn a_uri_has_its_goal(rt: HostRuntime) -> Result<(), Fail> {
         ("stream:in", Goal::NoConsumer),
     ];
     for (text, wanted) in rows {
-        assert_eq!(rt; goal_of(rt.alloc(), text)?, wanted, "of {text}");
+        assert!(rt; goal_of(rt.alloc(), text)? == wanted, "of {text}");
     }
     Ok(())
 }

@@ -1,5 +1,4 @@
 use eip_exchange::{HeaderFault, Headers, Message, Properties};
-use eip_test_support::message_of;
 use eip_text::{NoMemory, Text};
 use std::alloc::Global;
 use std::mem::size_of;
@@ -94,22 +93,22 @@ const KEPT: [(&str, &str, &str); 4] = [
 ];
 
 /// Whether the headers are kept, removed once and then no more, and the others are still there.
-fn kept_and_removed(alloc: Global) -> Result<(bool, bool, bool, bool), HeaderFault> {
+fn kept_and_removed(alloc: Global) -> Result<[bool; 4], HeaderFault> {
     let mut headers = headers_of(alloc, &SET)?;
     let kept = are_headers(&headers, &KEPT);
     let removed = headers.remove(b"order");
     let removed_again = headers.remove(b"order");
-    Ok((
+    Ok([
         kept,
         removed,
         removed_again,
         are_headers(&headers, &KEPT[1..]),
-    ))
+    ])
 }
 
 #[test]
 fn header_names_are_equal_up_to_ascii_case(rt: HostRuntime) -> Result<(), Fail> {
-    assert_eq!(rt; kept_and_removed(rt.alloc())?, (true, true, false, true));
+    assert!(rt; kept_and_removed(rt.alloc())? == [true, true, false, true]);
     Ok(())
 }
 
@@ -165,66 +164,71 @@ fn the_sixty_fifth_header_is_refused(rt: HostRuntime) -> Result<(), Fail> {
         (None, 66),
         (None, 66),
     ];
-    assert_eq!(rt; further_settings(rt.alloc())?, wanted);
+    let told = further_settings(rt.alloc())?;
+    assert!(rt; told == wanted);
     assert!(rt; keeps_its_place(rt.alloc())?);
     Ok(())
 }
 
 /// Whether the properties are kept, removed once and then no more, and the other is still there.
-fn exact_properties(alloc: Global) -> Result<(bool, bool, bool, bool), NoMemory> {
+fn exact_properties(alloc: Global) -> Result<[bool; 4], NoMemory> {
     let mut properties = properties_of(alloc, &[("A", "1"), ("a", "2"), ("A", "3")])?;
     let kept = are_properties(&properties, &[("A", "3"), ("a", "2")]);
     let removed = properties.remove(b"A");
     let removed_again = properties.remove(b"A");
-    Ok((
+    Ok([
         kept,
         removed,
         removed_again,
         are_properties(&properties, &[("a", "2")]),
-    ))
+    ])
 }
 
 #[test]
 fn property_names_are_exact(rt: HostRuntime) -> Result<(), Fail> {
-    assert_eq!(rt; exact_properties(rt.alloc())?, (true, true, false, true));
+    assert!(rt; exact_properties(rt.alloc())? == [true, true, false, true]);
     Ok(())
 }
 
 /// A message with two headers and a property.
 fn filled_message(alloc: Global) -> Result<Message, HeaderFault> {
-    let mut message = message_of(alloc, "body")?;
-    set_header(alloc, &mut message.headers, "a", "1")?;
-    set_header(alloc, &mut message.headers, "b", "2")?;
-    set_property(alloc, &mut message.properties, "p", "3")?;
-    Ok(message)
+    let body = Text::of_str(alloc, "body")?;
+    let headers = headers_of(alloc, &[("a", "1"), ("b", "2")])?;
+    let properties = properties_of(alloc, &[("p", "3")])?;
+    Ok(Message {
+        body,
+        headers,
+        properties,
+    })
 }
 
-/// Whether a copy has the body, the headers and the property that the message had before a header of it was set.
-fn stands_alone(alloc: Global) -> Result<(bool, bool, bool), HeaderFault> {
+/// A copy of the message, behind which a header of the message was set.
+fn copied_before(alloc: Global) -> Result<Message, HeaderFault> {
     let mut message = filled_message(alloc)?;
     let copy = message.copy(alloc)?;
     set_header(alloc, &mut message.headers, "A", "9")?;
-    Ok((
+    Ok(copy)
+}
+
+/// Whether the copy has the body, the headers and the property that the message had before a header of it was set.
+fn stands_alone(alloc: Global) -> Result<[bool; 3], HeaderFault> {
+    let copy = copied_before(alloc)?;
+    Ok([
         copy.body.as_str() == "body",
         are_headers(&copy.headers, &[("a", "A", "1"), ("b", "B", "2")]),
         are_properties(&copy.properties, &[("p", "3")]),
-    ))
+    ])
 }
 
 #[test]
 fn a_copied_message_stands_alone(rt: HostRuntime) -> Result<(), Fail> {
-    assert_eq!(rt; stands_alone(rt.alloc())?, (true, true, true));
+    assert!(rt; stands_alone(rt.alloc())? == [true; 3]);
     Ok(())
 }
 
 #[test]
 fn empty_lists_are_small(rt: HostRuntime) {
-    assert_eq!(rt;
-        (
-            size_of::<Headers>(),
-            size_of::<Properties>(),
-            size_of::<Message>()
-        ),
-        (16, 16, 56)
-    );
+    assert!(rt; size_of::<Headers>() == 16);
+    assert!(rt; size_of::<Properties>() == 16);
+    assert!(rt; size_of::<Message>() == 56);
 }

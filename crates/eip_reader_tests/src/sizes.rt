@@ -25,7 +25,7 @@ fn copied_at_size(alloc: Global, size: usize) -> Result<[usize; 3], HeaderFault>
 #[test]
 fn headers_and_properties_of_65536_bytes_are_kept(rt: HostRuntime) -> Result<(), Fail> {
     let size = 65_536;
-    assert_eq!(rt; copied_at_size(rt.alloc(), size)?, [size, size, size]);
+    assert!(rt; copied_at_size(rt.alloc(), size)? == [size; 3]);
     Ok(())
 }
 
@@ -50,17 +50,21 @@ fn uri_at_size(alloc: Global, marked: &str) -> Result<(usize, bool), NoMemory> {
 #[test]
 fn uris_of_300_bytes_are_read_and_printed(rt: HostRuntime) -> Result<(), Fail> {
     for (uri, len) in URIS {
-        assert_eq!(rt; uri_at_size(rt.alloc(), uri)?, (len, true), "of {uri}");
+        assert!(rt; uri_at_size(rt.alloc(), uri)? == (len, true), "of {uri}");
     }
     Ok(())
 }
 
 /// The length of a text of so many zero bytes once it is quoted, and the number of pieces of so many commas.
 fn shown_and_split(alloc: Global, zeros: usize, commas: usize) -> Result<(usize, usize), NoMemory> {
-    let zeros = Text::of(repeated(alloc, "\0", zeros)?);
-    let quoted = quote(alloc, &zeros)?.bytes().len();
+    let quoted = quoted_length(alloc, zeros)?;
     let commas = repeated(alloc, ",", commas)?;
     Ok((quoted, pieces_at_commas(alloc, commas.as_str())?))
+}
+
+fn quoted_length(alloc: Global, zeros: usize) -> Result<usize, NoMemory> {
+    let zeros = Text::of(repeated(alloc, "\0", zeros)?);
+    Ok(quote(alloc, &zeros)?.bytes().len())
 }
 
 fn pieces_at_commas(alloc: Global, text: &str) -> Result<usize, NoMemory> {
@@ -76,6 +80,6 @@ fn pieces_at_commas(alloc: Global, text: &str) -> Result<usize, NoMemory> {
 fn bodies_of_65536_bytes_are_quoted_and_split(rt: HostRuntime) -> Result<(), Fail> {
     let size = 65_536;
     let wanted = (4 * size + 2, size + 1);
-    assert_eq!(rt; shown_and_split(rt.alloc(), size, size)?, wanted);
+    assert!(rt; shown_and_split(rt.alloc(), size, size)? == wanted);
     Ok(())
 }

@@ -11,5 +11,5 @@ mod unpacking;
 pub use laws::{order_law, packing_law};
 pub use order::{before, ordered};
 pub use packed::{PackFault, Packed};
-pub use packing::{pack, pack_behind};
+pub use packing::{object_text, pack};
 pub use unpacking::unpack;

@@ -1,5 +1,5 @@
 // How the text of a JSON list grows at its end.
-ghost use Rattle.std.specs.Prelude.{◌≡◌, ◌++◌, ◌∷◌, [], List, ℕ, string_bytes};
+ghost use Rattle.std.specs.Prelude.{◌≡◌, ◌++◌, ◌∷◌, [], List, ℕ, string_bytes, string_capacity};
 ghost use Rattle.json.specs.Print.{print};
 
 use json::Writer;
@@ -12,10 +12,11 @@ pub fn written(writer: Writer) -> String
     String::from_utf8(writer.into_inner()).unwrap()
 }
 
-/// Takes the bracket away that closes a JSON list.
+/// Takes the bracket away that closes a JSON list; the room that it took stays.
 pub fn reopen(text: &mut String)
     requires { (front : List ℕ) × (string_bytes text.old ≡ front ++ 93 ∷ []) }
-    ensures { string_bytes text.old ≡ string_bytes text.new ++ 93 ∷ [] }
+    ensures bytes { string_bytes text.old ≡ string_bytes text.new ++ 93 ∷ [] }
+    ensures room { string_capacity text.new ≡ string_capacity text.old }
 {
     let _ = text.pop();
 }

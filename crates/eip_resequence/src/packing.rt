@@ -1,9 +1,8 @@
-ghost use Rattle.std.specs.Prelude.{◌≡◌, ◌++◌, ◌∷◌, [], nat_lt, length, IfOk, OnOk, string_bytes, if◌then◌else◌};
+ghost use Rattle.std.specs.Prelude.{◌≡◌, IfOk, OnOk, string_bytes};
 ghost use Rattle.eip_text.specs.JsonText.{json_text, value_tokens, Wrote};
-ghost use Rattle.eip_resequence.specs.Packing.{pairs_json, packed_json, list_json, pack_text, IsPacked};
-ghost use Rattle.eip_resequence.specs.Unpacking.{messages_in};
+ghost use Rattle.eip_resequence.specs.Packing.{pairs_json, packed_json, list_json, pack_text};
 
-use crate::lists::{reopen, written};
+use crate::lists::written;
 use crate::packed::Packed;
 use eip_text::{NoMemory, Text};
 use json::Writer;
@@ -19,41 +18,13 @@ pub fn pack(alloc: Global, list: &[Packed]) -> Result<Text, NoMemory>
     Ok(Text::of(written(writer)))
 }
 
-/// Makes the packed text of a list that of the list with one more message at its end, without reading it. Where memory
-/// is wanting, a front part may stand in the text.
-pub fn pack_behind(alloc: Global, text: &mut String, packed: &Packed) -> Result<(), NoMemory>
-    requires { IsPacked (string_bytes text.old) }
-    ensures { OnOk result (string_bytes text.new
-        ≡ pack_text (messages_in (string_bytes text.old) ++ packed.now ∷ [])) }
-{
-    reopen(text);
-    separate(text)?;
-    push_packed(alloc, text, packed)?;
-    text.push_str("]")?;
-    Ok(())
-}
-
-/// A comma, where something stands behind the opening bracket.
-fn separate(text: &mut String) -> Result<(), NoMemory>
-    ensures { OnOk result (string_bytes text.new ≡ string_bytes text.old
-        ++ (if nat_lt 1 (length (string_bytes text.old)) then 44 ∷ [] else [])) }
-{
-    if text.len() > 1 {
-        text.push_str(",")?;
-    }
-    Ok(())
-}
-
-/// Appends the object of one message.
-fn push_packed(alloc: Global, text: &mut String, packed: &Packed) -> Result<(), NoMemory>
-    ensures { OnOk result (string_bytes text.new
-        ≡ string_bytes text.old ++ json_text (packed_json packed.now)) }
+/// The object of one message, as it stands in the packed text of a list.
+pub fn object_text(alloc: Global, packed: &Packed) -> Result<String, NoMemory>
+    ensures { IfOk result (λ s. string_bytes s ≡ json_text (packed_json packed.now)) }
 {
     let mut writer = Writer::new(Vec::new(alloc));
     write_packed(&mut writer, packed)?;
-    let object = written(writer);
-    text.push_str(object.as_str())?;
-    Ok(())
+    Ok(written(writer))
 }
 
 fn write_list(writer: &mut Writer, list: &[Packed]) -> Result<(), NoMemory>

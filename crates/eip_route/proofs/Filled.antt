@@ -5,8 +5,8 @@ use Rattle.std.proofs.lemmas.List.Sums.{AllPass-from_list_all}
 use Rattle.std.specs.List.{list_all}
 use Rattle.std.specs.Prelude.{bytes_eq, decimal, is_some, ◌&&◌}
 use Rattle.eip_text.specs.Names.{is_name, is_name_byte}
-use Rattle.eip_route.specs.Faults.{case_numbers, last_number, step_numbers}
-use Rattle.eip_route.specs.Nest.{Frame, chooses, filters, splits, multicasts, aggregates, runs_once, HasGroups, IsNamed, FrameNamed, NestedGroups, no_group, group, count, of_last, rest_of, past, cases_with, last_with, checks_of, own_repository, repository_of, name_given, fill, held, flat_block, flat_groups}
+use Rattle.eip_route.specs.Faults.{case_numbers, catch_numbers, last_number, step_numbers}
+use Rattle.eip_route.specs.Nest.{Frame, chooses, filters, splits, multicasts, aggregates, runs_once, tries, Catching, HasGroups, IsNamed, FrameNamed, NestedGroups, no_group, group, count, of_last, rest_of, past, cases_with, last_with, checks_of, catches_with, catchings_of, own_repository, repository_of, name_given, fill, held, flat_block, flat_groups}
 use Rattle.eip_route.specs.declared.step.Check.{Check}
 use Rattle.eip_route.specs.declared.step.Step.{Step}
 use Rattle.eip_route.specs.declared.step.Step.TheVariants as step
@@ -55,6 +55,20 @@ choice_numbers [] l ns h = last_numbers l ns (omega arith)
 choice_numbers (c ∷ cs) l [] h = absurd (omega arith)
 choice_numbers (c ∷ cs) l (n ∷ ns) h = ap (λ rest. n ∷ rest) (choice_numbers cs l ns (omega arith))
 
+-- ---- tries
+
+same_catching : (c : Catching) (cs ds : List Catching) → cs ≡ ds → c ∷ cs ≡ c ∷ ds
+same_catching c cs ds p = ap (λ rest. c ∷ rest) p
+
+catchings_again : (cs : List Catching) (ns : List ℕ) → catchings_of (catches_with cs ns) ≡ cs
+catchings_again [] ns = refl
+catchings_again (c ∷ cs) ns = same_catching c (catchings_of (catches_with cs (rest_of ns))) cs (catchings_again cs (rest_of ns))
+
+catches_numbers : (cs : List Catching) (l : Bool) (ns : List ℕ) → length ns ≡ length cs + of_last l → catch_numbers (catches_with cs ns) ++ last_number (last_with l (past cs ns)) ≡ ns
+catches_numbers [] l ns h = last_numbers l ns (omega arith)
+catches_numbers (c ∷ cs) l [] h = absurd (omega arith)
+catches_numbers (c ∷ cs) l (n ∷ ns) h = ap (λ rest. n ∷ rest) (catches_numbers cs l ns (omega arith))
+
 -- ---- the law
 
 abbrev pair : Frame → List ℕ → Option (Frame × List ℕ)
@@ -66,10 +80,16 @@ same_pair f g ms ns p q = λ i. Some (p i, q i)
 same_choice : (cs ds : List Check) (l m : Bool) → cs ≡ ds → l ≡ m → chooses cs l ≡ chooses ds m
 same_choice cs ds l m p q = cc
 
+same_try : (cs ds : List Catching) (l m : Bool) → cs ≡ ds → l ≡ m → tries cs l ≡ tries ds m
+same_try cs ds l m p q = λ i. tries (p i) (q i)
+
 pub held_filled : (f : Frame) (ns : List ℕ) → HasGroups f (length ns) → FrameNamed f → held (fill f ns) ≡ Some (f, ns)
 held_filled (chooses cs l) ns h g =
     same_pair _ (chooses cs l) _ ns (same_choice _ cs _ l (checks_again cs ns) (last_again l (past cs ns))) (choice_numbers cs l ns h)
 held_filled (multicasts fan) ns h g = refl
+held_filled (tries cs l) [] h g = absurd (omega arith)
+held_filled (tries cs l) (n ∷ ns) h g =
+    same_pair _ (tries cs l) _ (n ∷ ns) (same_try _ cs _ l (catchings_again cs ns) (last_again l (past cs ns))) (ap (λ rest. n ∷ rest) (catches_numbers cs l ns (omega arith)))
 held_filled (filters c) [] h g = absurd (omega arith)
 held_filled (filters c) (n ∷ []) h g = refl
 held_filled (filters c) (n ∷ m ∷ ns) h g = absurd (omega arith)
@@ -97,6 +117,7 @@ held_numbers (step.Split how fan b) = refl
 held_numbers (step.Multicast fan bs) = refl
 held_numbers (step.Aggregate a) = refl
 held_numbers (step.Idempotent e repository skip eager remove b) = refl
+held_numbers (step.Try b catches l) = refl
 held_numbers _ = refl
 
 -- a step without blocks has no numbers

@@ -2,20 +2,25 @@
 use Rattle.std.specs.Prelude.{◌≡◌, ℕ, Bool, true, false, cond, ◌+◌, nat_eq, length, List, [], ◌∷◌, ◌++◌, Option, Some, None, is_some, codes, decimal, bytes_eq}
 use Rattle.eip_exchange.specs.declared.setting.Clause.{Clause}
 use Rattle.eip_exchange.specs.declared.setting.How.{How}
+use Rattle.eip_exchange.specs.declared.setting.How.TheVariants as how
+use Rattle.eip_exchange.specs.declared.setting.Key.{Key}
 use Rattle.eip_exchange.specs.declared.setting.Policy.{Policy}
 use Rattle.eip_exchange.specs.declared.setting.Strategy.{Strategy}
+use Rattle.eip_exchange.specs.declared.setting.Strategy.TheVariants as strategy
 use Rattle.eip_simple_read.specs.declared.tree.Predicate.{Predicate}
 use Rattle.eip_text.specs.Names.{is_name}
 use Rattle.eip_uri.specs.declared.uri.Uri.{Uri}
-use Rattle.eip_route.specs.Faults.{case_numbers, last_number}
+use Rattle.eip_route.specs.Faults.{case_numbers, try_numbers, last_number}
 use Rattle.eip_route.specs.declared.route.Block.{Block}
 use Rattle.eip_route.specs.declared.route.Handler.{Handler}
 use Rattle.eip_route.specs.declared.route.Names.{Names}
 use Rattle.eip_route.specs.declared.route.Route.{Route}
 use Rattle.eip_route.specs.declared.route.RouteSet.{RouteSet}
 use Rattle.eip_route.specs.declared.step.Aggregate.{Aggregate}
+use Rattle.eip_route.specs.declared.step.Catch.{Catch}
 use Rattle.eip_route.specs.declared.step.Check.{Check}
 use Rattle.eip_route.specs.declared.step.Expr.{Expr}
+use Rattle.eip_route.specs.declared.step.Expr.TheVariants as expr
 use Rattle.eip_route.specs.declared.step.Fan.{Fan}
 use Rattle.eip_route.specs.declared.step.Step.{Step}
 use Rattle.eip_route.specs.declared.step.Step.TheVariants as step
@@ -31,6 +36,11 @@ pub record Gathering : Type 0 where
   pub timeout : Option ℕ
   pub force : Bool
 
+-- what a catch takes, without the number of its block
+pub record Catching : Type 0 where
+  pub names : List (List ℕ)
+  pub when : Option Check
+
 -- a step that holds blocks, without them and their numbers
 pub data Frame : Type 0 where
   -- the checks of its cases, and whether there is a block for where none of them holds
@@ -41,6 +51,8 @@ pub data Frame : Type 0 where
   aggregates : Gathering → Frame
   -- the key, the repository's name where one is given, and the flags skip, eager and remove
   runs_once : Expr → Option (List ℕ) → Bool → Bool → Bool → Frame
+  -- what its catches take, and whether there is a last block; the first one is tried
+  tries : List Catching → Bool → Frame
 
 mutual
   pub data NestedStep : Type 0 where
@@ -84,6 +96,23 @@ abbrev pub count : NestedGroups → ℕ
 count no_group = 0
 count (group ss gs) = count gs + 1
 
+-- ---- batches: a resequencer is an aggregator whose block is a split into its messages
+
+-- the parts of a batch run one behind the other
+abbrev pub plain_fan : Fan
+plain_fan = record { strategy = None; parallel = false; stop = false; share = false }
+
+-- a group of at most so many messages, which closes so many ticks behind the last one, or where nothing else is left to do
+abbrev pub batching : ℕ → ℕ → Gathering
+batching size timeout = record { key = expr.Constant (codes "batch"); strategy = strategy.Batch; predicate = None; size = Some size; timeout = Some timeout; force = true }
+
+-- the split into the messages, in the order of this key, of which each runs these steps
+abbrev pub batch_split : Key → NestedSteps → NestedSteps
+batch_split k ss = more (holds (splits (how.Batch k) plain_fan) (group ss no_group)) none
+
+abbrev pub batch_groups : Key → NestedSteps → NestedGroups
+batch_groups k ss = group (batch_split k ss) no_group
+
 -- ---- frames, and the steps that they are with the numbers of their blocks
 
 abbrev pub of_last : Bool → ℕ
@@ -94,6 +123,7 @@ of_last false = 0
 abbrev pub HasGroups : Frame → ℕ → Type 0
 HasGroups (chooses cs l) k = k ≡ length cs + of_last l
 HasGroups (multicasts fan) k = Unit {0}
+HasGroups (tries cs l) k = k ≡ length cs + of_last l + 1
 HasGroups _ k = k ≡ 1
 
 -- a repository that is named has a Name
@@ -132,6 +162,21 @@ abbrev pub checks_of : List (Check × ℕ) → List Check
 checks_of [] = []
 checks_of (c ∷ cs) = c.0 ∷ checks_of cs
 
+abbrev pub catch_with : Catching → ℕ → Catch
+catch_with c n = record { names = c.names; when = c.when; block = n }
+
+-- catches that take these, whose blocks have these numbers
+abbrev pub catches_with : List Catching → List ℕ → List Catch
+catches_with [] ns = []
+catches_with (c ∷ cs) ns = catch_with c (first_of ns) ∷ catches_with cs (rest_of ns)
+
+abbrev pub catching : Catch → Catching
+catching c = record { names = c.names; when = c.when }
+
+abbrev pub catchings_of : List Catch → List Catching
+catchings_of [] = []
+catchings_of (c ∷ cs) = catching c ∷ catchings_of cs
+
 abbrev pub with_block : Gathering → ℕ → Aggregate
 with_block g n = record { key = g.key; strategy = g.strategy; predicate = g.predicate; size = g.size; timeout = g.timeout; force = g.force; block = n }
 
@@ -158,6 +203,7 @@ fill (splits how fan) ns = step.Split how fan (first_of ns)
 fill (multicasts fan) ns = step.Multicast fan ns
 fill (aggregates g) ns = step.Aggregate (with_block g (first_of ns))
 fill (runs_once e name skip eager remove) ns = step.Idempotent e (repository_of (first_of ns) name) skip eager remove (first_of ns)
+fill (tries cs l) ns = step.Try (first_of ns) (catches_with cs (rest_of ns)) (last_with l (past cs (rest_of ns)))
 
 -- and back: the frame of a step and the numbers of its blocks, where it holds blocks
 abbrev pub held : Step → Option (Frame × List ℕ)
@@ -167,6 +213,7 @@ held (step.Split how fan b) = Some (splits how fan, b ∷ [])
 held (step.Multicast fan bs) = Some (multicasts fan, bs)
 held (step.Aggregate a) = Some (aggregates (without_block a), a.block ∷ [])
 held (step.Idempotent e repository skip eager remove b) = Some (runs_once e (name_given b repository) skip eager remove, b ∷ [])
+held (step.Try b catches l) = Some (tries (catchings_of catches) (is_some l), try_numbers b catches l)
 held _ = None
 
 -- ---- numbered: each with the blocks nested in it, in their order

@@ -120,7 +120,8 @@ impl Step {
             | Step::Multicast { .. }
             | Step::Recipients { .. }
             | Step::Aggregate(_)
-            | Step::Idempotent { .. } => false,
+            | Step::Idempotent { .. }
+            | Step::Try { .. } => false,
         }
     }
 }

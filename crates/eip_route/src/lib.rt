@@ -13,4 +13,4 @@ pub use fault::SetFault;
 pub use goal::Goal;
 pub use repository::own_repository;
 pub use route::{Block, Handler, Names, Route, RouteSet};
-pub use step::{Aggregate, Check, Expr, Fan, Step};
+pub use step::{Aggregate, Catch, Check, Expr, Fan, Step};

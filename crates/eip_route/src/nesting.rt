@@ -4,7 +4,7 @@ ghost use Rattle.std.specs.Prelude.{◌≡◌};
 ghost use Rattle.eip_route.specs.Faults as spec;
 
 use crate::route::{Block, Route, RouteSet};
-use crate::step::{Check, Step};
+use crate::step::{Catch, Check, Step};
 use eip_exchange::Clause;
 
 /// How deep blocks may be nested, the outermost one included.
@@ -147,8 +147,46 @@ fn find_in_step(blocks: &[Block], wanted: Wanted, step: &Step) -> Option<u32>
             blocks: branches,
             ..
         } => find_in_branches(blocks, wanted, branches.items()),
+        Step::Try {
+            block,
+            catches,
+            finish,
+        } => find_in_try(blocks, wanted, *block, catches.items(), *finish),
         _ => None,
     }
+}
+
+/// Looks at a try block, then at those of its catches, then at the last one.
+#[cycle(find)]
+fn find_in_try(
+    blocks: &[Block],
+    wanted: Wanted,
+    block: u32,
+    catches: &[Catch],
+    finish: Option<u32>,
+) -> Option<u32>
+    ensures { result ≡ spec.first_some (spec.found blocks.now wanted) (spec.try_numbers block catches.now finish) }
+{
+    match find(blocks, wanted, block) {
+        Some(block) => Some(block),
+        None => match find_in_catches(blocks, wanted, catches) {
+            Some(block) => Some(block),
+            None => find_in_last(blocks, wanted, finish),
+        },
+    }
+}
+
+#[cycle(find)]
+fn find_in_catches(blocks: &[Block], wanted: Wanted, catches: &[Catch]) -> Option<u32>
+    ensures { result ≡ spec.first_some (spec.found blocks.now wanted) (spec.catch_numbers catches.now) }
+{
+    for catch in catches {
+        let found = find(blocks, wanted, catch.block);
+        if found.is_some() {
+            return found;
+        }
+    }
+    None
 }
 
 #[cycle(find)]

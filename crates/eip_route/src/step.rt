@@ -35,7 +35,7 @@ pub struct Fan {
     pub parallel: bool,
     /// No part is born behind one that failed.
     pub stop: bool,
-    /// The parts share the parent's handlers; always false today.
+    /// A part's fault has no handler of its own: the parent's handlers take it (`shareUnitOfWork`).
     pub share: bool,
 }
 
@@ -54,6 +54,17 @@ pub struct Aggregate {
     /// An open group closes when nothing else is left to do.
     pub force: bool,
     /// The number of the block that a closed group runs.
+    pub block: u32,
+}
+
+/// What takes a fault of a try block (Camel manual, *doTry*: `doCatch`).
+#[derive(Drop)]
+pub struct Catch {
+    /// The kinds of fault that it takes; `Exception` stands for all of them.
+    pub names: Series<Text>,
+    /// Where it is given, only a fault is taken on whose message it holds.
+    pub when: Option<Check>,
+    /// The number of the block that runs on that message.
     pub block: u32,
 }
 
@@ -126,5 +137,12 @@ pub enum Step {
         eager: bool,
         remove: bool,
         block: u32,
+    },
+    /// The block runs, then where it faulted that of the first catch that takes the fault, then in any case the last one
+    /// (Camel manual, *doTry*).
+    Try {
+        block: u32,
+        catches: Series<Catch>,
+        finish: Option<u32>,
     },
 }

@@ -1,9 +1,12 @@
 -- How groups of steps are numbered, for the code that builds their blocks.
-use Rattle.std.proofs.Common.{◌≡◌, ℕ, ◌+◌, List, [], ◌∷◌, ◌++◌, Some, length, refl, ap, sym, ◌∙◌, arith, append_assoc, length-append}
+use Rattle.std.proofs.Common.{◌≡◌, ℕ, ◌+◌, List, [], ◌∷◌, ◌++◌, Some, length, refl, ap, sym, ◌∙◌, arith, append_assoc, append-nil, length-append}
 use Rattle.eip_text.specs.Json.{Members, object}
 use Rattle.eip_route.specs.declared.route.Block.{Block}
+use Rattle.eip_exchange.specs.declared.setting.How.TheVariants as how
+use Rattle.eip_exchange.specs.declared.setting.Key as order
 use Rattle.eip_route.specs.declared.step.Step.{Step}
-use Rattle.eip_route.specs.Nest.{NestedGroups, no_group, group, FlatStep, FlatGroups, flat_block, flat_step, flat_groups}
+use Rattle.eip_route.specs.declared.step.Step.TheVariants as step
+use Rattle.eip_route.specs.Nest.{NestedSteps, NestedGroups, batch_groups, plain_fan, no_group, group, FlatStep, FlatGroups, flat_block, flat_step, flat_groups}
 use Rattle.eip_route_grammar.specs.declared.keys.Key.{Key}
 use Rattle.eip_route_grammar.specs.declared.keys.Key.TheVariants as key
 use Rattle.eip_route_values.specs.Nesting.{said, with_groups, with_numbers, followed, at_places, nest_at, nest_value}
@@ -22,6 +25,13 @@ followed_flat n (group ss gs) hs =
     ap (λ (r : FlatGroups). appended.with_groups (n ∷ []) first r) (followed_flat (n + length first) gs hs)
     ∙ (ap (λ x. appended.with_groups (n ∷ inner.numbers) first (appended.with_groups [] inner.blocks (flat_groups x hs))) at
     ∙ ap (λ bs. record { numbers = n ∷ (inner.numbers ++ (flat_groups m hs).numbers); blocks = bs }) (sym (append_assoc first inner.blocks (flat_groups m hs).blocks)))
+
+-- the blocks of a batch: its split, and the steps in that
+pub batch_flat : (n : ℕ) (k : order.Key) (ss : NestedSteps) → flat_groups n (batch_groups k ss) ≡ record { numbers = n ∷ []; blocks = record { steps = step.Split (how.Batch k) plain_fan (n + 1) ∷ [] } ∷ flat_block (n + 1) ss }
+batch_flat n k ss =
+    let inner = flat_block (n + 1) ss in
+    ap (λ (bs : List Block). record { numbers = n ∷ []; blocks = record { steps = step.Split (how.Batch k) plain_fan (n + 1) ∷ [] } ∷ bs })
+    (append-nil ((inner ++ []) ++ []) ∙ append-nil (inner ++ []) ∙ append-nil inner)
 
 abbrev filled_by : ℕ → Key → Members → FlatStep
 filled_by n k ms =

@@ -1,19 +1,22 @@
-#![tactic(auto, using(eip_text::proofs::Levels::json_levels, crate::proofs::Groups::grouped))]
+#![tactic(auto, using(eip_text::proofs::Levels::json_levels, crate::proofs::Groups::grouped, crate::proofs::Groups::batch_flat))]
 
 ghost use Rattle.std.specs.Prelude.{◌≡◌, [], ◌∷◌, IfOk};
 ghost use Rattle.eip_text.specs.Json.{json, items_json, members_json};
 ghost use Rattle.eip_route.specs.Nest as nest;
 ghost use Rattle.eip_route_values.specs.Built.{IsStep, AreSteps, AreGroups};
 ghost use Rattle.eip_route_values.specs.Nesting as spec;
+ghost use Rattle.eip_route_values.specs.Parts as parts;
 ghost use Rattle.eip_route_values.specs.Places.{places};
 
 use crate::frames::step_of;
+use eip_exchange::How;
 use eip_route::{Block, Step};
 use eip_route_grammar::keys::Key;
 use eip_route_grammar::known::Known;
 use eip_route_values::built::{
     BuiltGroups, BuiltStep, BuiltSteps, after, branch, empty_block, headed,
 };
+use eip_route_values::parts::{order_key_in, plain_fan};
 use eip_route_values::places::{Place, step_key};
 use eip_route_values::steps::{nothing, text_said};
 use eip_text::{NoMemory, Text, Tree};
@@ -220,7 +223,34 @@ fn build_place(
         Place::Branches => Ok(build_branches_in(alloc, n, known, members)?),
         Place::Each(key) => Ok(build_each_in(alloc, n, known, key, members)?),
         Place::One(key) => Ok(build_one_in(alloc, n, known, key, members)?),
+        Place::Batch => Ok(build_batch(alloc, n, known, members)?),
     }
+}
+
+/// The block of a split into the messages of a batch, and then that of the steps which each runs.
+#[cycle(build)]
+fn build_batch(
+    alloc: Global,
+    n: u32,
+    known: &mut Known,
+    members: &[(Text, Tree)],
+) -> Result<BuiltGroups, NoMemory>
+    ensures { let ms = members_json members.now in
+        let groups = nest.batch_groups (parts.order_key_in ms) (spec.nest_in ms) in
+        IfOk result (λ b. AreGroups b (nest.flat_groups n groups)) }
+{
+    let inner = after(n, 1)?;
+    let blocks = build_in(alloc, inner, known, members)?;
+    let split = Step::Split {
+        how: How::Batch(order_key_in(alloc, members)?),
+        fan: plain_fan(),
+        block: inner,
+    };
+    let step = BuiltStep {
+        step: split,
+        blocks,
+    };
+    one_group(alloc, n, branch(alloc, step)?)
 }
 
 /// The block of an object's `steps`, and those nested in it.

@@ -1,6 +1,6 @@
 #![tactic(auto, using(eip_text::proofs::Levels::json_levels))]
 
-ghost use Rattle.std.specs.Prelude.{◌≡◌, [], true, Some, is_some, IfOk};
+ghost use Rattle.std.specs.Prelude.{◌≡◌, [], true, None, Some, is_some, option_map, IfOk};
 ghost use Rattle.eip_text.specs.Json.{json, items_json, members_json};
 ghost use Rattle.eip_route.specs.Nest as nest;
 ghost use Rattle.eip_route_grammar.specs.Objects as objects;
@@ -8,12 +8,14 @@ ghost use Rattle.eip_route_values.specs.Leaves as leaves;
 ghost use Rattle.eip_route_values.specs.Nesting as spec;
 ghost use Rattle.eip_route_values.specs.Parts as parts;
 
-use eip_route::{Check, Step, own_repository};
+use eip_route::{Catch, Check, Step, own_repository};
 use eip_route_grammar::keys::Key;
 use eip_route_grammar::known::Known;
 use eip_route_grammar::objects::value_at;
-use eip_route_values::leaves::flag_at;
-use eip_route_values::parts::{aggregate_in, check_in, expr_in, fan_in, how_in, repository_in};
+use eip_route_values::leaves::{exceptions_at, flag_at, members_at};
+use eip_route_values::parts::{
+    aggregate_in, batching_in, check_in, expr_in, fan_in, how_in, repository_in,
+};
 use eip_route_values::steps::{
     log, nothing, process, recipients, remove_header, set_body, set_header, set_property, throw, to,
 };
@@ -122,14 +124,122 @@ fn choice(
 {
     let items = items_at(Key::When, members);
     let (cases, left) = cases(alloc, known, items, numbers)?;
-    let otherwise = if value_at(Key::Otherwise, members).is_some() {
-        Some(first_of(left))
-    } else {
-        None
-    };
+    let otherwise = last_of(value_at(Key::Otherwise, members).is_some(), left);
     Ok(Step::Choice {
         cases: Series::of(cases),
         otherwise,
+    })
+}
+
+/// The number of a block that may be absent: the first of these.
+fn last_of(is_there: bool, numbers: &[u32]) -> Option<u32>
+    ensures { result ≡ nest.last_with is_there numbers.now }
+{
+    if is_there {
+        Some(first_of(numbers))
+    } else {
+        None
+    }
+}
+
+/// What a catch asks of a fault's message, where it asks anything.
+fn on_when(
+    alloc: Global,
+    known: &mut Known,
+    members: &[(Text, Tree)],
+) -> Result<Option<Check>, NoMemory>
+    ensures { IfOk result (λ c. c
+        ≡ option_map parts.check_in (leaves.members_at Key.OnWhen (members_json members.now))) }
+{
+    match members_at(Key::OnWhen, members) {
+        None => Ok(None),
+        Some(inner) => Ok(Some(check_in(alloc, known, inner)?)),
+    }
+}
+
+fn catch_in(
+    alloc: Global,
+    known: &mut Known,
+    members: &[(Text, Tree)],
+    block: u32,
+) -> Result<Catch, NoMemory>
+    ensures { IfOk result (λ c. c ≡ nest.catch_with (spec.catching_in (members_json members.now)) block) }
+{
+    let names = exceptions_at(alloc, members)?;
+    let when = on_when(alloc, known, members)?;
+    Ok(Catch {
+        names: Series::of(names),
+        when,
+        block,
+    })
+}
+
+/// What stands for a catch, in a file with a fault.
+fn catch_of_nothing(alloc: Global, block: u32) -> Catch
+    ensures { result ≡ nest.catch_with (record { names = []; when = None }) block }
+{
+    Catch {
+        names: Series::of(Vec::new(alloc)),
+        when: None,
+        block,
+    }
+}
+
+/// The catch that an item of `doCatch` says, whose block has this number.
+fn catch_of(alloc: Global, known: &mut Known, tree: &Tree, block: u32) -> Result<Catch, NoMemory>
+    ensures { IfOk result (λ c. c ≡ nest.catch_with (spec.catching_of (json tree.now)) block) }
+{
+    match tree {
+        Tree::Object(members) => catch_in(alloc, known, members.items(), block),
+        Tree::Null => Ok(catch_of_nothing(alloc, block)),
+        Tree::Flag(_) => Ok(catch_of_nothing(alloc, block)),
+        Tree::Whole(_) => Ok(catch_of_nothing(alloc, block)),
+        Tree::Float => Ok(catch_of_nothing(alloc, block)),
+        Tree::Word(_) => Ok(catch_of_nothing(alloc, block)),
+        Tree::List(_) => Ok(catch_of_nothing(alloc, block)),
+    }
+}
+
+/// The catches of a try, of which the blocks have the first of these numbers, and the numbers behind
+/// them.
+fn catches<'a>(
+    alloc: Global,
+    known: &mut Known,
+    items: &[Tree],
+    numbers: &'a [u32],
+) -> Result<(Vec<Catch>, &'a [u32]), NoMemory>
+    ensures { let takes = spec.catchings_of (items_json items.now) in
+        IfOk result (λ r. (r.0.items ≡ nest.catches_with takes numbers.now)
+        × (r.1.now ≡ nest.past takes numbers.now)) }
+{
+    let mut catches = Vec::new(alloc);
+    let mut left = numbers;
+    for item in items {
+        catches.push(catch_of(alloc, known, item, first_of(left))?)?;
+        left = behind_first(left);
+    }
+    Ok((catches, left))
+}
+
+/// `doTry`: the first block is gone through, then that of the catch that takes its fault, then in any
+/// case the last one.
+fn try_step(
+    alloc: Global,
+    known: &mut Known,
+    members: &[(Text, Tree)],
+    numbers: &[u32],
+) -> Result<Step, NoMemory>
+    ensures { let ms = members_json members.now in
+        let frame = nest.tries (spec.catchings_in ms) (is_some (objects.value_at Key.DoFinally ms)) in
+        IfOk result (λ s. s ≡ nest.fill frame numbers.now) }
+{
+    let items = items_at(Key::DoCatch, members);
+    let (catches, left) = catches(alloc, known, items, behind_first(numbers))?;
+    let finish = last_of(value_at(Key::DoFinally, members).is_some(), left);
+    Ok(Step::Try {
+        block: first_of(numbers),
+        catches: Series::of(catches),
+        finish,
     })
 }
 
@@ -232,6 +342,8 @@ pub fn step_of(
         Key::Multicast => multicast(alloc, members, numbers),
         Key::Aggregate => Ok(Step::Aggregate(aggregate_in(alloc, block, known, members)?)),
         Key::IdempotentConsumer => idempotent(alloc, members, block),
+        Key::DoTry => try_step(alloc, known, members, numbers.as_slice()),
+        Key::Resequence => Ok(Step::Aggregate(batching_in(alloc, block, members)?)),
         _ => nothing(alloc),
     }
 }

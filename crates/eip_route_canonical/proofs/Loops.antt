@@ -1,13 +1,14 @@
 -- Trees, and groups of trees, that are pushed or taken one behind another.
-use Rattle.std.proofs.Common.{ℕ, ◌+◌, ◌≤◌, List, [], ◌∷◌, ◌++◌, drop, length, ◌≡◌, ap, ◌∙◌, sym, append_assoc, arith}
+use Rattle.std.proofs.Common.{ℕ, ◌+◌, ◌≤◌, List, [], ◌∷◌, ◌++◌, drop, length, ◌≡◌, refl, ap, ◌∙◌, sym, append_assoc, arith, codes}
 use Rattle.std.proofs.Math.ListN.{drop_of_length-le}
 use Rattle.std.proofs.lemmas.List.{append-nil}
 use Rattle.eip_text.specs.Json.{Json, json}
 use Rattle.eip_text.specs.declared.tree.Tree.{Tree}
-use Rattle.eip_route.specs.Nest.{checks_of, past, rest_of}
+use Rattle.eip_route.specs.Nest.{catchings_of, checks_of, past, rest_of}
+use Rattle.eip_route.specs.declared.step.Catch.{Catch}
 use Rattle.eip_route.specs.declared.step.Check.{Check}
 use Rattle.eip_route_canonical.proofs.Objects.{one_more, values_push}
-use Rattle.eip_route_canonical.specs.Canonical.{list_of, guarded_json, first_json, all_json, cases_json}
+use Rattle.eip_route_canonical.specs.Canonical.{list_of, one, guarded_json, catch_json, catches_pairs, first_json, all_json, cases_json, catches_json}
 use Rattle.eip_route_canonical.specs.Trees.{values_of, groups_of}
 
 -- one more item of a list that is printed item by item
@@ -66,3 +67,27 @@ case_pushed cs k its more t steps c gs hs w i d m j s r =
 pub case_passed : (cs : List (Check × ℕ)) (k : ℕ) (c : Check × ℕ) (gs hs w : List (List Json)) → past (checks_of (drop k cs)) gs ≡ w → drop k cs ≡ c ∷ drop (k + 1) cs → hs ≡ rest_of gs
     → past (checks_of (drop (k + 1) cs)) hs ≡ w
 case_passed cs k c gs hs w i d r = ap (past (checks_of (drop (k + 1) cs))) r ∙ (ap (λ ds. past (checks_of ds) gs) (sym d) ∙ i)
+
+-- the same of catches
+pub all_catches : (cs : List Catch) (k : ℕ) (its : List Tree) (gs : List (List Json)) (w : List Json) → values_of its ++ catches_json (catchings_of (drop k cs)) gs ≡ w → length cs ≤ k → values_of its ≡ w
+all_catches cs k its gs w i h =
+    sym (append-nil (values_of its)) ∙ (ap (λ ds. values_of its ++ catches_json (catchings_of ds) gs) (sym (drop_of_length-le cs h)) ∙ i)
+
+pub catch_pushed : (cs : List Catch) (k : ℕ) (its more : List Tree) (t steps : Tree) (c : Catch) (gs hs : List (List Json)) (w : List Json) → values_of its ++ catches_json (catchings_of (drop k cs)) gs ≡ w →
+    drop k cs ≡ c ∷ drop (k + 1) cs → more ≡ its ++ t ∷ [] → json t ≡ catch_json c.names c.when (json steps) → json steps ≡ list_of (first_json gs) → hs ≡ rest_of gs
+    → values_of more ++ catches_json (catchings_of (drop (k + 1) cs)) hs ≡ w
+catch_pushed cs k its more t steps c gs hs w i d m j s r =
+    ap (λ ts. values_of ts ++ catches_json (catchings_of (drop (k + 1) cs)) hs) m
+    ∙ (one_more its t (catches_json (catchings_of (drop (k + 1) cs)) hs)
+    ∙ (ap (λ v. values_of its ++ (v ∷ catches_json (catchings_of (drop (k + 1) cs)) hs)) (j ∙ ap (catch_json c.names c.when) s)
+    ∙ (ap (λ us. values_of its ++ (catch_json c.names c.when (list_of (first_json gs)) ∷ catches_json (catchings_of (drop (k + 1) cs)) us)) r
+    ∙ (ap (λ ds. values_of its ++ catches_json (catchings_of ds) gs) (sym d) ∙ i))))
+
+pub catch_passed : (cs : List Catch) (k : ℕ) (c : Catch) (gs hs w : List (List Json)) → past (catchings_of (drop k cs)) gs ≡ w → drop k cs ≡ c ∷ drop (k + 1) cs → hs ≡ rest_of gs
+    → past (catchings_of (drop (k + 1) cs)) hs ≡ w
+catch_passed cs k c gs hs w i d r = ap (past (catchings_of (drop (k + 1) cs))) r ∙ (ap (λ ds. past (catchings_of ds) gs) (sym d) ∙ i)
+
+-- the member of the catches, where there are any
+pub catches_put : (cs : List Catch) (gs : List (List Json)) → 1 ≤ length cs → catches_pairs (catches_json (catchings_of cs) gs) ≡ one (codes "doCatch") (list_of (catches_json (catchings_of cs) gs))
+catches_put [] gs h = absurd (omega arith)
+catches_put (c ∷ cs) gs h = refl

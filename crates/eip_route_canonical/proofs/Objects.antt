@@ -4,10 +4,10 @@ use Rattle.eip_text.specs.Json.{Json, list, object, item, member, json, items_js
 use Rattle.eip_text.specs.declared.tree.Tree.{Tree}
 use Rattle.eip_text.specs.declared.tree.Tree.TheVariants as tree
 use Rattle.eip_text.proofs.Levels.{json_list, json_object, json_flag, json_whole, json_word}
-use Rattle.eip_route_canonical.specs.Canonical.{is_none}
+use Rattle.eip_route_canonical.specs.Canonical.{is_none, behind}
 use Rattle.eip_route_canonical.specs.Trees.{pairs_of, values_of, groups_of}
 
-members_same : (ms : List (List ℕ × Tree)) → members_json ms ≡ members_of (pairs_of ms)
+pub members_same : (ms : List (List ℕ × Tree)) → members_json ms ≡ members_of (pairs_of ms)
 members_same [] = refl
 members_same (m ∷ ms) = ap (member m.0 (json m.1)) (members_same ms)
 
@@ -40,5 +40,10 @@ one_more (u ∷ ts) t js = ap (λ ks. json u ∷ ks) (one_more ts t js)
 pub none_made : (ms : List (List ℕ × Tree)) (n : ℕ) → n ≡ length ms → (n == 0) ≡ is_none (pairs_of ms)
 none_made [] n e = rw e refl
 none_made (m ∷ ms) n e = rw e (search rules)
+
+-- the members of pairs that stand behind others
+pub members_behind : (ps qs : List (List ℕ × Json)) → members_of (ps ++ qs) ≡ behind (members_of ps) (members_of qs)
+members_behind [] qs = refl
+members_behind (p ∷ ps) qs = ap (member p.0 p.1) (members_behind ps qs)
 
 pub ruleset trees = (object_tree, list_tree, pairs_push, values_push, groups_push, one_more, json_flag, json_whole, json_word)

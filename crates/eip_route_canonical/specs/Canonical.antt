@@ -1,18 +1,21 @@
 -- The canonical route file of a set: keys in camelCase and in byte order, what has its default left out.
-use Rattle.std.specs.Prelude.{ℕ, pos, Bool, true, false, cond, bytes_eq, List, [], ◌∷◌, ◌++◌, Option, Some, None, codes}
+use Rattle.std.specs.Prelude.{ℕ, pos, Bool, true, false, cond, bytes_eq, nat_eq, List, [], ◌∷◌, ◌++◌, Option, Some, None, codes}
 use Rattle.eip_exchange.specs.declared.setting.How.{How}
 use Rattle.eip_exchange.specs.declared.setting.How.TheVariants as how
+use Rattle.eip_exchange.specs.declared.setting.Key.{Key}
+use Rattle.eip_exchange.specs.declared.setting.Key.TheVariants as key
 use Rattle.eip_exchange.specs.declared.setting.Policy.{Policy}
 use Rattle.eip_exchange.specs.declared.setting.Strategy.{Strategy}
 use Rattle.eip_exchange.specs.declared.setting.Strategy.TheVariants as strategy
 use Rattle.eip_simple_read.specs.Spelling.{template_text, predicate_text}
 use Rattle.eip_simple_read.specs.declared.tree.Predicate.{Predicate}
 use Rattle.eip_simple_read.specs.declared.tree.Template.{Template}
-use Rattle.eip_text.specs.Json.{Json, flag, whole, word, list, object, items_of, members_of}
+use Rattle.eip_text.specs.Json.{Json, flag, whole, word, list, object, Members, no_members, member, items_of, members_of}
 use Rattle.eip_text.specs.JsonText.{json_text}
 use Rattle.eip_uri.specs.Printed.{printed}
 use Rattle.eip_uri.specs.declared.uri.Uri.{Uri}
-use Rattle.eip_route.specs.Nest.{Gathering, Frame, chooses, filters, splits, multicasts, aggregates, runs_once, NestedStep, NestedSteps, NestedGroups, NestedLast, NestedClause, NestedRoute, NestedSet, leaf, holds, none, more, no_group, group, no_last, last, rest_of, past, held, un_set}
+use Rattle.eip_route.specs.Nest.{Gathering, Frame, chooses, filters, splits, multicasts, aggregates, runs_once, tries, Catching, NestedStep, NestedSteps, NestedGroups, NestedLast, NestedClause, NestedRoute, NestedSet, leaf, holds, none, more, no_group, group, no_last, last, rest_of, past, held, un_set}
+use Rattle.eip_route.specs.Valid.{is_batch_strategy}
 use Rattle.eip_route.specs.declared.route.Handler.{Handler}
 use Rattle.eip_route.specs.declared.route.RouteSet.{RouteSet}
 use Rattle.eip_route.specs.declared.step.Check.{Check}
@@ -40,6 +43,10 @@ one k j = (k, j) ∷ []
 -- an object of one member
 abbrev pub alone : List ℕ → Json → Json
 alone k j = object_of (one k j)
+
+abbrev pub words : List (List ℕ) → List Json
+words [] = []
+words (w ∷ ws) = word w ∷ words ws
 
 -- a flag whose default is false, and one whose default is true
 abbrev pub where_set : List ℕ → Bool → Pairs
@@ -103,6 +110,7 @@ strategy_text strategy.Latest = codes "latest"
 strategy_text (strategy.Joined between) = joined_text between
 strategy_text strategy.Grouped = codes "grouped"
 strategy_text strategy.Sum = codes "sum"
+strategy_text strategy.Batch = codes "batch"
 
 abbrev pub this_strategy : Strategy → Pairs
 this_strategy s = one (codes "aggregationStrategy") (word (strategy_text s))
@@ -126,10 +134,12 @@ delimiter_pairs d = cond (is_comma d) [] (one (codes "delimiter") (word d))
 abbrev pub json_path : How → Pairs
 json_path (how.Token token) = []
 json_path how.JsonArray = one (codes "jsonpath") (word (codes "$[*]"))
+json_path (how.Batch k) = []
 
 abbrev pub token_pairs : How → Pairs
 token_pairs (how.Token token) = one (codes "tokenize") (word token)
 token_pairs how.JsonArray = []
+token_pairs (how.Batch k) = []
 
 abbrev pub backing_pairs : Option Bool → Pairs
 backing_pairs None = []
@@ -177,6 +187,7 @@ unfoldable pub split_json : How → Fan → Json → Json
 split_json how fan steps = alone (codes "split") (object_of (strategy_pairs fan.strategy
     ++ json_path how
     ++ where_set (codes "parallelProcessing") fan.parallel
+    ++ where_set (codes "shareUnitOfWork") fan.share
     ++ one (codes "steps") steps
     ++ where_set (codes "stopOnException") fan.stop
     ++ token_pairs how))
@@ -184,6 +195,7 @@ split_json how fan steps = alone (codes "split") (object_of (strategy_pairs fan.
 unfoldable pub multicast_json : Fan → Json → Json
 multicast_json fan steps = alone (codes "multicast") (object_of (strategy_pairs fan.strategy
     ++ where_set (codes "parallelProcessing") fan.parallel
+    ++ where_set (codes "shareUnitOfWork") fan.share
     ++ one (codes "steps") steps
     ++ where_set (codes "stopOnException") fan.stop))
 
@@ -193,6 +205,7 @@ recipients_json e delimiter fan = alone (codes "recipientList") (object_of (stra
     ++ delimiter_pairs delimiter
     ++ named_pairs e
     ++ where_set (codes "parallelProcessing") fan.parallel
+    ++ where_set (codes "shareUnitOfWork") fan.share
     ++ simple_pairs e
     ++ where_set (codes "stopOnException") fan.stop))
 
@@ -215,10 +228,68 @@ idempotent_json e name skip eager remove steps = alone (codes "idempotentConsume
     ++ where_unset (codes "skipDuplicate") skip
     ++ one (codes "steps") steps))
 
--- the key `otherwise` of a choice
-abbrev pub otherwise_pairs : Option Json → Pairs
-otherwise_pairs None = []
-otherwise_pairs (Some steps) = one (codes "otherwise") (alone (codes "steps") steps)
+-- steps that may be absent, in an object of their own
+abbrev pub nested_pairs : List ℕ → Option Json → Pairs
+nested_pairs k None = []
+nested_pairs k (Some steps) = one k (alone (codes "steps") steps)
+
+-- what a catch asks of a fault's message
+abbrev pub when_pairs : Option Check → Pairs
+when_pairs None = []
+when_pairs (Some c) = one (codes "onWhen") (object_of (check_pairs c))
+
+unfoldable pub catch_json : List (List ℕ) → Option Check → Json → Json
+catch_json names check steps = object_of (one (codes "exception") (list_of (words names)) ++ when_pairs check ++ one (codes "steps") steps)
+
+-- the key `doCatch`, where there is a catch
+abbrev pub catches_pairs : List Json → Pairs
+catches_pairs [] = []
+catches_pairs (j ∷ js) = one (codes "doCatch") (list_of (j ∷ js))
+
+unfoldable pub try_json : List Json → Option Json → Json → Json
+try_json catches finish steps = alone (codes "doTry") (object_of (catches_pairs catches ++ nested_pairs (codes "doFinally") finish ++ one (codes "steps") steps))
+
+-- what a resequencer puts its messages in order by
+abbrev pub order_pairs : Key → Pairs
+order_pairs key.Body = one (codes "simple") (word (codes "${body}"))
+order_pairs (key.Header name) = one (codes "header") (word name)
+order_pairs (key.Property name) = one (codes "exchangeProperty") (word name)
+
+-- a number, where it isn't the default
+abbrev pub where_other : List ℕ → ℕ → Option ℕ → Pairs
+where_other k default None = []
+where_other k default (Some n) = cond (nat_eq n default) [] (one k (whole (pos n)))
+
+unfoldable pub batch_pairs : Gathering → Pairs
+batch_pairs g = where_other (codes "batchSize") 100 g.size ++ where_other (codes "batchTimeout") 1000 g.timeout
+
+abbrev pub config_pairs : Gathering → Pairs
+config_pairs g = where_any (codes "batchConfig") (batch_pairs g)
+
+-- The split of a batch is printed as the members that it gives to its resequencer: the aggregator puts its own before them.
+unfoldable pub batch_json : Key → Json → Json
+batch_json k steps = object_of (order_pairs k ++ one (codes "steps") steps)
+
+abbrev pub behind : Members → Members → Members
+behind no_members ns = ns
+behind (member k j ms) ns = member k j (behind ms ns)
+
+-- the members of an object
+abbrev pub object_members : Json → Members
+object_members (object ms) = ms
+object_members _ = no_members
+
+-- and of the first of these
+abbrev pub members_first : List Json → Members
+members_first [] = no_members
+members_first (j ∷ js) = object_members j
+
+unfoldable pub resequence_json : Gathering → List Json → Json
+resequence_json g js = alone (codes "resequence") (object (behind (members_of (config_pairs g)) (members_first js)))
+
+abbrev pub splits_json : How → Fan → Json → Json
+splits_json (how.Batch k) fan steps = batch_json k steps
+splits_json h fan steps = split_json h fan steps
 
 -- ---- by the printed steps of each group
 
@@ -236,17 +307,24 @@ abbrev pub cases_json : List Check → List (List Json) → List Json
 cases_json [] gs = []
 cases_json (c ∷ cs) gs = guarded_json c (list_of (first_json gs)) ∷ cases_json cs (rest_of gs)
 
-abbrev pub otherwise_json : Bool → List (List Json) → Option Json
-otherwise_json false gs = None
-otherwise_json true gs = Some (list_of (first_json gs))
+-- the steps of the last group, where it is there
+abbrev pub last_steps : Bool → List (List Json) → Option Json
+last_steps false gs = None
+last_steps true gs = Some (list_of (first_json gs))
+
+-- each catch with a group
+abbrev pub catches_json : List Catching → List (List Json) → List Json
+catches_json [] gs = []
+catches_json (c ∷ cs) gs = catch_json c.names c.when (list_of (first_json gs)) ∷ catches_json cs (rest_of gs)
 
 abbrev pub frame_json : Frame → List (List Json) → Json
-frame_json (chooses cs l) gs = choice_json (otherwise_pairs (otherwise_json l (past cs gs))) (list_of (cases_json cs gs))
+frame_json (chooses cs l) gs = choice_json (nested_pairs (codes "otherwise") (last_steps l (past cs gs))) (list_of (cases_json cs gs))
 frame_json (filters check) gs = alone (codes "filter") (guarded_json check (list_of (first_json gs)))
-frame_json (splits how fan) gs = split_json how fan (list_of (first_json gs))
+frame_json (splits h fan) gs = splits_json h fan (list_of (first_json gs))
 frame_json (multicasts fan) gs = multicast_json fan (list_of (all_json gs))
-frame_json (aggregates g) gs = aggregate_json g (list_of (first_json gs))
+frame_json (aggregates g) gs = cond (is_batch_strategy g.strategy) (resequence_json g (first_json gs)) (aggregate_json g (list_of (first_json gs)))
 frame_json (runs_once e name skip eager remove) gs = idempotent_json e name skip eager remove (list_of (first_json gs))
+frame_json (tries cs l) gs = try_json (catches_json cs (rest_of gs)) (last_steps l (past cs (rest_of gs))) (list_of (first_json gs))
 
 -- a step without blocks
 abbrev pub leaf_json : Step → Json
@@ -289,10 +367,6 @@ last_json no_last = None
 last_json (last ss) = Some (list_of (steps_json ss))
 
 -- ---- the file
-
-abbrev pub words : List (List ℕ) → List Json
-words [] = []
-words (w ∷ ws) = word w ∷ words ws
 
 abbrev pub steps_pairs : Option Json → Pairs
 steps_pairs None = []

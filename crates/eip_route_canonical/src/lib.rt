@@ -8,4 +8,4 @@ pub mod steps;
 
 pub use groups::Groups;
 pub use object::{Object, alone, word};
-pub use parts::put_policy;
+pub use parts::{put_policy, words};

@@ -113,6 +113,15 @@ impl Object {
         self.put(key, inner.tree())
     }
 
+    /// All of these members.
+    pub fn put_all(&mut self, members: Vec<(Text, Tree)>) -> Result<(), NoMemory>
+        ensures { OnOk result (trees.made self.new ≡ trees.made self.old ++ trees.pairs_of members.items) }
+    {
+        let mut members = members;
+        self.members.append(&mut members)?;
+        Ok(())
+    }
+
     /// Whether the object has no members.
     pub fn is_empty(&self) -> bool
         ensures { result ≡ spec.is_none (trees.made self.now) }

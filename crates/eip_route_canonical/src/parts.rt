@@ -2,14 +2,15 @@
 
 ghost use Rattle.std.specs.Prelude.{◌≡◌, ◌++◌, IfOk, OnOk};
 ghost use Rattle.eip_text.specs.Json.{json};
+ghost use Rattle.eip_route.specs.Nest.{without_block};
 ghost use Rattle.eip_route_canonical.specs.Canonical as spec;
 ghost use Rattle.eip_route_canonical.specs.Trees as trees;
 
-use crate::object::{Object, alone};
-use eip_exchange::{How, Policy, Strategy};
-use eip_route::{Check, Expr, Fan};
+use crate::object::{Object, alone, word};
+use eip_exchange::{How, Key, Policy, Strategy};
+use eip_route::{Aggregate, Check, Expr, Fan};
 use eip_simple_read::{Predicate, print_predicate, print_template};
-use eip_text::{NoMemory, Text, Tree};
+use eip_text::{NoMemory, Series, Text, Tree};
 use std::alloc::Global;
 
 /// The member of a constant.
@@ -76,6 +77,7 @@ fn strategy_text(alloc: Global, strategy: &Strategy) -> Result<Text, NoMemory>
         Strategy::Joined(between) => joined_text(alloc, between),
         Strategy::Grouped => Text::of_str(alloc, "grouped"),
         Strategy::Sum => Text::of_str(alloc, "sum"),
+        Strategy::Batch => Text::of_str(alloc, "batch"),
     }
 }
 
@@ -129,9 +131,11 @@ pub fn put_group_strategy(
 {
     match strategy {
         Strategy::Latest => Ok(()),
-        Strategy::Original | Strategy::Joined(_) | Strategy::Grouped | Strategy::Sum => {
-            put_this_strategy(alloc, object, strategy)
-        }
+        Strategy::Original
+        | Strategy::Joined(_)
+        | Strategy::Grouped
+        | Strategy::Sum
+        | Strategy::Batch => put_this_strategy(alloc, object, strategy),
     }
 }
 
@@ -169,7 +173,7 @@ pub fn put_json_path(alloc: Global, object: &mut Object, how: &How) -> Result<()
 {
     match how {
         How::JsonArray => object.put_text("jsonpath", Text::of_str(alloc, "$[*]")?),
-        How::Token(_) => Ok(()),
+        How::Token(_) | How::Batch(_) => Ok(()),
     }
 }
 
@@ -179,7 +183,7 @@ pub fn put_token(object: &mut Object, how: &How) -> Result<(), NoMemory>
 {
     match how {
         How::Token(token) => object.put_word("tokenize", token),
-        How::JsonArray => Ok(()),
+        How::JsonArray | How::Batch(_) => Ok(()),
     }
 }
 
@@ -226,4 +230,69 @@ pub fn put_policy(alloc: Global, object: &mut Object, policy: &Policy) -> Result
     ensures { OnOk result (trees.made object.new ≡ trees.made object.old ++ spec.policy_in policy.now) }
 {
     object.put_any("redeliveryPolicy", policy_object(alloc, policy)?)
+}
+
+/// The list of these texts.
+pub fn words(alloc: Global, texts: &[Text]) -> Result<Tree, NoMemory>
+    ensures { IfOk result (λ t. json t ≡ spec.list_of (spec.words texts.now)) }
+{
+    let mut items = Vec::new(alloc);
+    for text in texts {
+        let tree = word(text)?;
+        items.push(tree)?;
+    }
+    Ok(Tree::List(Series::of(items)))
+}
+
+/// What a resequencer puts its messages in order by.
+pub fn put_order(alloc: Global, object: &mut Object, key: &Key) -> Result<(), NoMemory>
+    ensures { OnOk result (trees.made object.new ≡ trees.made object.old ++ spec.order_pairs key.now) }
+{
+    match key {
+        Key::Body => object.put_text("simple", Text::of_str(alloc, "${body}")?),
+        Key::Header(name) => object.put_word("header", name),
+        Key::Property(name) => object.put_word("exchangeProperty", name),
+    }
+}
+
+/// A number, where it isn't the default.
+fn put_other(
+    object: &mut Object,
+    key: &str,
+    default: u64,
+    number: Option<u64>,
+) -> Result<(), NoMemory>
+    ensures { OnOk result (trees.made object.new ≡ trees.made object.old ++ spec.where_other key.now default number) }
+{
+    match number {
+        Some(number) => {
+            if number == default {
+                Ok(())
+            } else {
+                object.put_number(key, number)
+            }
+        }
+        None => Ok(()),
+    }
+}
+
+#[tactic(auto, unfolding(crate::specs::Canonical::batch_pairs))]
+fn batch_config(alloc: Global, setting: &Aggregate) -> Result<Object, NoMemory>
+    ensures { IfOk result (λ o. trees.made o ≡ spec.batch_pairs (without_block setting.now)) }
+{
+    let mut object = Object::new(alloc);
+    put_other(&mut object, "batchSize", 100, wide(setting.size))?;
+    put_other(&mut object, "batchTimeout", 1000, setting.timeout)?;
+    Ok(object)
+}
+
+/// The size and the timeout of a batch, where one isn't the default.
+pub fn put_batch_config(
+    alloc: Global,
+    object: &mut Object,
+    setting: &Aggregate,
+) -> Result<(), NoMemory>
+    ensures { OnOk result (trees.made object.new ≡ trees.made object.old ++ spec.config_pairs (without_block setting.now)) }
+{
+    object.put_any("batchConfig", batch_config(alloc, setting)?)
 }

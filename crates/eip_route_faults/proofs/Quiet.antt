@@ -8,6 +8,8 @@ use Rattle.eip_uri.specs.declared.fault.UriFault.TheVariants as uri_fault
 use Rattle.eip_uri.specs.Inlets.{inlet_of}
 use Rattle.eip_uri.specs.Reading.{read}
 use Rattle.eip_uri.specs.Sides.{is_consumer, is_producer}
+use Rattle.eip_simple_read.specs.declared.fault.SimpleFault.{SimpleFault}
+use Rattle.eip_simple_read.specs.declared.tree.Template.{Template}
 use Rattle.eip_simple_read.specs.Meaning.{answer, template_of, predicate_of}
 use Rattle.eip_simple_read.specs.Reading.{Fault, Bad, Unknown, Refused, template, all_tests}
 use Rattle.eip_route.specs.Goals.{is_among, lane_of}
@@ -15,10 +17,10 @@ use Rattle.eip_route.specs.declared.route.Names.{Names}
 use Rattle.eip_route_grammar.specs.Table.{rows, row_for, rule_of, list_of, shape_of}
 use Rattle.eip_route_grammar.specs.Causes.{or_else}
 use Rattle.eip_route_grammar.specs.Texts.{unhashed}
-use Rattle.eip_route_faults.specs.Values.{unless, name_cause, handed_in, registered, served, consumer_cause, producer_cause, read_cause, spelled_cause, word_cause, whole_cause, flag_cause}
+use Rattle.eip_route_faults.specs.Values.{unless, name_cause, handed_in, registered, served, consumer_cause, producer_cause, read_cause, spelled_cause, key_cause, word_cause, whole_cause, flag_cause}
 use Rattle.eip_route_grammar.specs.Objects.{clashes, missed, missing, known, keyed, known_one, one_key, is_note, one_aside, own_keys, keys_of, value_kind, parameters_of, whole_object, when, completes}
 use Rattle.eip_route_grammar.specs.Paths.{key_step, index_step}
-use Rattle.eip_route_faults.specs.Sites.{predicate, Site, found, under, has_none, own_list, item_kind, deeper, is_predicate, word_sites, sites_at, items_sites, members_sites, cause_at, or_later, first_fault, cause_failures, found_failures, Walks}
+use Rattle.eip_route_faults.specs.Sites.{predicate, Site, found, under, has_none, is_deep, own_list, item_kind, deeper, is_predicate, word_sites, sites_at, items_sites, members_sites, cause_at, or_later, first_fault, cause_failures, found_failures, Walks}
 use Rattle.eip_route_grammar.specs.declared.fault.Cause.{Cause}
 use Rattle.eip_route_grammar.specs.declared.fault.Cause.TheVariants as cause
 use Rattle.eip_route_grammar.specs.declared.fault.RouteFault.{RouteFault}
@@ -114,6 +116,10 @@ quiet_predicate : (w : List ℕ) → Quiet (spelled_cause (predicate_of w))
 unfolding predicate_of
 quiet_predicate w = quiet_answer _ _ (all_tests None w)
 
+quiet_key : (r : Result Template SimpleFault) → Quiet (spelled_cause r) → Quiet (key_cause r)
+quiet_key (Ok t) q = quiet_unless _ cause.BadValue refl
+quiet_key (Err e) q = q
+
 quiet_word : (n : Names) (ps : List (List ℕ × List ℕ)) (r : Rule) (w : List ℕ) → Quiet (word_cause n ps r w)
 quiet_word n ps rule.Word w = tt
 quiet_word n ps rule.Name w = quiet_unless _ cause.BadName refl
@@ -123,10 +129,10 @@ quiet_word n ps rule.StoredPredicate w = quiet_registered (unhashed w) n.predica
 quiet_word n ps rule.Consumer w = quiet_read (consumer_cause n) (read w ps) (quiet_consumer n)
 quiet_word n ps rule.Producer w = quiet_read (producer_cause n) (read w ps) (quiet_producer n)
 quiet_word n ps rule.Template w = quiet_template w
+quiet_word n ps rule.OrderKey w = quiet_key (template_of w) (quiet_template w)
 quiet_word n ps rule.Predicate w = tt
 quiet_word n ps rule.Constant w = tt
 quiet_word n ps rule.Flag w = quiet_unless _ cause.BadValue refl
-quiet_word n ps rule.OnlyTrue w = quiet_unless _ cause.BadValue refl
 quiet_word n ps (rule.Count low high) w = quiet_unless _ cause.BadValue refl
 quiet_word n ps rule.Filled w = quiet_unless _ cause.BadValue refl
 quiet_word n ps rule.WholeArray w = quiet_unless _ cause.BadValue refl
@@ -143,7 +149,6 @@ quiet_whole _ z = refl
 quiet_flag : (r : Option Rule) (b : Bool) → Quiet (flag_cause r b)
 quiet_flag (Some rule.Constant) b = tt
 quiet_flag (Some rule.Flag) b = tt
-quiet_flag (Some rule.OnlyTrue) b = quiet_unless b cause.BadValue refl
 quiet_flag _ b = refl
 
 quiet_by : (t : Bool) (n : Names) (ps : List (List ℕ × List ℕ)) (r : Rule) (w : List ℕ) → AreQuiet (cond {A = List Site} t (([], predicate w) ∷ []) (found (word_cause n ps r w)))
@@ -203,7 +208,7 @@ quiet_object _ ms = tt
 
 quiet_list : (d : ℕ) (o : Option Listed) (empty : Bool) → Quiet (own_list d o empty)
 quiet_list d None empty = refl
-quiet_list d (Some r) empty = quiet_cond (r.filled && empty) (Some cause.BadValue) _ refl (quiet_cond (r.nests && nat_le 16 d) (Some cause.TooNested) None refl tt)
+quiet_list d (Some r) empty = quiet_cond (r.filled && empty) (Some cause.BadValue) _ refl (quiet_cond (is_deep d r.nests) (Some cause.TooNested) None refl tt)
 
 -- ---- the walk
 

@@ -20,6 +20,8 @@ use Rattle.eip_route_grammar.specs.declared.table.Rule.TheVariants as rule
 use Rattle.eip_route_grammar.specs.declared.table.Kind.{Kind}
 use Rattle.eip_route_grammar.specs.declared.table.Kind.TheVariants as kind
 use Rattle.eip_route_grammar.specs.declared.table.Listed.{Listed}
+use Rattle.eip_route_grammar.specs.declared.table.Nests.{Nests}
+use Rattle.eip_route_grammar.specs.declared.table.Nests.TheVariants as nests
 
 -- ---- sites
 
@@ -48,10 +50,22 @@ abbrev pub has_none : Items → Bool
 has_none no_items = true
 has_none (item t ts) = false
 
+-- the blocks of a list's items would be nested more than 16 deep
+abbrev pub is_deep : ℕ → Nests → Bool
+is_deep d nests.Nowhere = false
+is_deep d nests.Block = nat_le 16 d
+is_deep d nests.Batch = nat_le 15 d
+
+-- so many blocks stand around them
+abbrev pub inside : ℕ → Nests → ℕ
+inside d nests.Nowhere = d
+inside d nests.Block = d + 1
+inside d nests.Batch = d + 2
+
 -- what is wrong with a list inside so many blocks
 abbrev pub own_list : ℕ → Option Listed → Bool → Option Cause
 own_list d None empty = Some cause.WrongKind
-own_list d (Some r) empty = if r.filled && empty then Some cause.BadValue else (if r.nests && nat_le 16 d then Some cause.TooNested else None)
+own_list d (Some r) empty = if r.filled && empty then Some cause.BadValue else (if is_deep d r.nests then Some cause.TooNested else None)
 
 abbrev pub item_kind : Option Listed → Kind
 item_kind None = kind.Leaf rule.Word
@@ -59,7 +73,7 @@ item_kind (Some r) = r.item
 
 abbrev pub deeper : ℕ → Option Listed → ℕ
 deeper d None = d
-deeper d (Some r) = if r.nests then d + 1 else d
+deeper d (Some r) = inside d r.nests
 
 -- ---- all else
 

@@ -11,12 +11,13 @@ use Rattle.eip_uri.specs.Reading.{read}
 use Rattle.eip_uri.specs.Sides.{is_consumer, is_producer}
 use Rattle.eip_simple_read.specs.declared.fault.SimpleFault.{SimpleFault}
 use Rattle.eip_simple_read.specs.declared.fault.SimpleFault.TheVariants as simple_fault
+use Rattle.eip_simple_read.specs.declared.tree.Template.{Template}
 use Rattle.eip_simple_read.specs.Meaning.{template_of}
 use Rattle.eip_route.specs.Goals.{is_among, lane_of}
 use Rattle.eip_route.specs.Valid.{is_kind}
 use Rattle.eip_route.specs.declared.route.Names.{Names}
 use Rattle.eip_route_grammar.specs.Causes.{or_else}
-use Rattle.eip_route_grammar.specs.Texts.{unhashed, last_segment, strategy_of}
+use Rattle.eip_route_grammar.specs.Texts.{unhashed, last_segment, strategy_of, key_of}
 use Rattle.eip_route_grammar.specs.declared.fault.Cause.{Cause}
 use Rattle.eip_route_grammar.specs.declared.fault.Cause.TheVariants as cause
 use Rattle.eip_route_grammar.specs.declared.table.Rule.{Rule}
@@ -81,6 +82,11 @@ abbrev pub spelled_cause : {A : Type 0} → Result A SimpleFault → Option Caus
 spelled_cause (Ok x) = None
 spelled_cause (Err e) = simple_cause e
 
+-- a template that is a part of the message and nothing else
+abbrev pub key_cause : Result Template SimpleFault → Option Cause
+key_cause (Ok t) = unless (is_some (key_of t)) cause.BadValue
+key_cause (Err e) = simple_cause e
+
 -- ---- numbers and truth values
 
 abbrev pub is_within : ℕ → ℕ → ℤ → Bool
@@ -117,10 +123,10 @@ word_cause n ps rule.StoredPredicate w = registered (unhashed w) n.predicates
 word_cause n ps rule.Consumer w = read_cause (consumer_cause n) (read w ps)
 word_cause n ps rule.Producer w = read_cause (producer_cause n) (read w ps)
 word_cause n ps rule.Template w = spelled_cause (template_of w)
+word_cause n ps rule.OrderKey w = key_cause (template_of w)
 word_cause n ps rule.Predicate w = None
 word_cause n ps rule.Constant w = None
 word_cause n ps rule.Flag w = unless (is_flag w) cause.BadValue
-word_cause n ps rule.OnlyTrue w = unless (is_true w) cause.BadValue
 word_cause n ps (rule.Count low high) w = unless (is_count low high (whole_of w)) cause.BadValue
 word_cause n ps rule.Filled w = unless (nat_lt 0 (length w)) cause.BadValue
 word_cause n ps rule.WholeArray w = unless (bytes_eq w (codes "$[*]")) cause.BadValue
@@ -139,5 +145,4 @@ whole_cause _ z = Some cause.WrongKind
 abbrev pub flag_cause : Option Rule → Bool → Option Cause
 flag_cause (Some rule.Constant) b = None
 flag_cause (Some rule.Flag) b = None
-flag_cause (Some rule.OnlyTrue) b = unless b cause.BadValue
 flag_cause _ b = Some cause.WrongKind

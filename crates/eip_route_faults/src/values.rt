@@ -1,4 +1,4 @@
-ghost use Rattle.std.specs.Prelude.{◌≡◌, ℕ, IfOk, Some, option_map};
+ghost use Rattle.std.specs.Prelude.{◌≡◌, ℕ, IfOk, Some, is_some, option_map};
 ghost use Rattle.std.specs.List.{list_all};
 ghost use Rattle.eip_text.specs.Numbers.{whole_of};
 ghost use Rattle.eip_uri.specs.Options.{is_level};
@@ -13,7 +13,7 @@ use eip_route::Names;
 use eip_route_grammar::fault::Cause;
 use eip_route_grammar::table::Rule;
 use eip_route_grammar::texts::{last_segment, unhashed, whole};
-use eip_simple_read::{SimpleFault, read_template};
+use eip_simple_read::{Function, Part, SimpleFault, Template, read_template};
 use eip_text::cuts::behind;
 use eip_text::{NoMemory, Text, is_name};
 use eip_uri::{Uri, UriFault};
@@ -191,6 +191,37 @@ fn template_cause(alloc: Global, text: &Text) -> Result<Option<Cause>, NoMemory>
     }
 }
 
+/// What is wrong with a text that is to be the body, a header or an exchange property in Simple.
+fn order_key_cause(alloc: Global, text: &Text) -> Result<Option<Cause>, NoMemory>
+    ensures { IfOk result (λ c. c ≡ spec.key_cause (template_of text.now)) }
+{
+    match read_template(alloc, text) {
+        Ok(template) => Ok(unless(is_key(&template), Cause::BadValue)),
+        Err(fault) => Ok(Some(simple_cause(fault)?)),
+    }
+}
+
+fn is_key(template: &Template) -> bool
+    ensures { result ≡ is_some (texts.key_of template.now) }
+{
+    match template.parts.items() {
+        [part] => is_key_part(part),
+        [] | [_, _, ..] => false,
+    }
+}
+
+fn is_key_part(part: &Part) -> bool
+    ensures { result ≡ is_some (texts.key_of_part part.now) }
+{
+    match part {
+        Part::Plain(_) => false,
+        Part::Call(function) => match function {
+            Function::Body | Function::Header(_) | Function::Property(_) => true,
+            Function::ExchangeId | Function::RouteId | Function::ExceptionMessage => false,
+        },
+    }
+}
+
 fn is_within(low: u32, high: u32, number: i128) -> bool
     ensures { result ≡ spec.is_within low high number }
 {
@@ -252,10 +283,10 @@ pub fn word_cause(
         Rule::Consumer => consumer_at(alloc, names, text, parameters),
         Rule::Producer => producer_at(alloc, names, text, parameters),
         Rule::Template => template_cause(alloc, text),
+        Rule::OrderKey => order_key_cause(alloc, text),
         Rule::Predicate => Ok(None),
         Rule::Constant => Ok(None),
         Rule::Flag => Ok(unless(is_flag(word), Cause::BadValue)),
-        Rule::OnlyTrue => Ok(unless(word == "true", Cause::BadValue)),
         Rule::Count(low, high) => Ok(unless(is_count(low, high, whole(word)), Cause::BadValue)),
         Rule::Filled => Ok(unless(!word.is_empty(), Cause::BadValue)),
         Rule::WholeArray => Ok(unless(word == "$[*]", Cause::BadValue)),
@@ -290,7 +321,6 @@ pub fn flag_cause(rule: Option<Rule>, flag: bool) -> Option<Cause>
     match rule {
         Some(Rule::Constant) => None,
         Some(Rule::Flag) => None,
-        Some(Rule::OnlyTrue) => unless(flag, Cause::BadValue),
         _ => Some(Cause::WrongKind),
     }
 }

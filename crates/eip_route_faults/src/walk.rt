@@ -13,7 +13,7 @@ use eip_route_grammar::fault::{Cause, RouteFault};
 use eip_route_grammar::keyed::own_keys;
 use eip_route_grammar::known::Known;
 use eip_route_grammar::objects::{parameters_of, whole_object};
-use eip_route_grammar::table::{Kind, Listed, Rule};
+use eip_route_grammar::table::{Kind, Listed, Nests, Rule};
 use eip_simple_read::{Patterns, read_predicate};
 use eip_text::{NoMemory, Text, Tree};
 use std::alloc::Global;
@@ -67,13 +67,21 @@ fn enter(depth: u32, list: Option<Listed>, empty: bool) -> Result<u32, Cause>
     if list.filled && empty {
         return Err(Cause::BadValue);
     }
-    if !list.nests {
-        return Ok(depth);
+    match list.nests {
+        Nests::Nowhere => Ok(depth),
+        Nests::Block => {
+            if depth >= 16 {
+                return Err(Cause::TooNested);
+            }
+            Ok(depth + 1)
+        }
+        Nests::Batch => {
+            if depth >= 15 {
+                return Err(Cause::TooNested);
+            }
+            Ok(depth + 2)
+        }
     }
-    if depth >= 16 {
-        return Err(Cause::TooNested);
-    }
-    Ok(depth + 1)
 }
 
 /// The kind of the value of a key: that of a parameter, where the object's table lacks the key.

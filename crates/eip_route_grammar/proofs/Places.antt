@@ -1,121 +1,143 @@
 -- Predicates that were read, by their places.
-use Rattle.std.proofs.Common.{ℕ, suc, ◌+◌, ◌<◌, ◌≡◌, Bool, true, false, cond, List, [], ◌∷◌, ◌++◌, length, get_or, drop, drop-cons, add-one, Option, None, Some, Ok, refl, sym, ap, ◌∙◌, subst, bytes_eq, arith}
-use Rattle.std.specs.Prelude.{slice_index_or}
-use Rattle.std.specs.List.{remove}
-use Rattle.std.specs.Option.{IfSome, OnSome}
-use Rattle.std.proofs.lemmas.Slice.Eq.{bytes_eq-Decides}
+use Rattle.std.proofs.Common.{ℕ, zero, suc, ◌<◌, ◌≤◌, ◌≡◌, Bool, true, false, cond, List, [], ◌∷◌, ◌++◌, length, get_or, set, Option, None, Some, Ok, refl, sym, ap, ◌∙◌, subst, bytes_eq, arith}
+use Rattle.std.proofs.lemmas.List.{get_or_past}
 use Rattle.std.specs.Prelude.{All}
+use Rattle.std.specs.Option.{IfSome, IfNone}
+use Rattle.std.proofs.lemmas.Slice.Eq.{bytes_eq-Decides}
 use Rattle.eip_simple_read.specs.declared.tree.Predicate.{Predicate}
 use Rattle.eip_simple_read.specs.Meaning.{predicate_of}
 use Rattle.eip_simple_read.specs.Reading.{HasGoodPattern}
-use Rattle.eip_route_grammar.specs.Known.{IsRead, AreRead, predicate_in, first_read, without, place_at}
+use Rattle.eip_route_grammar.specs.Known.{IsRead, AreRead, IsWithoutOne, predicate_in, first_read, kept, has_text}
 use Rattle.eip_route_grammar.specs.declared.known.Entry.{Entry}
 
-pub reads_append : (es fs : List Entry) → AreRead es → AreRead fs → AreRead (es ++ fs)
-reads_append [] fs p q = q
-reads_append (e ∷ es) fs p q = (p.0, reads_append es fs p.1 q)
+abbrev pub Places : Type 0
+Places = List (Option Entry)
 
-entry_at : (es : List Entry) (i : ℕ) (e : Entry) → i < length es → e ≡ get_or es i e → drop i es ≡ e ∷ drop (i + 1) es
-entry_at es i e h q = rw add-one (drop-cons es i e h ∙ ap (λ y. y ∷ drop (suc i) es) (sym q))
+-- ---- behind the others
 
-pub place_here : (w : List ℕ) (i : ℕ) (es : List Entry) (e : Entry) → i < length es → e ≡ get_or es i e → place_at w i (drop i es) ≡ cond (bytes_eq e.text w) (Some i) (place_at w (i + 1) (drop (i + 1) es))
-place_here w i es e h q = ap (place_at w i) (entry_at es i e h q)
+pub kept_behind : (ps : Places) (e : Entry) → kept (ps ++ Some e ∷ []) ≡ kept ps ++ e ∷ []
+kept_behind [] e = refl
+kept_behind (None ∷ ps) e = kept_behind ps e
+kept_behind (Some d ∷ ps) e = ap (λ (es : List Entry). d ∷ es) (kept_behind ps e)
 
--- what stands at a place, and what is left without it
-pub record Placed (w : List ℕ) (i j : ℕ) (es : List Entry) : Type 0 where
-  pub by : ℕ
-  pub place : j ≡ i + by
-  pub within : by < length es
-  pub first : (e : Entry) → first_read w es ≡ Some (get_or es by e).predicate
-  pub rest : without w es ≡ remove es by
+pub reads_behind : (es : List Entry) (e : Entry) → AreRead es → IsRead e → AreRead (es ++ e ∷ [])
+reads_behind [] e p q = (q, tt)
+reads_behind (d ∷ es) e p q = (p.0, reads_behind es e p.1 q)
 
-placed_by : (t : Bool) (w : List ℕ) (i j : ℕ) (e : Entry) (es : List Entry) → bytes_eq e.text w ≡ t → (place_at w (i + 1) es ≡ Some j → Placed w (i + 1) j es) → cond t (Some i) (place_at w (i + 1) es) ≡ Some j → Placed w i j (e ∷ es)
-placed_by true w i j e es same later h = record {
-  by = 0;
-  place = let k : i ≡ j = cc in omega arith;
-  within = omega arith;
-  first = λ d. ap (λ (t : Bool). cond t (Some e.predicate) (first_read w es)) same;
-  rest = ap (λ (t : Bool). cond t es (e ∷ without w es)) same;
-}
-placed_by false w i j e es same later h =
-    let p = later h in
+-- ---- the text at a place
+
+pub none_behind : (w : List ℕ) (ps : Places) (i : ℕ) → length ps ≤ i → has_text w (get_or ps i None) ≡ false
+none_behind w ps i h = ap (has_text w) (get_or_past ps i None h)
+
+pub place_within : (w : List ℕ) (ps : Places) (i : ℕ) → has_text w (get_or ps i None) ≡ true → i < length ps
+place_within w [] i h = absurd cc
+place_within w (p ∷ ps) zero h = omega arith
+place_within w (p ∷ ps) (suc i) h = (let q = place_within w ps i h in omega arith)
+
+-- no entry of the text stands from one place up to another
+abbrev pub NoneFrom : List ℕ → Places → ℕ → ℕ → Type 0
+NoneFrom w ps low high = (i : ℕ) → low ≤ i → i < high → has_text w (get_or ps i None) ≡ false
+
+-- ---- the first of a text
+
+first_by : (w : List ℕ) (p : Option Entry) (ps : Places) → has_text w p ≡ false → first_read w (kept ps) ≡ None → first_read w (kept (p ∷ ps)) ≡ None
+first_by w None ps h later = later
+first_by w (Some e) ps h later = ap (λ (t : Bool). cond t (Some e.predicate) (first_read w (kept ps))) h ∙ later
+
+pub none_read : (w : List ℕ) (ps : Places) → ((i : ℕ) → has_text w (get_or ps i None) ≡ false) → first_read w (kept ps) ≡ None
+none_read w [] h = refl
+none_read w (p ∷ ps) h = first_by w p ps (h zero) (none_read w ps (λ i. h (suc i)))
+
+same_by : (t : Bool) (w : List ℕ) (d e : Entry) (es : List Entry) → bytes_eq d.text w ≡ t → IsRead d → IsRead e → e.text ≡ w → first_read w es ≡ Some e.predicate → cond t (Some d.predicate) (first_read w es) ≡ Some e.predicate
+same_by true w d e es same one other text h =
+    let texts = (bytes_eq-Decides d.text w).0 same ∙ sym text in
+    let both : Ok d.predicate ≡ Ok e.predicate = sym one.value ∙ ap predicate_of texts ∙ other.value in
+    cc
+same_by false w d e es same one other text h = h
+
+reads_there : (before : List Entry) (e : Entry) (behind : List Entry) → AreRead (before ++ e ∷ behind) → IsRead e
+reads_there [] e behind read = read.0
+reads_there (d ∷ before) e behind read = reads_there before e behind read.1
+
+reads_rest : (before : List Entry) (e : Entry) (behind : List Entry) → AreRead (before ++ e ∷ behind) → AreRead (before ++ behind)
+reads_rest [] e behind read = read.1
+reads_rest (d ∷ before) e behind read = (read.0, reads_rest before e behind read.1)
+
+-- all of one text are the same
+first_there : (w : List ℕ) (before : List Entry) (e : Entry) (behind : List Entry) → e.text ≡ w → AreRead (before ++ e ∷ behind) → first_read w (before ++ e ∷ behind) ≡ Some e.predicate
+first_there w [] e behind text read = ap (λ (t : Bool). cond t (Some e.predicate) (first_read w behind)) ((bytes_eq-Decides e.text w).1 text)
+first_there w (d ∷ before) e behind text read =
+    same_by (bytes_eq d.text w) w d e (before ++ e ∷ behind) refl read.0 (reads_there before e behind read.1) text (first_there w before e behind text read.1)
+
+-- ---- what was taken out, and what it leaves
+
+record Split (ps left : Places) (e : Entry) : Type 0 where
+  before : List Entry
+  behind : List Entry
+  whole : kept ps ≡ before ++ e ∷ behind
+  rest : kept left ≡ before ++ behind
+
+split : (ps : Places) (i : ℕ) (e : Entry) → get_or ps i None ≡ Some e → Split ps (set ps i None) e
+split [] i e h = absurd cc
+split (None ∷ ps) zero e h = absurd cc
+split (Some d ∷ ps) zero e h =
+    let same : d ≡ e = cc in
     record {
-      by = suc p.by;
-      place = let q = p.place in omega arith;
-      within = let q = p.within in omega arith;
-      first = λ d. ap (λ (t : Bool). cond t (Some e.predicate) (first_read w es)) same ∙ p.first d;
-      rest = ap (λ (t : Bool). cond t es (e ∷ without w es)) same ∙ ap (λ (fs : List Entry). e ∷ fs) p.rest;
+      before = [];
+      behind = kept ps;
+      whole = ap (λ (x : Entry). x ∷ kept ps) same;
+      rest = refl;
+    }
+split (None ∷ ps) (suc i) e h =
+    let s = split ps i e h in
+    record {
+      before = s.before;
+      behind = s.behind;
+      whole = s.whole;
+      rest = s.rest;
+    }
+split (Some d ∷ ps) (suc i) e h =
+    let s = split ps i e h in
+    record {
+      before = d ∷ s.before;
+      behind = s.behind;
+      whole = ap (λ (x : List Entry). d ∷ x) s.whole;
+      rest = ap (λ (x : List Entry). d ∷ x) s.rest;
     }
 
-pub placed : (w : List ℕ) (i j : ℕ) (es : List Entry) → place_at w i es ≡ Some j → Placed w i j es
-placed w i j [] h = cc
-placed w i j (e ∷ es) h = placed_by (bytes_eq e.text w) w i j e es refl (λ g. placed w (i + 1) j es g) h
+pub record Taken (w : List ℕ) (es left : List Entry) (o : Option Predicate) : Type 0 where
+  pub first : o ≡ first_read w es
+  pub gone : IfSome o (λ _. IsWithoutOne w es left)
+  pub same : IfNone o (left ≡ es)
+  pub value : IfSome o (λ p. predicate_of w ≡ Ok p)
+  pub patterns : IfSome o (λ p. All (All HasGoodPattern) p.any)
+  pub read : AreRead left
 
-none_by : (t : Bool) (w : List ℕ) (i : ℕ) (e : Entry) (es : List Entry) → cond t (Some i) (place_at w (i + 1) es) ≡ None → (place_at w (i + 1) es ≡ None → (first_read w es ≡ None) × (without w es ≡ es))
-    → (cond t (Some e.predicate) (first_read w es) ≡ None) × (cond t es (e ∷ without w es) ≡ e ∷ es)
-none_by true w i e es h later = cc
-none_by false w i e es h later = let p = later h in (p.0, ap (λ (fs : List Entry). e ∷ fs) p.1)
-
-pub unplaced : (w : List ℕ) (i : ℕ) (es : List Entry) → place_at w i es ≡ None → (first_read w es ≡ None) × (without w es ≡ es)
-unplaced w i [] h = (refl, refl)
-unplaced w i (e ∷ es) h = none_by (bytes_eq e.text w) w i e es h (λ g. unplaced w (i + 1) es g)
-
--- ---- what was read stays read
-
-without_by : (t : Bool) (w : List ℕ) (e : Entry) (es : List Entry) → AreRead (e ∷ es) → AreRead (without w es) → AreRead (cond t es (e ∷ without w es))
-without_by true w e es p q = p.1
-without_by false w e es p q = (p.0, q)
-
-pub reads_without : (w : List ℕ) (es : List Entry) → AreRead es → AreRead (without w es)
-reads_without w [] p = tt
-reads_without w (e ∷ es) p = without_by (bytes_eq e.text w) w e es p (reads_without w es p.1)
-
-read_by : (t : Bool) (w : List ℕ) (e : Entry) (es : List Entry) (p : Predicate) → bytes_eq e.text w ≡ t → AreRead (e ∷ es) → (first_read w es ≡ Some p → IsRead (record { text = w; predicate = p }))
-    → cond t (Some e.predicate) (first_read w es) ≡ Some p → IsRead (record { text = w; predicate = p })
-read_by true w e es p same read later h =
-    let text : e.text ≡ w = (bytes_eq-Decides e.text w).0 same in
-    let value : e.predicate ≡ p = cc in
+taken_there : (w : List ℕ) (ps : Places) (i : ℕ) (e : Entry) → AreRead (kept ps) → get_or ps i None ≡ Some e → e.text ≡ w → Taken w (kept ps) (kept (set ps i None)) (Some e.predicate)
+taken_there w ps i e read there text =
+    let s = split ps i e there in
+    let R : List Entry → Type 0 = λ x. AreRead x in
+    let whole : AreRead (s.before ++ e ∷ s.behind) = subst R s.whole read in
+    let one = reads_there s.before e s.behind whole in
     record {
-      value = ap predicate_of (sym text) ∙ read.0.value ∙ ap Ok value;
-      patterns = let P : Predicate → Type 0 = λ q. All (All HasGoodPattern) q.any in subst P value read.0.patterns;
+      first = sym (ap (first_read w) s.whole ∙ first_there w s.before e s.behind text whole);
+      gone = (s.before, e, s.behind, text, s.whole, s.rest);
+      same = tt;
+      value = ap predicate_of (sym text) ∙ one.value;
+      patterns = one.patterns;
+      read = subst R (sym s.rest) (reads_rest s.before e s.behind whole);
     }
-read_by false w e es p same read later h = later h
 
-pub read_first : (w : List ℕ) (es : List Entry) (p : Predicate) → AreRead es → first_read w es ≡ Some p → IsRead (record { text = w; predicate = p })
-read_first w [] p read h = cc
-read_first w (e ∷ es) p read h = read_by (bytes_eq e.text w) w e es p refl read (λ g. read_first w es p read.1 g) h
+taken_by : (w : List ℕ) (ps : Places) (i : ℕ) (r : Option Entry) → AreRead (kept ps) → get_or ps i None ≡ r → has_text w r ≡ true → Taken w (kept ps) (kept (set ps i None)) (predicate_in r)
+taken_by w ps i None read there h = absurd cc
+taken_by w ps i (Some e) read there h = taken_there w ps i e read there ((bytes_eq-Decides e.text w).0 h)
 
-abbrev pub AsRead : List ℕ → Option Predicate → Type 0
-AsRead w None = Unit {0}
-AsRead w (Some p) = IsRead (record { text = w; predicate = p })
-
--- what was found was read
-pub found_read : (w : List ℕ) (es : List Entry) (o : Option Predicate) → AreRead es → o ≡ first_read w es → AsRead w o
-found_read w es None read h = tt
-found_read w es (Some p) read h = read_first w es p read (sym h)
-
-abbrev some_entry : Entry
-some_entry = record { text = []; predicate = record { any = [] } }
-
--- what is taken out at the place is the first predicate of the text, and the others are left
-pub taken : (w : List ℕ) (es left : List Entry) (j : ℕ) (r : Option Entry) → place_at w 0 es ≡ Some j → ((d : Entry) → j < length es → r ≡ Some (slice_index_or es j d)) → OnSome r (left ≡ remove es j)
-    → (predicate_in r ≡ first_read w es) × (left ≡ without w es)
-taken w es left j r h there gone =
-    let p = placed w 0 j es h in
-    let at : p.by ≡ j = (let q = p.place in omega arith) in
-    let within : j < length es = (let q = p.within in omega arith) in
-    let is : r ≡ Some (slice_index_or es j some_entry) = there some_entry within in
-    let P : Option Entry → Type 0 = λ x. OnSome x (left ≡ remove es j) in
-    let kept : left ≡ remove es j = subst P is gone in
-    (ap predicate_in is ∙ ap (λ (i : ℕ). Some (get_or es i some_entry).predicate) (sym at) ∙ sym (p.first some_entry), kept ∙ ap (remove es) (sym at) ∙ sym p.rest)
-
-pub value_read : (w : List ℕ) (o : Option Predicate) → AsRead w o → IfSome o (λ p. predicate_of w ≡ Ok p)
-value_read w None h = tt
-value_read w (Some p) h = h.value
-
-pub patterns_read : (w : List ℕ) (o : Option Predicate) → AsRead w o → IfSome o (λ p. All (All HasGoodPattern) p.any)
-patterns_read w None h = tt
-patterns_read w (Some p) h = h.patterns
-
-pub reads_left : (w : List ℕ) (es left : List Entry) → AreRead es → left ≡ without w es → AreRead left
-reads_left w es left read e = let P : List Entry → Type 0 = λ x. AreRead x in subst P (sym e) (reads_without w es read)
+-- so it is with what was taken from the place of this text, from a list that is seen as another
+pub taken : (w : List ℕ) (ps left : Places) (es : List Entry) (i : ℕ) (r : Option Entry) (o : Option Predicate) → AreRead (kept ps) → kept ps ≡ es → has_text w (get_or ps i None) ≡ true
+    → r ≡ get_or ps i None → left ≡ set ps i None → o ≡ predicate_in r → Taken w es (kept left) o
+taken w ps left es i r o read view there removed gone told =
+    let is = taken_by w ps i (get_or ps i None) read refl there in
+    let P : Option Predicate → Type 0 = λ x. Taken w (kept ps) (kept (set ps i None)) x in
+    let Q : Places → Type 0 = λ x. Taken w (kept ps) (kept x) o in
+    let R : List Entry → Type 0 = λ x. Taken w x (kept left) o in
+    subst R view (subst Q (sym gone) (subst P (sym (told ∙ ap predicate_in removed)) is))

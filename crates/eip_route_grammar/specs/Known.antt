@@ -1,5 +1,5 @@
 -- The predicates of a route file that were read, by their texts.
-use Rattle.std.specs.Prelude.{◌≡◌, ℕ, ◌+◌, List, [], ◌∷◌, All, Option, Some, None, Ok, bytes_eq, if◌then◌else◌}
+use Rattle.std.specs.Prelude.{◌≡◌, ℕ, Bool, false, List, [], ◌∷◌, ◌++◌, All, Option, Some, None, Ok, bytes_eq, if◌then◌else◌}
 use Rattle.eip_simple_read.specs.declared.tree.Predicate.{Predicate}
 use Rattle.eip_simple_read.specs.Meaning.{predicate_of}
 use Rattle.eip_simple_read.specs.Reading.{HasGoodPattern}
@@ -23,12 +23,17 @@ abbrev pub first_read : List ℕ → List Entry → Option Predicate
 first_read w [] = None
 first_read w (e ∷ es) = if bytes_eq e.text w then Some e.predicate else first_read w es
 
--- the entries without that one
-abbrev pub without : List ℕ → List Entry → List Entry
-without w [] = []
-without w (e ∷ es) = if bytes_eq e.text w then es else e ∷ without w es
+-- the entries of the places that are not empty
+abbrev pub kept : List (Option Entry) → List Entry
+kept [] = []
+kept (None ∷ ss) = kept ss
+kept (Some e ∷ ss) = e ∷ kept ss
 
--- its place, where the first entry has this one
-abbrev pub place_at : List ℕ → ℕ → List Entry → Option ℕ
-place_at w i [] = None
-place_at w i (e ∷ es) = if bytes_eq e.text w then Some i else place_at w (i + 1) es
+-- whether an entry of this text stands at a place
+abbrev pub has_text : List ℕ → Option Entry → Bool
+has_text w None = false
+has_text w (Some e) = bytes_eq e.text w
+
+-- one entry of this text is taken out
+abbrev pub IsWithoutOne : List ℕ → List Entry → List Entry → Type 0
+IsWithoutOne w old left = (before : List Entry) × (e : Entry) × (behind : List Entry) × (e.text ≡ w) × (old ≡ before ++ e ∷ behind) × (left ≡ before ++ behind)

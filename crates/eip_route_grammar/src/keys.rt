@@ -59,6 +59,7 @@ pub enum Key {
     AggregationStrategy,
     ParallelProcessing,
     StopOnException,
+    ShareUnitOfWork,
     Delimiter,
     CorrelationExpression,
     CompletionSize,
@@ -69,6 +70,14 @@ pub enum Key {
     Eager,
     SkipDuplicate,
     RemoveOnFailure,
+    DoTry,
+    DoCatch,
+    DoFinally,
+    OnWhen,
+    Resequence,
+    BatchConfig,
+    BatchSize,
+    BatchTimeout,
 }
 
 impl Key {
@@ -133,6 +142,7 @@ impl Key {
             Key::AggregationStrategy => "aggregationStrategy",
             Key::ParallelProcessing => "parallelProcessing",
             Key::StopOnException => "stopOnException",
+            Key::ShareUnitOfWork => "shareUnitOfWork",
             Key::Delimiter => "delimiter",
             Key::CorrelationExpression => "correlationExpression",
             Key::CompletionSize => "completionSize",
@@ -143,6 +153,14 @@ impl Key {
             Key::Eager => "eager",
             Key::SkipDuplicate => "skipDuplicate",
             Key::RemoveOnFailure => "removeOnFailure",
+            Key::DoTry => "doTry",
+            Key::DoCatch => "doCatch",
+            Key::DoFinally => "doFinally",
+            Key::OnWhen => "onWhen",
+            Key::Resequence => "resequence",
+            Key::BatchConfig => "batchConfig",
+            Key::BatchSize => "batchSize",
+            Key::BatchTimeout => "batchTimeout",
         }
     }
 
@@ -207,6 +225,7 @@ impl Key {
             Key::AggregationStrategy => "aggregation-strategy",
             Key::ParallelProcessing => "parallel-processing",
             Key::StopOnException => "stop-on-exception",
+            Key::ShareUnitOfWork => "share-unit-of-work",
             Key::Delimiter => "delimiter",
             Key::CorrelationExpression => "correlation-expression",
             Key::CompletionSize => "completion-size",
@@ -217,6 +236,14 @@ impl Key {
             Key::Eager => "eager",
             Key::SkipDuplicate => "skip-duplicate",
             Key::RemoveOnFailure => "remove-on-failure",
+            Key::DoTry => "do-try",
+            Key::DoCatch => "do-catch",
+            Key::DoFinally => "do-finally",
+            Key::OnWhen => "on-when",
+            Key::Resequence => "resequence",
+            Key::BatchConfig => "batch-config",
+            Key::BatchSize => "batch-size",
+            Key::BatchTimeout => "batch-timeout",
         }
     }
 

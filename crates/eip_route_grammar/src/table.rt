@@ -22,14 +22,14 @@ pub enum Rule {
     Producer,
     /// A template of the Simple language.
     Template,
+    /// A template that is the body, a header or an exchange property, and nothing else.
+    OrderKey,
     /// A predicate of the Simple language.
     Predicate,
     /// A text, a whole number or a truth value.
     Constant,
     /// A truth value, or the text of one.
     Flag,
-    /// `true`.
-    OnlyTrue,
     /// A whole number, or the text of one, from the first to the second.
     Count(u32, u32),
     /// A text that isn't empty.
@@ -70,7 +70,8 @@ pub enum Kind {
     Choice,
     Case,
     Test,
-    Otherwise,
+    /// An object with `steps`: a block.
+    Nested,
     Split,
     Tokenize,
     Multicast,
@@ -78,16 +79,26 @@ pub enum Kind {
     Aggregate,
     CompletionPredicate,
     IdempotentConsumer,
+    Try,
+    Catch,
+    OnWhen,
+    Resequence,
+    BatchConfig,
+    OrderKey,
     Simple,
     Condition,
     Constant,
     Fixed,
     /// A list of steps: a block.
     Steps,
+    /// A list of steps: a block inside that of a batch.
+    BatchSteps,
     /// A list of steps, each a block of its own; not empty.
     Branches,
     /// A list of cases; not empty.
     Cases,
+    /// A list of catches.
+    Catches,
     /// A text, or a list of texts that isn't empty.
     Exceptions,
     /// An object with any keys, and texts, whole numbers or truth values.
@@ -123,12 +134,22 @@ pub enum Shape {
     Closed,
 }
 
+/// In how many blocks the items of a list stand, inside those around the list.
+#[derive(Clone, Copy)]
+pub enum Nests {
+    /// In none: the items are no steps.
+    Nowhere,
+    /// In one: the list is a block, or each item is.
+    Block,
+    /// In two: the list is a block in that of a batch.
+    Batch,
+}
+
 /// What a list is to hold.
 #[derive(Clone, Copy)]
 pub struct Listed {
     pub item: Kind,
-    /// Its items are steps of a block, or of blocks, inside those around it.
-    pub nests: bool,
+    pub nests: Nests,
     /// It isn't empty.
     pub filled: bool,
 }
@@ -243,6 +264,8 @@ impl Kind {
                 Row::One(Key::RecipientList, Kind::RecipientList),
                 Row::One(Key::Aggregate, Kind::Aggregate),
                 Row::One(Key::IdempotentConsumer, Kind::IdempotentConsumer),
+                Row::One(Key::DoTry, Kind::Try),
+                Row::One(Key::Resequence, Kind::Resequence),
             ],
             Kind::Value => &[
                 Row::May(Key::Description, Kind::Leaf(Rule::Word)),
@@ -304,7 +327,7 @@ impl Kind {
                 Row::May(Key::Description, Kind::Leaf(Rule::Word)),
                 Row::May(Key::Id, Kind::Leaf(Rule::Word)),
                 Row::Must(Key::When, Kind::Cases),
-                Row::May(Key::Otherwise, Kind::Otherwise),
+                Row::May(Key::Otherwise, Kind::Nested),
             ],
             Kind::Case => &[
                 Row::May(Key::Description, Kind::Leaf(Rule::Word)),
@@ -322,7 +345,7 @@ impl Kind {
                 Row::One(Key::Constant, Kind::Fixed),
                 Row::One(Key::Ref, Kind::Leaf(Rule::StoredPredicate)),
             ],
-            Kind::Otherwise => &[
+            Kind::Nested => &[
                 Row::May(Key::Description, Kind::Leaf(Rule::Word)),
                 Row::May(Key::Id, Kind::Leaf(Rule::Word)),
                 Row::Must(Key::Steps, Kind::Steps),
@@ -335,6 +358,7 @@ impl Kind {
                 Row::May(Key::AggregationStrategy, Kind::Leaf(Rule::Strategy)),
                 Row::May(Key::ParallelProcessing, Kind::Leaf(Rule::Flag)),
                 Row::May(Key::StopOnException, Kind::Leaf(Rule::Flag)),
+                Row::May(Key::ShareUnitOfWork, Kind::Leaf(Rule::Flag)),
                 Row::Must(Key::Steps, Kind::Steps),
             ],
             Kind::Tokenize => &[
@@ -348,6 +372,7 @@ impl Kind {
                 Row::May(Key::AggregationStrategy, Kind::Leaf(Rule::Strategy)),
                 Row::May(Key::ParallelProcessing, Kind::Leaf(Rule::Flag)),
                 Row::May(Key::StopOnException, Kind::Leaf(Rule::Flag)),
+                Row::May(Key::ShareUnitOfWork, Kind::Leaf(Rule::Flag)),
                 Row::Must(Key::Steps, Kind::Branches),
             ],
             Kind::RecipientList => &[
@@ -362,6 +387,7 @@ impl Kind {
                 Row::May(Key::AggregationStrategy, Kind::Leaf(Rule::Strategy)),
                 Row::May(Key::ParallelProcessing, Kind::Leaf(Rule::Flag)),
                 Row::May(Key::StopOnException, Kind::Leaf(Rule::Flag)),
+                Row::May(Key::ShareUnitOfWork, Kind::Leaf(Rule::Flag)),
             ],
             Kind::Aggregate => &[
                 Row::May(Key::Description, Kind::Leaf(Rule::Word)),
@@ -391,10 +417,52 @@ impl Kind {
                 Row::One(Key::ExchangeProperty, Kind::Leaf(Rule::Name)),
                 Row::One(Key::Expression, Kind::Expression),
                 Row::May(Key::IdempotentRepository, Kind::Leaf(Rule::Repository)),
-                Row::May(Key::Eager, Kind::Leaf(Rule::OnlyTrue)),
+                Row::May(Key::Eager, Kind::Leaf(Rule::Flag)),
                 Row::May(Key::SkipDuplicate, Kind::Leaf(Rule::Flag)),
-                Row::May(Key::RemoveOnFailure, Kind::Leaf(Rule::OnlyTrue)),
+                Row::May(Key::RemoveOnFailure, Kind::Leaf(Rule::Flag)),
                 Row::Must(Key::Steps, Kind::Steps),
+            ],
+            Kind::Try => &[
+                Row::May(Key::Description, Kind::Leaf(Rule::Word)),
+                Row::May(Key::Id, Kind::Leaf(Rule::Word)),
+                Row::Must(Key::Steps, Kind::Steps),
+                Row::May(Key::DoCatch, Kind::Catches),
+                Row::May(Key::DoFinally, Kind::Nested),
+            ],
+            Kind::Catch => &[
+                Row::May(Key::Description, Kind::Leaf(Rule::Word)),
+                Row::May(Key::Id, Kind::Leaf(Rule::Word)),
+                Row::Must(Key::Exception, Kind::Exceptions),
+                Row::May(Key::OnWhen, Kind::OnWhen),
+                Row::Must(Key::Steps, Kind::Steps),
+            ],
+            Kind::OnWhen => &[
+                Row::May(Key::Description, Kind::Leaf(Rule::Word)),
+                Row::May(Key::Id, Kind::Leaf(Rule::Word)),
+                Row::One(Key::Simple, Kind::Condition),
+                Row::One(Key::Constant, Kind::Fixed),
+                Row::One(Key::Ref, Kind::Leaf(Rule::StoredPredicate)),
+                Row::One(Key::Expression, Kind::Test),
+            ],
+            Kind::Resequence => &[
+                Row::May(Key::Description, Kind::Leaf(Rule::Word)),
+                Row::May(Key::Id, Kind::Leaf(Rule::Word)),
+                Row::One(Key::Simple, Kind::OrderKey),
+                Row::One(Key::Header, Kind::Leaf(Rule::Name)),
+                Row::One(Key::ExchangeProperty, Kind::Leaf(Rule::Name)),
+                Row::May(Key::BatchConfig, Kind::BatchConfig),
+                Row::Must(Key::Steps, Kind::BatchSteps),
+            ],
+            Kind::BatchConfig => &[
+                Row::May(Key::Description, Kind::Leaf(Rule::Word)),
+                Row::May(Key::Id, Kind::Leaf(Rule::Word)),
+                Row::May(Key::BatchSize, Kind::Leaf(Rule::Count(1, 1000))),
+                Row::May(Key::BatchTimeout, Kind::Leaf(Rule::Count(1, 1_000_000_000))),
+            ],
+            Kind::OrderKey => &[
+                Row::May(Key::Description, Kind::Leaf(Rule::Word)),
+                Row::May(Key::Id, Kind::Leaf(Rule::Word)),
+                Row::Must(Key::Expression, Kind::Leaf(Rule::OrderKey)),
             ],
             Kind::Simple => &[
                 Row::May(Key::Description, Kind::Leaf(Rule::Word)),
@@ -444,6 +512,7 @@ impl Kind {
             Kind::Log => Some(Rule::Template),
             Kind::Process => Some(Rule::Processor),
             Kind::Tokenize => Some(Rule::Filled),
+            Kind::OrderKey => Some(Rule::OrderKey),
             Kind::Simple => Some(Rule::Template),
             Kind::Condition => Some(Rule::Predicate),
             Kind::Constant => Some(Rule::Constant),
@@ -462,22 +531,32 @@ impl Kind {
         match self {
             Kind::Steps => Some(Listed {
                 item: Kind::Step,
-                nests: true,
+                nests: Nests::Block,
+                filled: false,
+            }),
+            Kind::BatchSteps => Some(Listed {
+                item: Kind::Step,
+                nests: Nests::Batch,
                 filled: false,
             }),
             Kind::Branches => Some(Listed {
                 item: Kind::Step,
-                nests: true,
+                nests: Nests::Block,
                 filled: true,
             }),
             Kind::Cases => Some(Listed {
                 item: Kind::Case,
-                nests: false,
+                nests: Nests::Nowhere,
                 filled: true,
+            }),
+            Kind::Catches => Some(Listed {
+                item: Kind::Catch,
+                nests: Nests::Nowhere,
+                filled: false,
             }),
             Kind::Exceptions => Some(Listed {
                 item: Kind::Leaf(Rule::Word),
-                nests: false,
+                nests: Nests::Nowhere,
                 filled: true,
             }),
             _ => None,
@@ -494,8 +573,13 @@ impl Kind {
             Kind::Step => Shape::Step,
             Kind::ErrorHandler => Shape::Handler,
             Kind::Parameters => Shape::Free,
-            Kind::Steps | Kind::Branches | Kind::Cases | Kind::Exceptions | Kind::Leaf(_) =>
-                Shape::Closed,
+            Kind::Steps
+            | Kind::BatchSteps
+            | Kind::Branches
+            | Kind::Cases
+            | Kind::Catches
+            | Kind::Exceptions
+            | Kind::Leaf(_) => Shape::Closed,
             _ => Shape::Keyed,
         }
     }

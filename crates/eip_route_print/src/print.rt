@@ -10,7 +10,7 @@ ghost use Rattle.eip_route_canonical.specs.Trees as trees;
 use crate::nested::push_block;
 use eip_exchange::Clause;
 use eip_route::{Block, Handler, Route, RouteSet};
-use eip_route_canonical::{Object, alone, put_policy, word};
+use eip_route_canonical::{Object, alone, put_policy, words};
 use eip_text::{NoMemory, Series, Text, Tree, print_json};
 use eip_uri::Uri;
 use std::alloc::Global;
@@ -117,18 +117,6 @@ fn put_steps(object: &mut Object, steps: Option<Tree>) -> Result<(), NoMemory>
         Some(steps) => object.put("steps", steps),
         None => Ok(()),
     }
-}
-
-/// The list of these texts.
-fn words(alloc: Global, texts: &[Text]) -> Result<Tree, NoMemory>
-    ensures { IfOk result (λ t. json t ≡ spec.list_of (spec.words texts.now)) }
-{
-    let mut items = Vec::new(alloc);
-    for text in texts {
-        let tree = word(text)?;
-        items.push(tree)?;
-    }
-    Ok(Tree::List(Series::of(items)))
 }
 
 /// `onException`.

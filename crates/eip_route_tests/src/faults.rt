@@ -165,3 +165,30 @@ fn a_pattern_that_is_too_large_is_refused_at_its_side(rt: HostRuntime) -> Result
     assert!(rt; is_told(rt.alloc(), PATTERN.as_bytes(), given(1), wanted)?);
     Ok(())
 }
+
+/// A file with two patterns in one predicate and a third in a later one.
+const PATTERNS: &str =
+    "[{\"from\":{\"uri\":\"stream:in\",\"steps\":[{\"filter\":{\"simple\":\"${body} regex 'a' && ${body} regex 'b'\",\"steps\":[{\"filter\":{\"simple\":\"${body} regex 'c'\",\"steps\":[]}}]}}]}}]";
+
+/// The number of the build that is refused, and the fault of that file.
+const REFUSED: [(u64, &str); 3] = [
+    (1, "$[0].from.steps[0].filter.simple PatternTooLarge 14"),
+    (2, "$[0].from.steps[0].filter.simple PatternTooLarge 35"),
+    (
+        3,
+        "$[0].from.steps[0].filter.steps[0].filter.simple PatternTooLarge 14",
+    ),
+];
+
+#[test]
+fn each_pattern_is_built_once_from_the_left(rt: HostRuntime) -> Result<(), Fail> {
+    for (refused, wanted) in REFUSED {
+        assert!(rt;
+            is_told(rt.alloc(), PATTERNS.as_bytes(), given(refused), wanted)?,
+            "at {refused}"
+        );
+    }
+    let told = told(rt.alloc(), PATTERNS.as_bytes(), given(4))?;
+    assert!(rt; told.as_str().starts_with('['));
+    Ok(())
+}

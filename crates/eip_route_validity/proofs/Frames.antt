@@ -16,6 +16,7 @@ bare_leaf n (step.Split how fan b) h = absurd h
 bare_leaf n (step.Multicast fan bs) h = absurd h
 bare_leaf n (step.Aggregate a) h = absurd h
 bare_leaf n (step.Idempotent e repository skip eager remove b) h = absurd h
+bare_leaf n (step.Try b catches l) h = absurd h
 bare_leaf n _ h = refl
 
 name_given : (o : Option (List ℕ)) → is_given_name o ≡ true → IsNamed o
@@ -23,7 +24,7 @@ name_given None h = tt
 name_given (Some name) h = h
 
 pub frame_named : (n : Names) (f : Frame) → FrameFits n f → FrameNamed f
-frame_named n (runs_once e name skip eager remove) h = name_given name h.1.0
+frame_named n (runs_once e name skip eager remove) h = name_given name h.1
 frame_named n _ h = tt
 
 pub numbers_fit : (n : Names) (k : ℕ) (f : Frame) (gs : NestedGroups) → FrameHolds n f gs → HasGroups f (length (flat_groups k gs).numbers)

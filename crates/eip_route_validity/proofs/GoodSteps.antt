@@ -1,11 +1,11 @@
 -- Steps that fit are good: each step of their numbered blocks passes its test.
-use Rattle.std.proofs.Common.{ℕ, ◌+◌, true, List, [], ◌∷◌, ◌++◌, Option, Some, None, length, ◌≡◌, refl, ◌∙◌, All, arith, le-leb}
+use Rattle.std.proofs.Common.{ℕ, ◌+◌, Bool, true, false, cond, sym, subst, List, [], ◌∷◌, ◌++◌, Option, Some, None, length, ◌≡◌, refl, ◌∙◌, All, arith, le-leb}
 use Rattle.std.proofs.lemmas.Bool.{and_from, or_left, or_right}
 use Rattle.std.proofs.lemmas.Slice.Eq.{bytes_eq-Decides}
 use Rattle.std.proofs.lemmas.List.Elements.{All-nil, All-cons, All-append, All-head, All-tail}
 use Rattle.eip_exchange.specs.declared.setting.Clause.{Clause}
-use Rattle.eip_route.specs.Nest.{Gathering, Frame, chooses, filters, splits, multicasts, aggregates, runs_once, NestedStep, NestedSteps, NestedGroups, NestedLast, NestedClause, NestedRoute, leaf, holds, none, more, no_group, group, no_last, last, first_of, rest_of, past, cases_with, fill, FlatSteps, headed, with_block, own_repository, repository_of, flat_steps, flat_step, flat_groups, flat_last, flat_block, flat_clauses, flat_routes, number_of}
-use Rattle.eip_route.specs.Valid.{is_filled, is_aggregate, is_given_name, is_repository, are_cases, is_step, are_steps, is_route, is_clause}
+use Rattle.eip_route.specs.Nest.{Gathering, Frame, chooses, filters, splits, multicasts, aggregates, runs_once, tries, Catching, NestedStep, NestedSteps, NestedGroups, NestedLast, NestedClause, NestedRoute, leaf, holds, none, more, no_group, group, no_last, last, first_of, rest_of, past, cases_with, catches_with, fill, FlatSteps, headed, with_block, own_repository, repository_of, flat_steps, flat_step, flat_groups, flat_last, flat_block, flat_clauses, flat_routes, number_of}
+use Rattle.eip_route.specs.Valid.{is_filled, is_aggregate, is_batching, is_batch_strategy, is_given_name, is_repository, are_cases, is_given_check, are_catches, is_step, are_steps, is_route, is_clause}
 use Rattle.eip_route.specs.declared.route.Block.{Block}
 use Rattle.eip_route.specs.declared.route.Names.{Names}
 use Rattle.eip_route.specs.declared.route.Route.{Route}
@@ -13,7 +13,7 @@ use Rattle.eip_route.specs.declared.step.Check.{Check}
 use Rattle.eip_route.specs.declared.step.Step.{Step}
 use Rattle.eip_route.specs.declared.step.Step.TheVariants as step
 use Rattle.eip_route_validity.proofs.GoodParts.{good_target, good_source, good_expr, good_check}
-use Rattle.eip_route_validity.specs.Fit.{GatheringFits, ChecksFit, LeafFits, FrameFits, FrameHolds, HasGroup, GroupsSuit, StepsFit, StepFits, GroupsFit, LastFits, ClauseFits, RouteFits}
+use Rattle.eip_route_validity.specs.Fit.{GatheringFits, BatchingFits, AnyGatheringFits, ChecksFit, MayCheckFit, CatchesFit, LeafFits, FrameFits, FrameHolds, HasGroup, GroupsSuit, StepsFit, StepFits, GroupsFit, LastFits, ClauseFits, RouteFits}
 
 abbrev Good : Names → Block → Type 0
 Good n b = are_steps n b.steps ≡ true
@@ -39,6 +39,14 @@ good_headed n r h = All-cons (Good n) (record { steps = r.steps }) r.blocks h.0 
 good_gathering : (g : Gathering) (k : ℕ) → GatheringFits g → is_aggregate (with_block g k) ≡ true
 good_gathering g k h = and_from _ _ (and_from _ _ (and_from _ _ (good_expr g.key h.key) h.strategy) (and_from _ _ h.size h.timeout)) h.completed
 
+good_batching : (g : Gathering) (k : ℕ) → BatchingFits g → is_batching (with_block g k) ≡ true
+good_batching g k h =
+    subst (λ (x : Gathering). is_batching (with_block x k) ≡ true) (sym h.is) (and_from _ _ refl (and_from _ _ (and_from _ _ h.small h.soon) refl))
+
+good_any_gathering : (b : Bool) (g : Gathering) (k : ℕ) → AnyGatheringFits b g → cond b (is_batching (with_block g k)) (is_aggregate (with_block g k)) ≡ true
+good_any_gathering true g k h = good_batching g k h
+good_any_gathering false g k h = good_gathering g k h
+
 good_repository : (k : ℕ) (o : Option (List ℕ)) → is_given_name o ≡ true → is_repository k (repository_of k o) ≡ true
 good_repository k None h = or_right _ _ ((bytes_eq-Decides (own_repository k) (own_repository k)).1 refl)
 good_repository k (Some name) h = or_left _ _ h
@@ -50,6 +58,14 @@ filled_cases (c ∷ cs) ns h = le-leb 1 (length (cases_with (c ∷ cs) ns)) (ome
 good_cases : (n : Names) (cs : List Check) (ns : List ℕ) → ChecksFit n cs → are_cases n (cases_with cs ns) ≡ true
 good_cases n [] ns h = refl
 good_cases n (c ∷ cs) ns h = and_from _ _ (good_check n c h.0) (good_cases n cs (rest_of ns) h.1)
+
+good_given : (n : Names) (o : Option Check) → MayCheckFit n o → is_given_check n o ≡ true
+good_given n None h = refl
+good_given n (Some c) h = good_check n c h
+
+good_catches : (n : Names) (cs : List Catching) (ns : List ℕ) → CatchesFit n cs → are_catches n (catches_with cs ns) ≡ true
+good_catches n [] ns h = refl
+good_catches n (c ∷ cs) ns h = and_from _ _ (and_from _ _ h.0.0 (good_given n c.when h.0.1)) (good_catches n cs (rest_of ns) h.1)
 
 filled_groups : (k : ℕ) (gs : NestedGroups) → HasGroup gs → is_filled (flat_groups k gs).numbers ≡ true
 filled_groups k no_group h = absurd h
@@ -71,15 +87,16 @@ good_leaf n (step.Split how fan b) h = absurd h
 good_leaf n (step.Multicast fan bs) h = absurd h
 good_leaf n (step.Aggregate a) h = absurd h
 good_leaf n (step.Idempotent e repository skip eager remove b) h = absurd h
+good_leaf n (step.Try b catches l) h = absurd h
 
 good_frame : (n : Names) (k : ℕ) (f : Frame) (gs : NestedGroups) → FrameFits n f → GroupsSuit f gs → is_step n (fill f (flat_groups k gs).numbers) ≡ true
 good_frame n k (chooses cs l) gs h s = and_from _ _ (filled_cases cs (flat_groups k gs).numbers h.0) (good_cases n cs (flat_groups k gs).numbers h.1)
 good_frame n k (filters c) gs h s = good_check n c h
-good_frame n k (splits how fan) gs h s = and_from _ _ h.0 h.1
+good_frame n k (splits how fan) gs h s = h
 good_frame n k (multicasts fan) gs h s = and_from _ _ (filled_groups k gs s.0) h
-good_frame n k (aggregates g) gs h s = good_gathering g (first_of (flat_groups k gs).numbers) h
-good_frame n k (runs_once e name skip eager remove) gs h s =
-    and_from _ _ (and_from _ _ (good_expr e h.0) (good_repository (first_of (flat_groups k gs).numbers) name h.1.0)) (and_from _ _ h.1.1.0 h.1.1.1)
+good_frame n k (aggregates g) gs h s = good_any_gathering (is_batch_strategy g.strategy) g (first_of (flat_groups k gs).numbers) h
+good_frame n k (runs_once e name skip eager remove) gs h s = and_from _ _ (good_expr e h.0) (good_repository (first_of (flat_groups k gs).numbers) name h.1)
+good_frame n k (tries cs l) gs h s = good_catches n cs (rest_of (flat_groups k gs).numbers) h
 
 -- ---- steps
 

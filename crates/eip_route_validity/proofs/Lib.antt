@@ -8,5 +8,6 @@ pub mod NumbersInOrder
 pub mod PlacedOnce
 pub mod NumbersInRange
 pub mod NotTooDeep
+pub mod GatheredBatches
 pub mod ConsumersApart
 pub mod ValidSets

@@ -12,16 +12,16 @@ use Rattle.eip_route_validity.proofs.NumbersInOrder.{Closed, in_set}
 use Rattle.eip_route_validity.specs.Fit.{SetFits}
 
 -- the blocks bs stand among all from number k on
-record At (all : List Block) (k : ℕ) (bs : List Block) : Type 0 where
-  front : List Block
-  back : List Block
-  cut : all ≡ front ++ (bs ++ back)
-  place : k ≡ length front
+pub record At (all : List Block) (k : ℕ) (bs : List Block) : Type 0 where
+  pub front : List Block
+  pub back : List Block
+  pub cut : all ≡ front ++ (bs ++ back)
+  pub place : k ≡ length front
 
-left : {all : List Block} {k : ℕ} (xs ys : List Block) → At all k (xs ++ ys) → At all k xs
+pub left : {all : List Block} {k : ℕ} (xs ys : List Block) → At all k (xs ++ ys) → At all k xs
 left xs ys a = record { front = a.front; back = ys ++ a.back; cut = a.cut ∙ ap (λ bs. a.front ++ bs) (append_assoc xs ys a.back); place = a.place }
 
-right : {all : List Block} {k : ℕ} (xs ys : List Block) → At all k (xs ++ ys) → At all (k + length xs) ys
+pub right : {all : List Block} {k : ℕ} (xs ys : List Block) → At all k (xs ++ ys) → At all (k + length xs) ys
 right xs ys a = record {
   front = a.front ++ xs;
   back = a.back;
@@ -30,11 +30,11 @@ right xs ys a = record {
 }
 
 -- the first of them, and that there is such a block
-got : (all : List Block) (k : ℕ) (b : Block) (bs : List Block) → At all k (b ∷ bs) → slice_index_or all k b ≡ b
+pub got : (all : List Block) (k : ℕ) (b : Block) (bs : List Block) → At all k (b ∷ bs) → slice_index_or all k b ≡ b
 got all k b bs a =
     ap (λ x. slice_index_or x k b) a.cut ∙ (ap (λ x. slice_index_or (a.front ++ b ∷ (bs ++ a.back)) x b) a.place ∙ get_or-append_seam a.front b (bs ++ a.back) b)
 
-within : (all : List Block) (k : ℕ) (b : Block) (bs : List Block) → At all k (b ∷ bs) → k < length all
+pub within : (all : List Block) (k : ℕ) (b : Block) (bs : List Block) → At all k (b ∷ bs) → k < length all
 within all k b bs a = omega (arith, a.place, ap length a.cut, length-append a.front (b ∷ (bs ++ a.back)))
 
 -- where so many blocks may still stand in one another, none stands too deep

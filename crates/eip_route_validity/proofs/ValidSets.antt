@@ -7,6 +7,7 @@ use Rattle.eip_route.specs.declared.fault.SetFault.{SetFault}
 use Rattle.eip_route.specs.declared.fault.SetFault.TheVariants.{BadBlock, TooNested, SecondConsumer, DoubleRouteId, BothHandledAndContinued}
 use Rattle.eip_route.specs.declared.route.Names.{Names}
 use Rattle.eip_route_validity.proofs.ConsumersApart.{none_second, none_double, none_handled_and_continued, not_too_many}
+use Rattle.eip_route_validity.proofs.GatheredBatches.{batches_gathered}
 use Rattle.eip_route_validity.proofs.GoodSteps.{both_blocks, good_clauses, good_routes}
 use Rattle.eip_route_validity.proofs.NotTooDeep.{none_too_deep}
 use Rattle.eip_route_validity.proofs.NothingFound.{none_from}
@@ -34,6 +35,7 @@ fits_valid n x h =
     let rs = flat_routes (length cs.blocks) x.routes in
     let clauses = good_clauses n 0 x.clauses h.clauses in
     let routes = good_routes n (length cs.blocks) x.routes h.routes in
+    let batches = batches_gathered n x h in
     record {
       checked = no_fault n x h;
       routes = routes.0;
@@ -41,4 +43,7 @@ fits_valid n x h =
       clauses = clauses.0;
       blocks = both_blocks n cs.blocks rs.blocks clauses.1 routes.1;
       placed = placed_once n x h;
+      gathered = batches.gathered;
+      alone = batches.alone;
+      outside = batches.outside;
     }

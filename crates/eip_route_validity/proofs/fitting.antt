@@ -9,5 +9,7 @@ pub mod Leaves
 pub mod Parts
 pub mod Gatherings
 pub mod StepKinds
+pub mod Batches
+pub mod Batched
 pub mod OneStep
 pub mod Steps

@@ -1,18 +1,19 @@
 -- What holds of the steps that a route file without a fault says, where these names are handed in and so many blocks stand around them.
-use Rattle.std.specs.Prelude.{◌≡◌, ℕ, ◌+◌, ◌<◌, ◌≤◌, true, false, ◌&&◌, length, List, [], ◌∷◌, Option, Some, None, Ok, bytes_eq, All}
+use Rattle.std.specs.Prelude.{◌≡◌, ℕ, Bool, ◌+◌, ◌<◌, ◌≤◌, true, false, ◌&&◌, length, List, [], ◌∷◌, Option, Some, None, Ok, bytes_eq, All}
+use Rattle.eip_exchange.specs.declared.setting.How.TheVariants as how
 use Rattle.eip_text.specs.Names.{is_name}
 use Rattle.eip_simple_read.specs.Meaning.{template_of, predicate_of}
 use Rattle.eip_simple_read.specs.Spelling.{template_text, predicate_text}
 use Rattle.eip_simple_read.specs.declared.tree.Predicate.{Predicate}
 use Rattle.eip_simple_read.specs.declared.tree.Template.{Template}
 use Rattle.eip_uri.specs.Inlets.{inlet_of}
-use Rattle.eip_uri.specs.Ranges.{is_uri}
+use Rattle.eip_uri.specs.Ranges.{is_uri, is_between}
 use Rattle.eip_uri.specs.Sides.{is_consumer, is_producer}
 use Rattle.eip_uri.specs.declared.uri.Uri.{Uri}
 use Rattle.eip_route.specs.Faults.{same_consumer}
 use Rattle.eip_route.specs.Goals.{is_among, lane_of}
-use Rattle.eip_route.specs.Nest.{Gathering, Frame, chooses, filters, splits, multicasts, aggregates, runs_once, HasGroups, NestedStep, NestedSteps, NestedGroups, NestedLast, NestedClause, NestedRoute, NestedSet, leaf, holds, none, more, no_group, group, count, no_last, last}
-use Rattle.eip_route.specs.Valid.{is_filled, is_fan, is_kind, is_completed, is_given_name, is_given_between, is_given_among, is_group_strategy, is_policy, is_token}
+use Rattle.eip_route.specs.Nest.{Gathering, Frame, chooses, filters, splits, multicasts, aggregates, runs_once, tries, Catching, HasGroups, NestedStep, NestedSteps, NestedGroups, NestedLast, NestedClause, NestedRoute, NestedSet, leaf, holds, none, more, no_group, group, count, no_last, last, batching}
+use Rattle.eip_route.specs.Valid.{is_filled, is_fan, is_kind, is_completed, is_given_name, is_given_between, is_given_among, is_group_strategy, is_batch_strategy, is_policy, is_split}
 use Rattle.eip_route.specs.declared.route.Handler.{Handler}
 use Rattle.eip_route.specs.declared.route.Names.{Names}
 use Rattle.eip_route.specs.declared.step.Check.{Check}
@@ -65,6 +66,19 @@ pub record GatheringFits (g : Gathering) : Type 0 where
   pub timeout : is_given_between 1 1000000000 g.timeout ≡ true
   pub completed : is_completed g.size g.timeout g.predicate g.force ≡ true
 
+-- the setting of an aggregator that makes batches
+pub record BatchingFits (g : Gathering) : Type 0 where
+  pub size : ℕ
+  pub timeout : ℕ
+  pub is : g ≡ batching size timeout
+  pub small : is_between 1 1000 size ≡ true
+  pub soon : is_between 1 1000000000 timeout ≡ true
+
+-- that of one that makes batches, or of another
+abbrev pub AnyGatheringFits : Bool → Gathering → Type 0
+AnyGatheringFits true g = BatchingFits g
+AnyGatheringFits false g = GatheringFits g
+
 abbrev pub HasSteps : NestedSteps → Type 0
 HasSteps none = ⊥
 HasSteps (more s ss) = Unit {0}
@@ -72,6 +86,18 @@ HasSteps (more s ss) = Unit {0}
 abbrev pub ChecksFit : Names → List Check → Type 0
 ChecksFit n [] = Unit {0}
 ChecksFit n (c ∷ cs) = CheckFits n c × ChecksFit n cs
+
+-- a check that may be absent
+abbrev pub MayCheckFit : Names → Option Check → Type 0
+MayCheckFit n None = Unit {0}
+MayCheckFit n (Some c) = CheckFits n c
+
+abbrev pub CatchFits : Names → Catching → Type 0
+CatchFits n c = (is_filled c.names ≡ true) × MayCheckFit n c.when
+
+abbrev pub CatchesFit : Names → List Catching → Type 0
+CatchesFit n [] = Unit {0}
+CatchesFit n (c ∷ cs) = CatchFits n c × CatchesFit n cs
 
 -- ---- steps, inside d blocks
 
@@ -96,10 +122,11 @@ LeafFits n _ = ⊥
 abbrev pub FrameFits : Names → Frame → Type 0
 FrameFits n (chooses cs l) = (is_filled cs ≡ true) × ChecksFit n cs
 FrameFits n (filters check) = CheckFits n check
-FrameFits n (splits how fan) = (is_token how ≡ true) × (is_fan fan ≡ true)
+FrameFits n (splits h fan) = is_split h fan ≡ true
 FrameFits n (multicasts fan) = is_fan fan ≡ true
-FrameFits n (aggregates g) = GatheringFits g
-FrameFits n (runs_once e name skip eager remove) = ExprFits e × ((is_given_name name ≡ true) × ((eager ≡ true) × (remove ≡ true)))
+FrameFits n (aggregates g) = AnyGatheringFits (is_batch_strategy g.strategy) g
+FrameFits n (runs_once e name skip eager remove) = ExprFits e × (is_given_name name ≡ true)
+FrameFits n (tries cs l) = CatchesFit n cs
 
 -- each group is one step
 abbrev pub AreBranches : NestedGroups → Type 0
@@ -135,6 +162,39 @@ abbrev mutual
   GroupsFit n d no_group = Unit {0}
   GroupsFit n d (group ss gs) = Inside d (StepsFit n (d + 1) ss) × GroupsFit n d gs
 
+-- ---- where batches stand
+
+-- the frame of the split of a batch, and of the aggregator that gathers one
+abbrev pub is_parts : Frame → Bool
+is_parts (splits (how.Batch k) fan) = true
+is_parts _ = false
+
+abbrev pub gathers : Frame → Bool
+gathers (aggregates g) = is_batch_strategy g.strategy
+gathers _ = false
+
+abbrev mutual
+  pub AreBatched : NestedSteps → Type 0
+  AreBatched none = Unit {0}
+  AreBatched (more s ss) = IsBatched s × AreBatched ss
+
+  pub IsBatched : NestedStep → Type 0
+  IsBatched (leaf s) = Unit {0}
+  IsBatched (holds f gs) = (is_parts f ≡ false) × GroupsBatched (gathers f) gs
+
+  -- the groups of a frame, which gathers a batch or doesn't: the one block of a batch is its split, which stands nowhere else
+  pub GroupsBatched : Bool → NestedGroups → Type 0
+  GroupsBatched false no_group = Unit {0}
+  GroupsBatched false (group ss gs) = AreBatched ss × GroupsBatched false gs
+  GroupsBatched true (group (more (holds f (group ss no_group)) none) no_group) = (is_parts f ≡ true) × AreBatched ss
+  GroupsBatched true _ = ⊥
+
+abbrev pub LastBatched : NestedLast → Type 0
+LastBatched no_last = Unit {0}
+LastBatched (last ss) = AreBatched ss
+
+-- ---- blocks
+
 -- steps that may be absent
 abbrev pub LastFits : Names → ℕ → NestedLast → Type 0
 LastFits n d no_last = Unit {0}
@@ -157,6 +217,7 @@ pub record ClauseFits (n : Names) (c : NestedClause) : Type 0 where
   pub one : c.handled && c.continued ≡ false
   pub filled : LastHasSteps c.steps
   pub steps : LastFits n 0 c.steps
+  pub batched : LastBatched c.steps
 
 abbrev pub DeadFits : Names → Option Uri → Type 0
 DeadFits n None = Unit {0}
@@ -170,6 +231,7 @@ pub record RouteFits (n : Names) (r : NestedRoute) : Type 0 where
   pub id : is_name r.id ≡ true
   pub from : SourceFits n r.from
   pub steps : BlockFits n 0 r.steps
+  pub batched : AreBatched r.steps
 
 -- no two of them have one id or one consumer
 abbrev pub Apart : NestedRoute → NestedRoute → Type 0

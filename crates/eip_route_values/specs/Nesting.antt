@@ -1,18 +1,19 @@
 -- The steps that a route file's lists of steps say, as they nest. Where a value is of a wrong kind, the file has a fault, and what stands here is a default.
 use Rattle.std.specs.Prelude.{ℕ, true, List, [], ◌∷◌, Option, Some, None, is_some, option_map, if◌then◌else◌}
 use Rattle.eip_text.specs.Json.{Json, word, list, object, Items, no_items, item, Members, no_members, member}
+use Rattle.eip_exchange.specs.declared.setting.Key as order
 use Rattle.eip_route.specs.declared.step.Check.{Check}
 use Rattle.eip_route.specs.declared.step.Check.TheVariants as check
 use Rattle.eip_route.specs.declared.step.Step.{Step}
 use Rattle.eip_route.specs.declared.step.Step.TheVariants as step
-use Rattle.eip_route.specs.Nest.{Frame, chooses, filters, splits, multicasts, aggregates, runs_once, NestedStep, NestedSteps, NestedGroups, leaf, holds, none, more, no_group, group, fill}
+use Rattle.eip_route.specs.Nest.{Frame, chooses, filters, splits, multicasts, aggregates, runs_once, tries, Catching, NestedStep, NestedSteps, NestedGroups, leaf, holds, none, more, no_group, group, batch_groups, fill}
 use Rattle.eip_route_grammar.specs.Keys.{is_spelled}
 use Rattle.eip_route_grammar.specs.Objects.{value_at}
 use Rattle.eip_route_grammar.specs.Texts.{unhashed, last_segment}
 use Rattle.eip_route_grammar.specs.declared.keys.Key.{Key}
 use Rattle.eip_route_grammar.specs.declared.keys.Key.TheVariants as key
-use Rattle.eip_route_values.specs.Leaves.{text_of, text_at, flag_at}
-use Rattle.eip_route_values.specs.Parts.{template, endpoint, endpoint_in, expr_in, check_in, fan_in, how_given, delimiter_given, gathering_in, repository_given}
+use Rattle.eip_route_values.specs.Leaves.{text_of, text_at, exceptions_given, flag_at, members_at}
+use Rattle.eip_route_values.specs.Parts.{template, endpoint, endpoint_in, expr_in, check_in, fan_in, how_given, delimiter_given, gathering_in, order_key_in, batching_in, repository_given}
 use Rattle.eip_route_values.specs.Places.{places, step_key}
 use Rattle.eip_route_values.specs.declared.places.Place.{Place}
 use Rattle.eip_route_values.specs.declared.places.Place.TheVariants as place
@@ -36,6 +37,22 @@ items_given _ = no_items
 -- what the cases of a choice ask
 abbrev pub checks_in : Members → List Check
 checks_in ms = checks_of (items_given (value_at key.When ms))
+
+-- what a catch takes
+abbrev pub catching_in : Members → Catching
+catching_in ms = record { names = exceptions_given (value_at key.Exception ms); when = option_map check_in (members_at key.OnWhen ms) }
+
+abbrev pub catching_of : Json → Catching
+catching_of (object ms) = catching_in ms
+catching_of _ = record { names = []; when = None }
+
+abbrev pub catchings_of : Items → List Catching
+catchings_of no_items = []
+catchings_of (item t ts) = catching_of t ∷ catchings_of ts
+
+-- what the catches of a try take
+abbrev pub catchings_in : Members → List Catching
+catchings_in ms = catchings_of (items_given (value_at key.DoCatch ms))
 
 -- what an object says but for the steps that it holds: a step, or the frame of one
 pub data Said : Type 0 where
@@ -64,6 +81,8 @@ said key.Multicast ms = framed (multicasts (fan_in ms))
 said key.Aggregate ms = framed (aggregates (gathering_in ms))
 said key.IdempotentConsumer ms =
     framed (runs_once (expr_in ms) (repository_given (value_at key.IdempotentRepository ms)) (flag_at true key.SkipDuplicate ms) (flag_at true key.Eager ms) (flag_at true key.RemoveOnFailure ms))
+said key.DoTry ms = framed (tries (catchings_in ms) (is_some (value_at key.DoFinally ms)))
+said key.Resequence ms = framed (aggregates (batching_in ms))
 said _ ms = bare no_step
 
 -- by a text
@@ -90,11 +109,12 @@ followed no_group hs = hs
 followed (group ss gs) hs = group ss (followed gs hs)
 
 -- one place, where what stands at each is given
-abbrev pub at_place : NestedSteps → NestedGroups → (Key → NestedGroups) → (Key → NestedGroups) → Place → NestedGroups
-at_place steps branches each_of one_of place.Steps = group steps no_group
-at_place steps branches each_of one_of place.Branches = branches
-at_place steps branches each_of one_of (place.Each k) = each_of k
-at_place steps branches each_of one_of (place.One k) = one_of k
+abbrev pub at_place : order.Key → NestedSteps → NestedGroups → (Key → NestedGroups) → (Key → NestedGroups) → Place → NestedGroups
+at_place o steps branches each_of one_of place.Steps = group steps no_group
+at_place o steps branches each_of one_of place.Branches = branches
+at_place o steps branches each_of one_of (place.Each k) = each_of k
+at_place o steps branches each_of one_of (place.One k) = one_of k
+at_place o steps branches each_of one_of place.Batch = batch_groups o steps
 
 -- several places, one behind the other
 abbrev pub at_places : (Place → NestedGroups) → List Place → NestedGroups
@@ -125,7 +145,7 @@ abbrev mutual
   nest_only (member k t ms) = nest_value (step_key k) t
 
   pub nest_value : Option Key → Json → NestedStep
-  nest_value v (object ms) = if_known v (λ k. with_groups (said k ms) (at_places (at_place (nest_in ms) (nest_branches_in ms) (λ q. nest_each_in q ms) (λ q. nest_one_in q ms)) (places k)))
+  nest_value v (object ms) = if_known v (λ k. with_groups (said k ms) (at_places (at_place (order_key_in ms) (nest_in ms) (nest_branches_in ms) (λ q. nest_each_in q ms) (λ q. nest_one_in q ms)) (places k)))
   nest_value v (word w) = if_known v (λ k. leaf (text_said k w))
   nest_value v _ = leaf no_step
 
@@ -172,4 +192,4 @@ abbrev mutual
 
 -- what an object with these members holds at a place
 abbrev pub nest_at : Members → Place → NestedGroups
-nest_at ms = at_place (nest_in ms) (nest_branches_in ms) (λ q. nest_each_in q ms) (λ q. nest_one_in q ms)
+nest_at ms = at_place (order_key_in ms) (nest_in ms) (nest_branches_in ms) (λ q. nest_each_in q ms) (λ q. nest_one_in q ms)

@@ -3,6 +3,8 @@ use Rattle.std.specs.Prelude.{ℕ, false, List, [], codes, Option, Some, None, u
 use Rattle.eip_text.specs.Json.{Json, word, object, Members}
 use Rattle.eip_exchange.specs.declared.setting.How.{How}
 use Rattle.eip_exchange.specs.declared.setting.How.TheVariants as how
+use Rattle.eip_exchange.specs.declared.setting.Key.{Key}
+use Rattle.eip_exchange.specs.declared.setting.Key.TheVariants as order
 use Rattle.eip_exchange.specs.declared.setting.Strategy.{Strategy}
 use Rattle.eip_exchange.specs.declared.setting.Strategy.TheVariants as strategy
 use Rattle.eip_simple_read.specs.Meaning.{template_of, predicate_of}
@@ -18,9 +20,9 @@ use Rattle.eip_route.specs.declared.step.Check.TheVariants as check
 use Rattle.eip_route.specs.declared.step.Expr.{Expr}
 use Rattle.eip_route.specs.declared.step.Expr.TheVariants as expr
 use Rattle.eip_route.specs.declared.step.Fan.{Fan}
-use Rattle.eip_route.specs.Nest.{Gathering}
+use Rattle.eip_route.specs.Nest.{Gathering, batching}
 use Rattle.eip_route_grammar.specs.Objects.{value_at, parameters_of, fixed}
-use Rattle.eip_route_grammar.specs.Texts.{unhashed, strategy_of}
+use Rattle.eip_route_grammar.specs.Texts.{unhashed, strategy_of, key_of}
 use Rattle.eip_route_grammar.specs.declared.keys.Key.TheVariants as key
 use Rattle.eip_route_values.specs.Leaves.{members_at, text_of, text_given, text_at, expression_of, constant_of, flag_at, small_count_at, count_at}
 
@@ -112,7 +114,7 @@ fan_in ms = record {
   strategy = strategy_given (value_at key.AggregationStrategy ms);
   parallel = flag_at false key.ParallelProcessing ms;
   stop = flag_at false key.StopOnException ms;
-  share = false;
+  share = flag_at false key.ShareUnitOfWork ms;
 }
 
 -- a text, or an object that has it as its `token`
@@ -150,6 +152,28 @@ gathering_in ms = record {
   timeout = count_at key.CompletionTimeout ms;
   force = flag_at false key.ForceCompletionOnStop ms;
 }
+
+-- by the value of one of `simple`, `header` and `exchangeProperty`
+abbrev pub order_key_given : Option Json → Option Json → Option Json → Key
+order_key_given (Some t) header property = unwrap_or (key_of (template (expression_of t))) order.Body
+order_key_given None (Some t) property = order.Header (text_of t)
+order_key_given None None property = order.Property (text_given property)
+
+-- what a resequencer puts its messages in order by
+abbrev pub order_key_in : Members → Key
+order_key_in ms = order_key_given (value_at key.Simple ms) (value_at key.Header ms) (value_at key.ExchangeProperty ms)
+
+abbrev pub batch_size : Option Members → ℕ
+batch_size None = 100
+batch_size (Some ms) = unwrap_or (small_count_at key.BatchSize ms) 100
+
+abbrev pub batch_timeout : Option Members → ℕ
+batch_timeout None = 1000
+batch_timeout (Some ms) = unwrap_or (count_at key.BatchTimeout ms) 1000
+
+-- how it gathers them
+abbrev pub batching_in : Members → Gathering
+batching_in ms = batching (batch_size (members_at key.BatchConfig ms)) (batch_timeout (members_at key.BatchConfig ms))
 
 -- the name of a repository that may be absent
 abbrev pub repository_given : Option Json → Option (List ℕ)

@@ -1,23 +1,23 @@
 #![tactic(auto, using(eip_text::proofs::Levels::json_levels))]
 
-ghost use Rattle.std.specs.Prelude.{◌≡◌, [], IfOk};
+ghost use Rattle.std.specs.Prelude.{◌≡◌, [], None, IfOk, option_map, unwrap_or};
 ghost use Rattle.eip_text.specs.Json.{json, members_json};
-ghost use Rattle.eip_route.specs.Nest.{with_block};
+ghost use Rattle.eip_route.specs.Nest.{plain_fan, with_block};
 ghost use Rattle.eip_route_grammar.specs.Objects as objects;
-ghost use Rattle.eip_route_grammar.specs.Texts.{strategy_of};
+ghost use Rattle.eip_route_grammar.specs.Texts.{key_of, key_of_part, strategy_of};
 ghost use Rattle.eip_route_values.specs.Leaves as leaves;
 ghost use Rattle.eip_route_values.specs.Parts as spec;
 
 use crate::leaves::{
     constant_of, count_at, expression_of, flag_at, members_at, small_count_at, text_at, text_of,
 };
-use eip_exchange::{How, Strategy};
+use eip_exchange::{How, Key as OrderKey, Strategy};
 use eip_route::{Aggregate, Check, Expr, Fan};
 use eip_route_grammar::keys::Key;
 use eip_route_grammar::known::Known;
 use eip_route_grammar::objects::{is_fixed, parameters_of, value_at};
 use eip_route_grammar::texts::unhashed;
-use eip_simple_read::{Predicate, SimpleFault, Template, read_template};
+use eip_simple_read::{Function, Part, Predicate, SimpleFault, Template, read_template};
 use eip_text::cuts::behind;
 use eip_text::{NoMemory, Series, Text, Tree};
 use eip_uri::{Uri, UriFault};
@@ -196,7 +196,7 @@ pub fn fan_in(alloc: Global, members: &[(Text, Tree)]) -> Result<Fan, NoMemory>
         strategy: strategy_at(alloc, members)?,
         parallel: flag_at(false, Key::ParallelProcessing, members),
         stop: flag_at(false, Key::StopOnException, members),
-        share: false,
+        share: flag_at(false, Key::ShareUnitOfWork, members),
     })
 }
 
@@ -297,4 +297,105 @@ pub fn aggregate_in(
         force: flag_at(false, Key::ForceCompletionOnStop, members),
         block,
     })
+}
+
+/// The part of a message that a template is, or the body where it is none.
+fn order_key_of(template: &Template) -> Result<OrderKey, NoMemory>
+    ensures { IfOk result (λ k. k ≡ unwrap_or (key_of template.now) OrderKey.Body) }
+{
+    match template.parts.items() {
+        [part] => order_key_of_part(part),
+        [] | [_, _, ..] => Ok(OrderKey::Body),
+    }
+}
+
+fn order_key_of_part(part: &Part) -> Result<OrderKey, NoMemory>
+    ensures { IfOk result (λ k. k ≡ unwrap_or (key_of_part part.now) OrderKey.Body) }
+{
+    match part {
+        Part::Plain(_) => Ok(OrderKey::Body),
+        Part::Call(function) => match function {
+            Function::Header(name) => Ok(OrderKey::Header(name.copy()?)),
+            Function::Property(name) => Ok(OrderKey::Property(name.copy()?)),
+            Function::Body
+            | Function::ExchangeId
+            | Function::RouteId
+            | Function::ExceptionMessage => Ok(OrderKey::Body),
+        },
+    }
+}
+
+fn named_order_key(alloc: Global, members: &[(Text, Tree)]) -> Result<OrderKey, NoMemory>
+    ensures { let ms = members_json members.now in
+        let header = objects.value_at Key.Header ms in
+        let property = objects.value_at Key.ExchangeProperty ms in
+        IfOk result (λ k. k ≡ spec.order_key_given None header property) }
+{
+    match value_at(Key::Header, members) {
+        Some(tree) => Ok(OrderKey::Header(Text::of_str(alloc, text_of(tree))?)),
+        None => Ok(OrderKey::Property(Text::of_str(
+            alloc,
+            text_at(Key::ExchangeProperty, members),
+        )?)),
+    }
+}
+
+/// What a resequencer puts its messages in order by.
+pub fn order_key_in(alloc: Global, members: &[(Text, Tree)]) -> Result<OrderKey, NoMemory>
+    ensures { IfOk result (λ k. k ≡ spec.order_key_in (members_json members.now)) }
+{
+    match value_at(Key::Simple, members) {
+        Some(tree) => order_key_of(&template(alloc, expression_of(tree))?),
+        None => named_order_key(alloc, members),
+    }
+}
+
+fn batch_size(config: Option<&[(Text, Tree)]>) -> u32
+    ensures { result ≡ spec.batch_size (option_map (λ ms. members_json ms.now) config.entry) }
+{
+    match config {
+        None => 100,
+        Some(members) => small_count_at(Key::BatchSize, members).unwrap_or(100),
+    }
+}
+
+fn batch_timeout(config: Option<&[(Text, Tree)]>) -> u64
+    ensures { result ≡ spec.batch_timeout (option_map (λ ms. members_json ms.now) config.entry) }
+{
+    match config {
+        None => 1000,
+        Some(members) => count_at(Key::BatchTimeout, members).unwrap_or(1000),
+    }
+}
+
+/// The aggregator that gathers the batches of a resequencer, whose block has this number.
+pub fn batching_in(
+    alloc: Global,
+    block: u32,
+    members: &[(Text, Tree)],
+) -> Result<Aggregate, NoMemory>
+    ensures { IfOk result (λ a. a ≡ with_block (spec.batching_in (members_json members.now)) block) }
+{
+    let config = members_at(Key::BatchConfig, members);
+    Ok(Aggregate {
+        key: Expr::Constant(Text::of_str(alloc, "batch")?),
+        strategy: Strategy::Batch,
+        predicate: None,
+        size: Some(batch_size(config)),
+        timeout: Some(batch_timeout(config)),
+        force: true,
+        block,
+    })
+}
+
+/// How the parts of a batch run: one behind the other.
+pub fn plain_fan() -> Fan
+    ensures { result ≡ plain_fan }
+{
+    Fan {
+        strategy: None,
+        parallel: false,
+        stop: false,
+        share: false,
+    }
 }

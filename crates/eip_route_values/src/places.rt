@@ -16,6 +16,8 @@ pub enum Place {
     Each(Key),
     /// The object of this key, where it is there: its `steps`.
     One(Key),
+    /// The list `steps`: one group of a split into the messages of a batch, which holds these steps.
+    Batch,
 }
 
 impl Place {
@@ -31,6 +33,12 @@ impl Place {
             Key::Multicast => &[Place::Branches],
             Key::Aggregate => &[Place::Steps],
             Key::IdempotentConsumer => &[Place::Steps],
+            Key::DoTry => &[
+                Place::Steps,
+                Place::Each(Key::DoCatch),
+                Place::One(Key::DoFinally),
+            ],
+            Key::Resequence => &[Place::Batch],
             _ => &[],
         }
     }

@@ -27,6 +27,7 @@ use Rattle.eip_endpoint.specs.declared.sink.SinkFault.TheVariants as fault
 use Rattle.eip_endpoint.specs.Sinks.{sink_failure}
 use Rattle.eip_endpoint.specs.Inlets.{InletView, InletAct, Failed, faults_at, InletsGrew, inlet_names}
 use Rattle.eip_endpoint.specs.Lanes.{lane_names}
+use Rattle.eip_endpoint.specs.Outside.{Doors, commits, acts_by}
 use Rattle.eip_endpoint.proofs.InletLaws.{faults_at-append}
 use Rattle.eip_ledger.specs.declared.entry.Kind.{Kind}
 use Rattle.eip_ledger.specs.declared.entry.Kind.TheVariants.{SourceFault}
@@ -36,7 +37,7 @@ use Rattle.eip_history.specs.Plan.{Plan}
 use Rattle.eip_history.specs.Own.{Past, turns}
 use Rattle.eip_history.specs.Place.{hands}
 use Rattle.eip_history.specs.Groups.{Group, is_open}
-use Rattle.eip_history.specs.Rules.{IsSource, IsLegal, May}
+use Rattle.eip_history.specs.Rules.{IsSource, KeepsRules, May, Served, served}
 use Rattle.eip_history.specs.Stop.{first_fault, fault_in, or_else, is_over, open_groups, held_or_drained, with_fault, stop_of}
 use Rattle.eip_history.proofs.Steps.{fault-none, fault-more}
 use Rattle.eip_history.proofs.Unborn.{legal-tail, legal-may}
@@ -45,8 +46,8 @@ use Rattle.eip_plan.specs.Simple.{AsksSimply}
 use Rattle.eip_plan.proofs.Items.{no-groups}
 use Rattle.eip_plan.proofs.Laws.{plan-simple}
 use Rattle.eip_table_laws.proofs.StopCalls.{position-some}
-use Rattle.eip_core.specs.Doors.{Doors, doors_of, inlet_named, inlet_at}
-use Rattle.eip_core.specs.Outside.{acts_by, inlet_acts_in, inlet_acts}
+use Rattle.eip_core.specs.Doors.{doors_of, inlet_named, inlet_at}
+use Rattle.eip_core.specs.Outside.{seen_answers, pulls_in, pulls, inlet_acts}
 use Rattle.eip_run.specs.declared.report.Outcome.{Outcome}
 use Rattle.eip_run.specs.declared.report.Outcome.TheVariants as outcome
 use Rattle.eip_run.specs.Outcomes.{behind}
@@ -83,7 +84,7 @@ says-by false true (Some t) groups taken limit s none full h = let same : stop.S
 says-by false true None groups taken limit s none full h = let same : stop.Spent ≡ s = cc in subst (Says None taken limit) same (full refl)
 says-by false false f groups taken limit s none full h = absurd (cc h)
 
-stop-says : (s : Plan) (a : AsksSimply s) (w limit : ℕ) (past : Past) → IsLegal s w limit past → (r : Stop) → stop_of s limit past ≡ Some r
+stop-says : (s : Plan) (a : AsksSimply s) (w limit : ℕ) (past : Past) → KeepsRules s w limit past → (r : Stop) → stop_of s limit past ≡ Some r
     → Says (first_fault past) (turns past) limit r
 unfolding stop_of
 stop-says s a w limit past legal r h =
@@ -94,7 +95,7 @@ stop-says s a w limit past legal r h =
 -- ---- the inlet of a source that failed
 
 -- who failed is a source
-fault-source : (s : Plan) (w limit : ℕ) (past : Past) → IsLegal s w limit past → (t : ℕ) → first_fault past ≡ Some t → IsSource s t
+fault-source : (s : Plan) (w limit : ℕ) (past : Past) → KeepsRules s w limit past → (t : ℕ) → first_fault past ≡ Some t → IsSource s t
 fault-source s w limit [] legal t h = absurd (let g : None ≡ Some t = sym fault-none ∙ h in cc g)
 fault-source s w limit (e ∷ past) legal t h =
     by_first (first_fault past) refl (fault-source s w limit past (legal-tail s w limit e past legal) t) (sym (fault-more e past) ∙ h)
@@ -112,25 +113,31 @@ failed-once None k u h = absurd (cc h)
 failed-once (Some j) k u h = let same : j ≡ k = cc in rw (eq-eqb j k same) (omega arith)
 
 -- its inlet failed
-fault-acted : (d : Doors) (k t : ℕ) → d.inlet t ≡ Some k → (past : Past) → first_fault past ≡ Some t → 1 ≤ faults_at k (inlet_acts d past)
-unfolding inlet_acts
+fault-acted : (d : Doors) (k t : ℕ) → d.inlet t ≡ Some k → (past : Past) → first_fault past ≡ Some t → 1 ≤ faults_at k (pulls d past)
+unfolding pulls
 fault-acted d k t door [] h = absurd (let g : None ≡ Some t = sym fault-none ∙ h in cc g)
 fault-acted d k t door (e ∷ past) h = by_first (first_fault past) refl (fault-acted d k t door past) (sym (fault-more e past) ∙ h)
   where
-    by_kind : (n : Kind) → fault_in n ≡ Some t → 1 ≤ faults_at k (inlet_acts_in d n)
+    by_kind : (n : Kind) → fault_in n ≡ Some t → 1 ≤ faults_at k (pulls_in d n)
     by_kind (SourceFault u) g = let same : u ≡ t = cc in failed-once (d.inlet u) k (d.uri u) (ap d.inlet same ∙ door)
     by_kind _ g = absurd (cc g)
 
-    by_first : (o : Option ℕ) → first_fault past ≡ o → (first_fault past ≡ Some t → 1 ≤ faults_at k (inlet_acts d past)) → or_else o (fault_in e.kind) ≡ Some t
-        → 1 ≤ faults_at k (inlet_acts d past ++ inlet_acts_in d e.kind)
+    by_first : (o : Option ℕ) → first_fault past ≡ o → (first_fault past ≡ Some t → 1 ≤ faults_at k (pulls d past)) → or_else o (fault_in e.kind) ≡ Some t
+        → 1 ≤ faults_at k (pulls d past ++ pulls_in d e.kind)
     by_first (Some u) was older g =
-        let sum = faults_at-append k (inlet_acts d past) (inlet_acts_in d e.kind) in
-        let some : 1 ≤ faults_at k (inlet_acts d past) = older (was ∙ g) in
+        let sum = faults_at-append k (pulls d past) (pulls_in d e.kind) in
+        let some : 1 ≤ faults_at k (pulls d past) = older (was ∙ g) in
         omega arith
     by_first None was older g =
-        let sum = faults_at-append k (inlet_acts d past) (inlet_acts_in d e.kind) in
-        let some : 1 ≤ faults_at k (inlet_acts_in d e.kind) = by_kind e.kind g in
+        let sum = faults_at-append k (pulls d past) (pulls_in d e.kind) in
+        let some : 1 ≤ faults_at k (pulls_in d e.kind) = by_kind e.kind g in
         omega arith
+
+fault-among : (d : Doors) (k t : ℕ) → d.inlet t ≡ Some k → (past : Past) (vs : List Served) → first_fault past ≡ Some t → 1 ≤ faults_at k (inlet_acts d past vs)
+fault-among d k t door past vs h =
+    let sum = faults_at-append k (pulls d past) (commits d (seen_answers vs)) in
+    let some = fault-acted d k t door past h in
+    omega (arith, sum, some)
 
 -- so its count rose
 inlet-rose : (k n : ℕ) (js : List InletAct) (vs ws : List InletView) → InletsGrew k js vs ws → (i : ℕ) → i < length vs → n ≡ k + i → 1 ≤ faults_at n js → InletRose vs ws i
@@ -162,7 +169,7 @@ the-some (Some k) h = (k, refl)
 source-failed : (x : Setting) (p : Path) (set : RouteSet) (s : Stop) (t : ℕ) → HasRoutes (asked x) (Drain p) set → IsRun x set s → first_fault x.journal.past ≡ Some t → SourceFailed x t
 source-failed x p set s t has ran h =
     let runs : Runs set (lane_names x.before.lanes) (inlet_names x.before.inlets) = routes-run (asked x) p set has in
-    let is : IsSource (plan_of set) t = fault-source (plan_of set) 0 turn_limit x.journal.past ran.legal t h in
+    let is : IsSource (plan_of set) t = fault-source (plan_of set) 0 turn_limit x.journal.past ran.legal.entries t h in
     let door = the-some (inlet_at (inlet_names x.before.inlets) (slice_get set.routes t)) (runs.can_run.has_inlets t is) in
     let all : length (inlet_names x.before.inlets) ≡ length x.before.inlets = length-map x.before.inlets (λ v. v.name) in
     let among : door.0 < length (inlet_names x.before.inlets) = inlet-within _ (slice_get set.routes t) door.0 door.1 in
@@ -174,7 +181,7 @@ source-failed x p set s t has ran h =
       inlet = door.0;
       read_by = door.1;
       failed = inlet-rose 0 door.0 _ _ _ ran.inlets door.0 within (omega arith)
-          (fault-acted (doors_of set (lane_names x.before.lanes) (inlet_names x.before.inlets)) door.0 t door.1 x.journal.past h);
+          (fault-among (doors_of set (lane_names x.before.lanes) (inlet_names x.before.inlets)) door.0 t door.1 x.journal.past (served (plan_of set) x.journal.past) h);
     }
 
 -- ---- the cause of what a command came to
@@ -197,7 +204,7 @@ told-caused x told text (Stopped p set s has ran ne) = ((p, has.command), by_sto
   where
     by_stop : (s ≡ stop.NoMemory) ⊎ (stop_of (plan_of set) turn_limit x.journal.past ≡ Some s) → CauseOfStop x s
     by_stop (inl e) = absurd (ne e)
-    by_stop (inr h) = stop-caused x p set s s has ran (stop-says (plan_of set) (plan-simple set) 0 turn_limit x.journal.past ran.legal s h)
+    by_stop (inr h) = stop-caused x p set s s has ran (stop-says (plan_of set) (plan-simple set) 0 turn_limit x.journal.past ran.legal.entries s h)
 told-caused x told text (Starved p set has ran) = ((p, has.command), tt)
 told-caused x told text (LacksMemory still count spared) = tt
 told-caused x told text (LacksText p set s has ran ne) = tt

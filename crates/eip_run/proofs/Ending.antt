@@ -19,7 +19,9 @@ use Rattle.eip_ledger.specs.View.{JournalView}
 use Rattle.eip_ledger.specs.declared.place.Stop.{Stop}
 use Rattle.eip_history.specs.Plan.{Plan}
 use Rattle.eip_history.specs.Own.{Past}
+use Rattle.eip_history.specs.Rules.{Served, served}
 use Rattle.eip_history.specs.Stop.{IsPlain}
+use Rattle.eip_history.proofs.ServedSteps.{served-none}
 use Rattle.eip_plan.specs.Plan.{plan_of}
 use Rattle.eip_books.specs.View.{BooksView, plan, IsLegalRun}
 use Rattle.eip_core.specs.Drain.{IsStop, Drains}
@@ -66,14 +68,17 @@ ran-to set u v j s lb la ib ia b stops legal d same =
     let none : v.journal.workers ≡ 0 = d.same.workers ∙ b.workers in
     let past : v.journal.past ≡ d.behind = d.past ∙ (ap (λ (p : Past). d.behind ++ p) b.past ∙ append-nil d.behind) in
     let here : j.past ≡ v.journal.past = ap (λ (x : JournalView). x.past) same in
+    let first : served (plan u) u.journal.past ≡ [] = ap (served (plan u)) b.past ∙ served-none (plan u) in
+    let all : served (plan_of set) j.past ≡ d.answered =
+    ap (λ (p : Past). served (plan_of set) p) here ∙ (ap (λ (x : Plan). served x v.journal.past) (sym plans) ∙ (d.answers ∙ ap (λ (vs : List Served). vs ++ d.answered) first)) in
     record {
       workers = ap (λ (x : JournalView). x.workers) same ∙ none;
       turns = ap (λ (x : JournalView). x.turns) same ∙ limit;
       legal = rw (here, ← over, ← limit, ← none) legal;
       plain = rw (here, ← plans) (rw d.past (plain-behind (plan u) u.journal.past d.behind (rw b.past (none-plain (plan u))) d.plain));
       stops = rw (here, ← over, ← limit) stops;
-      lanes = rw (here, past, ← b.of_set, ← b.past) d.lanes;
-      inlets = rw (here, past, ← b.of_set) d.inlets;
+      lanes = rw (all, ← b.of_set) d.lanes;
+      inlets = rw (all, here, past, ← b.of_set) d.inlets;
     }
 
 pub told-along : {set other : RouteSet} {past behind : Past} {s : Stop} {before after : Option (List ℕ)} {faults_before faults_after : ℕ} {o : Outcome} → set ≡ other → past ≡ behind

@@ -16,17 +16,18 @@ use Rattle.eip_endpoint.specs.declared.sink.SinkFault.TheVariants as fault
 use Rattle.eip_endpoint.specs.Sinks.{Wrote, sink_failure}
 use Rattle.eip_endpoint.specs.Lanes.{LaneView, LanesGrew, lane_names}
 use Rattle.eip_endpoint.specs.Inlets.{InletView, InletsGrew, inlet_names}
+use Rattle.eip_endpoint.specs.Outside.{calls}
 use Rattle.eip_ledger.specs.View.{JournalView}
 use Rattle.eip_ledger.specs.declared.place.Stop.{Stop}
 use Rattle.eip_ledger.specs.declared.place.Stop.TheVariants as stop
 use Rattle.eip_history.specs.Own.{Past}
-use Rattle.eip_history.specs.Rules.{IsLegal}
+use Rattle.eip_history.specs.Rules.{IsLegal, served}
 use Rattle.eip_history.specs.Stop.{stop_of, IsPlain}
 use Rattle.eip_history.specs.BookText.{log_text_of, book_text_of}
 use Rattle.eip_plan.specs.Plan.{plan_of}
 use Rattle.eip_endbook.specs.Names.{route_names}
 use Rattle.eip_core.specs.Doors.{doors_of}
-use Rattle.eip_core.specs.Outside.{inlet_acts, lane_calls}
+use Rattle.eip_core.specs.Outside.{seen_answers, inlet_acts}
 use Rattle.eip_run.specs.declared.report.Outcome.{Outcome}
 use Rattle.eip_run.specs.declared.report.Outcome.TheVariants as outcome
 use Rattle.eip_run.specs.Given.{Setting, asked}
@@ -50,15 +51,15 @@ pub record IsStill (x : Setting) : Type 0 where
   pub journal : IsNew x.journal
 
 -- the headline of a run of a set: the journal is a legal history of the set in which each entry was made by the actor whose turn it was, its
--- stop is what it says, and lanes and inlets did what its entries say, in their order
+-- stop is what it says, and lanes and inlets did what its entries and answers say, in their order
 pub record Ran (set : RouteSet) (j : JournalView) (s : Stop) (lanes_before lanes_after : List LaneView) (inlets_before inlets_after : List InletView) : Type 0 where
   pub workers : j.workers ≡ 0
   pub turns : j.turns ≡ turn_limit
   pub legal : IsLegal (plan_of set) 0 turn_limit j.past
   pub plain : IsPlain (plan_of set) j.past
   pub stops : (s ≡ stop.NoMemory) ⊎ (stop_of (plan_of set) turn_limit j.past ≡ Some s)
-  pub lanes : LanesGrew 0 (lane_calls (plan_of set) (doors_of set (lane_names lanes_before) (inlet_names inlets_before)) [] j.past) lanes_before lanes_after
-  pub inlets : InletsGrew 0 (inlet_acts (doors_of set (lane_names lanes_before) (inlet_names inlets_before)) j.past) inlets_before inlets_after
+  pub lanes : LanesGrew 0 (calls (doors_of set (lane_names lanes_before) (inlet_names inlets_before)) (seen_answers (served (plan_of set) j.past))) lanes_before lanes_after
+  pub inlets : InletsGrew 0 (inlet_acts (doors_of set (lane_names lanes_before) (inlet_names inlets_before)) j.past (served (plan_of set) j.past)) inlets_before inlets_after
 
 -- the run that a command made
 abbrev pub IsRun : Setting → RouteSet → Stop → Type 0

@@ -30,9 +30,9 @@ fn a_command_names_the_folder_and_the_name_of_its_file(rt: HostRuntime) -> Resul
     for (words, folder, name) in COMMANDS {
         let command = read_words(rt.alloc(), &texts(rt.alloc(), words)?)?;
         let (word, routes) = parts(&command);
-        assert_eq!(rt; word, words[0]);
-        assert_eq!(rt; routes.folder.as_str(), folder);
-        assert_eq!(rt; routes.name.as_str(), name);
+        assert!(rt; word == words[0]);
+        assert!(rt; routes.folder.as_str() == folder);
+        assert!(rt; routes.name.as_str() == name);
     }
     Ok(())
 }
@@ -134,9 +134,6 @@ fn a_fault_is_told_in_one_line(rt: HostRuntime) -> Result<(), Fail> {
         path: Text::of_str(alloc, "$[0].from.uri")?,
         cause: Cause::BadUri(7),
     };
-    assert_eq!(rt;
-        fault_line(alloc, &fault)?.as_str(),
-        "error routes $[0].from.uri BadUri 7\n"
-    );
+    assert!(rt; fault_line(alloc, &fault)?.as_str() == "error routes $[0].from.uri BadUri 7\n");
     Ok(())
 }

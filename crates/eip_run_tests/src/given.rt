@@ -72,8 +72,8 @@ fn lanes(alloc: Global) -> Result<Vec<Lane<MemoryLane>>, NoMemory> {
 
 /// These lines as the inlet of standard input.
 fn stream(alloc: Global, lines: Vec<Text>, failing: u64) -> Result<Vec<Inlet<Lines>>, NoMemory> {
-    let object = Lines::new(alloc, lines, failing);
     let name = Text::of_str(alloc, "stream")?;
+    let object = Lines::new(alloc, lines, failing);
     Ok(vec![in alloc; Inlet { name, object }]?)
 }
 
@@ -85,12 +85,14 @@ pub fn given_with(
     lines: &[&str],
     failing: Failing,
 ) -> Result<Given, NoMemory> {
-    let inlets = stream(alloc, texts(alloc, lines)?, failing.pull)?;
-    let lanes = lanes(alloc)?;
     let failing_writes = vec![in alloc; failing.write]?;
+    let words = texts(alloc, words)?;
+    let files = file_of(alloc, routes, failing.reading)?;
+    let lanes = lanes(alloc)?;
+    let inlets = stream(alloc, texts(alloc, lines)?, failing.pull)?;
     Ok(Given {
-        words: texts(alloc, words)?,
-        files: file_of(alloc, routes, failing.reading)?,
+        words,
+        files,
         lanes,
         inlets,
         out: MemorySink::new(alloc, failing_writes),

@@ -9,3 +9,4 @@ pub mod Fits
 pub mod TestsFit
 pub mod Laws
 pub mod Rows
+pub mod Rooms

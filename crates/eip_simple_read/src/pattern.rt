@@ -1,9 +1,13 @@
-ghost use Rattle.std.specs.Prelude.{◌≡◌, ◌+◌, ◌-◌, ◌^◌, ℕ, IfOk, IsErrOf, Contains, min};
+ghost use Rattle.std.specs.Prelude.{◌≡◌, ◌<◌, ◌≤◌, ◌+◌, ◌-◌, ◌*◌, ◌^◌, ℕ, IfOk, OnOk, OnErr, IsErrOf, Contains, min};
+ghost use Rattle.regex.specs.Failures.{IsPattern};
+ghost use Rattle.regex.specs.Strings.{regex_size};
+ghost use Rattle.regex_syntax.specs.Verdict.{default_config};
 ghost use Rattle.eip_text.specs.Causes.{Rises};
-ghost use Rattle.eip_simple_read.specs.Patterns.{IsNoPattern, IsGoodPattern, IsWholeMatch, IsOf, IsRefused, build_failures};
+ghost use Rattle.eip_simple_read.specs.Patterns.{IsNoPattern, IsGoodPattern, IsWholeMatch, IsOf, IsRefused, Takes, build_failures, price, size_bytes};
 
 use eip_text::{NoMemory, Text};
-use regex::{Error, Regex};
+use regex::{Error, Regex, RegexBuilder};
+use regex_syntax::{Config, ErrorKind, parse};
 use std::alloc::{AllocError, Global};
 use std::marker::Model;
 
@@ -57,18 +61,39 @@ impl From<AllocError> for PatternFault {
     }
 }
 
+/// How many bytes the tables of a compiled pattern may take.
+#[derive(Clone, Copy)]
+enum Size {
+    /// As many as most patterns need.
+    Small,
+    /// The most.
+    Large,
+}
+
+impl Size {
+    fn bytes(self) -> usize
+        ensures { result ≡ size_bytes self }
+    {
+        match self {
+            Size::Small => 65_536,
+            Size::Large => 2_097_152,
+        }
+    }
+}
+
 impl Pattern {
-    /// The pattern that a text spells, in the syntax of the crate `regex`. `TooLarge` where that crate refuses it for its size.
-    fn compile(alloc: Global, text: &Text) -> Result<Pattern, PatternFault>
+    /// The pattern that a text spells, in the syntax of the crate `regex`. `TooLarge` where its tables would take more
+    /// bytes than this.
+    fn compile(alloc: Global, text: &Text, size: Size) -> Result<Pattern, PatternFault>
         ensures built { IfOk result (λ p. p ≡ text.now) }
         ensures grammar { IfOk result (λ _. IsGoodPattern text.now) }
         ensures bad { IsErrOf result PatternFault.Bad → IsNoPattern text.now }
     {
-        let _alone = compiled(alloc, text.as_str())?;
+        read_alone(alloc, text.as_str())?;
         let mut source = String::from_str(alloc, "\\A(?:")?;
         source.push_str(text.as_str())?;
         source.push_str(")\\z")?;
-        let whole = compiled(alloc, source.as_str())?;
+        let whole = compiled(alloc, source.as_str(), size)?;
         Ok(Pattern {
             text: text.copy()?,
             whole,
@@ -91,12 +116,31 @@ impl Pattern {
     }
 }
 
+/// Reads a pattern, which is not compiled.
+fn read_alone(alloc: Global, source: &str) -> Result<(), PatternFault>
+    ensures grammar { IfOk result (λ _. IsPattern default_config source.now) }
+    ensures bad { IsErrOf result PatternFault.Bad → IsRefused source.now }
+    ensures never { ¬ (IsErrOf result PatternFault.TooLarge) }
+{
+    match parse(alloc, source, &Config::default()) {
+        Ok(_parsed) => Ok(()),
+        Err(error) => match error.kind {
+            ErrorKind::OutOfMemory => Err(PatternFault::NoMemory),
+            _ => Err(PatternFault::Bad),
+        },
+    }
+}
+
 /// The expression that the text spells.
-fn compiled(alloc: Global, source: &str) -> Result<Regex, PatternFault>
+fn compiled(alloc: Global, source: &str, size: Size) -> Result<Regex, PatternFault>
     ensures built { IfOk result (λ r. IsOf source.now r) }
+    ensures small { IfOk result (λ r. regex_size r ≤ size_bytes size + 24) }
     ensures bad { IsErrOf result PatternFault.Bad → IsRefused source.now }
 {
-    match Regex::new(alloc, source) {
+    match RegexBuilder::new(source)
+        .size_limit(size.bytes())
+        .build(alloc)
+    {
         Ok(regex) => Ok(regex),
         Err(Error::Syntax(_)) => Err(PatternFault::Bad),
         Err(Error::CompiledTooBig) => Err(PatternFault::TooLarge),
@@ -118,23 +162,80 @@ pub trait Patterns {
         ensures cause { Rises (build_failures result) (pattern_faults self.old) (pattern_faults self.new) };
 }
 
-/// Builds patterns with the crate `regex`.
+/// What the patterns of a builder may take together, in bytes.
+const ROOM: usize = 50_331_648;
+
+/// What each byte of a pattern's text takes of the room. It stands for the time of a build, which grows with the text.
+const TEXT_BYTE: usize = 4_096;
+
+/// The most bytes of a pattern's text: so many take the whole room.
+const TEXT_LIMIT: usize = 12_288;
+
+/// Builds patterns with the crate `regex`, within a room for all of them. A pattern takes 4,096 bytes of it for each byte
+/// of its text, and 65,536 bytes, or 2,097,152 where its tables don't fit in these.
 #[derive(Drop)]
 pub struct CratePatterns {
     failing: Vec<u64>,
     number: u64,
     faults: u64,
+    room: usize,
 }
 
 impl CratePatterns {
     /// A build whose number, from 1, stands in `failing` answers `TooLarge`. It takes no memory.
     pub fn new(failing: Vec<u64>) -> CratePatterns
-        ensures { (result.failing ≡ failing) × (result.number ≡ 0) × (result.faults ≡ 0) }
+        ensures { (result.failing ≡ failing) × (result.number ≡ 0) × (result.faults ≡ 0) × (result.room ≡ 48 * 2 ^ 20) }
     {
         CratePatterns {
             failing,
             number: 0,
             faults: 0,
+            room: ROOM,
+        }
+    }
+
+    /// The pattern of this text, where the room has place for it and for tables of this size.
+    fn build_sized(
+        &mut self,
+        alloc: Global,
+        text: &Text,
+        size: Size,
+    ) -> Result<Pattern, PatternFault>
+        ensures built { IfOk result (λ p. p ≡ text.now) }
+        ensures grammar { IfOk result (λ _. IsGoodPattern text.now) }
+        ensures bad { IsErrOf result PatternFault.Bad → IsNoPattern text.now }
+        ensures room { OnOk result (self.new.room + price size text.now ≡ self.old.room) }
+        ensures full { self.old.room < price size text.now → IsErrOf result PatternFault.TooLarge }
+        ensures same { OnErr result (self.new.room ≡ self.old.room) }
+        ensures others { (self.new.failing.items ≡ self.old.failing.items) × (self.new.number ≡ self.old.number) × (self.new.faults ≡ self.old.faults) }
+    {
+        let length = text.bytes().len();
+        if length > TEXT_LIMIT {
+            return Err(PatternFault::TooLarge);
+        }
+        let price = length * TEXT_BYTE + size.bytes();
+        if self.room < price {
+            return Err(PatternFault::TooLarge);
+        }
+        let pattern = Pattern::compile(alloc, text, size)?;
+        self.room -= price;
+        Ok(pattern)
+    }
+
+    /// The pattern of this text, with small tables where it fits in these.
+    #[tactic(auto, using(crate::proofs::Rooms::takes))]
+    fn build_small_first(&mut self, alloc: Global, text: &Text) -> Result<Pattern, PatternFault>
+        ensures built { IfOk result (λ p. p ≡ text.now) }
+        ensures grammar { IfOk result (λ _. IsGoodPattern text.now) }
+        ensures bad { IsErrOf result PatternFault.Bad → IsNoPattern text.now }
+        ensures room { OnOk result (Takes text.now self.old.room self.new.room) }
+        ensures full { self.old.room < price Size.Small text.now → IsErrOf result PatternFault.TooLarge }
+        ensures same { OnErr result (self.new.room ≡ self.old.room) }
+        ensures others { (self.new.failing.items ≡ self.old.failing.items) × (self.new.number ≡ self.old.number) × (self.new.faults ≡ self.old.faults) }
+    {
+        match self.build_sized(alloc, text, Size::Small) {
+            Err(PatternFault::TooLarge) => self.build_sized(alloc, text, Size::Large),
+            answer => answer,
         }
     }
 }
@@ -142,7 +243,8 @@ impl CratePatterns {
 impl Patterns for CratePatterns {
     ghost pattern_faults = { λ p. p.faults };
 
-    /// The pattern of this text. A build whose number stands among the failing ones is refused as too large.
+    /// The pattern of this text. A build whose number stands among the failing ones is refused as too large, and so is
+    /// one for which there is no room.
     fn build(&mut self, alloc: Global, text: &Text) -> Result<Pattern, PatternFault>
         ensures built { IfOk result (λ p. p ≡ text.now) }
         ensures grammar { IfOk result (λ _. IsGoodPattern text.now) }
@@ -150,13 +252,15 @@ impl Patterns for CratePatterns {
         ensures cause { Rises (build_failures result) self.old.faults self.new.faults }
         ensures failing { Contains self.old.failing.items self.new.number → IsErrOf result PatternFault.TooLarge }
         ensures number { self.new.number ≡ min (self.old.number + 1) (2 ^ 64 - 1) }
-        ensures same { self.new.failing.items ≡ self.old.failing.items }
+        ensures room { OnOk result (Takes text.now self.old.room self.new.room) }
+        ensures full { self.old.room < price Size.Small text.now → IsErrOf result PatternFault.TooLarge }
+        ensures same { (self.new.failing.items ≡ self.old.failing.items) × OnErr result (self.new.room ≡ self.old.room) }
     {
         self.number = self.number.saturating_add(1);
         let answer = if self.failing.contains(&self.number) {
             Err(PatternFault::TooLarge)
         } else {
-            Pattern::compile(alloc, text)
+            self.build_small_first(alloc, text)
         };
         if matches!(answer, Err(PatternFault::TooLarge)) {
             self.faults = self.faults.saturating_add(1);

@@ -1,8 +1,8 @@
 // Predicates and templates where memory is ample, at the sizes that values may have. In a row `«N*TEXT»` stands for so
 // many times this text.
-use crate::simple_texts::{matched, template_said};
+use crate::simple_texts::{is_predicate_said, matched, template_said};
 use crate::simple_values::{says, value_said};
-use eip_exchange::HeaderFault;
+use eip_exchange::{HeaderFault, Message};
 use eip_test_support::{message_of, message_of_size, repeated, written_out};
 use eip_text::NoMemory;
 use std::alloc::Global;
@@ -29,11 +29,16 @@ const SIDES: [(&str, bool); 17] = [
     ("'«65536*x»' == \"«65536*x»\" && '«65536*y»'", true),
 ];
 
+/// A message whose body is so many times this text.
+fn message_of_many(alloc: Global, text: &str, times: usize) -> Result<Message, NoMemory> {
+    let body = repeated(alloc, text, times)?;
+    message_of(alloc, body.as_str())
+}
+
 /// Whether a predicate holds where the body is 65,536 times `x`.
 fn says_at_size(alloc: Global, marked: &str) -> Result<Option<bool>, NoMemory> {
     let text = written_out(alloc, marked)?;
-    let body = repeated(alloc, "x", 65_536)?;
-    let message = message_of(alloc, body.as_str())?;
+    let message = message_of_many(alloc, "x", 65_536)?;
     says(alloc, text.as_str(), &message)
 }
 
@@ -41,7 +46,7 @@ fn says_at_size(alloc: Global, marked: &str) -> Result<Option<bool>, NoMemory> {
 fn sides_and_bodies_of_65536_bytes_are_compared(rt: HostRuntime) -> Result<(), Fail> {
     for (predicate, want) in SIDES {
         let got = says_at_size(rt.alloc(), predicate)?;
-        assert_eq!(rt; got, Some(want), "of {predicate}");
+        assert!(rt; got == Some(want), "of {predicate}");
     }
     Ok(())
 }
@@ -71,7 +76,35 @@ fn matched_at_size(alloc: Global, pattern: &str, text: &str) -> Result<Option<bo
 fn patterns_of_200_bytes_are_built_and_match(rt: HostRuntime) -> Result<(), Fail> {
     for (pattern, text, want) in PATTERNS {
         let got = matched_at_size(rt.alloc(), pattern, text)?;
-        assert_eq!(rt; got, Some(want), "of {pattern}");
+        assert!(rt; got == Some(want), "of {pattern}");
+    }
+    Ok(())
+}
+
+/// Predicates, and what is told of the pattern that has no place among those before it: a pattern takes 4,096 bytes of a room
+/// of 50,331,648 for each byte of its text, and 65,536 more.
+const TOO_LARGE: [(&str, &str); 4] = [
+    ("${body} regex '«12289*a»'", "PatternTooLarge 14"),
+    ("${body} regex '«12273*a»'", "PatternTooLarge 14"),
+    (
+        "${body} regex '«4000*a»' && ${body} regex '«4000*a»' && ${body} regex '«4000*a»' && ${body} regex 'b'",
+        "${body} regex '«4000*a»' && ${body} regex '«4000*a»' && ${body} regex '«4000*a»' && ${body} regex 'b'",
+    ),
+    (
+        "${body} regex '«4000*a»' && ${body} regex '«4000*a»' && ${body} regex '«4000*a»' && ${body} regex '«300*b»'",
+        "PatternTooLarge 12074",
+    ),
+];
+
+#[test]
+fn the_patterns_of_a_builder_share_a_room(rt: HostRuntime) -> Result<(), Fail> {
+    for (marked, want) in TOO_LARGE {
+        let text = written_out(rt.alloc(), marked)?;
+        let want = written_out(rt.alloc(), want)?;
+        assert!(rt;
+            is_predicate_said(rt.alloc(), text.as_str(), 0, want.as_str())?,
+            "of {marked}"
+        );
     }
     Ok(())
 }
@@ -84,6 +117,12 @@ const TEMPLATES: [(&str, usize, usize); 4] = [
     ("«9285*${body}»«5*x»", 0, 5),
 ];
 
+/// The length of a template's value where the body has so many bytes.
+fn value_length(alloc: Global, text: &str, body: usize) -> Result<usize, NoMemory> {
+    let message = message_of_many(alloc, "b", body)?;
+    Ok(value_said(alloc, text, &message)?.len())
+}
+
 /// The length of a template, whether it prints as its text, and the length of its value where the body has so many
 /// bytes.
 fn template_at_size(
@@ -92,18 +131,16 @@ fn template_at_size(
     body: usize,
 ) -> Result<(usize, bool, usize), NoMemory> {
     let text = written_out(alloc, marked)?;
+    let value = value_length(alloc, text.as_str(), body)?;
     let printed = template_said(alloc, text.as_str())?;
-    let body = repeated(alloc, "b", body)?;
-    let message = message_of(alloc, body.as_str())?;
-    let value = value_said(alloc, text.as_str(), &message)?;
-    Ok((text.len(), printed.as_str() == text.as_str(), value.len()))
+    Ok((text.len(), printed.as_str() == text.as_str(), value))
 }
 
 #[test]
 fn templates_of_65000_bytes_are_read_printed_and_evaluated(rt: HostRuntime) -> Result<(), Fail> {
     for (template, body, want) in TEMPLATES {
         let got = template_at_size(rt.alloc(), template, body)?;
-        assert_eq!(rt; got, (65_000, true, want), "of {template}");
+        assert!(rt; got == (65_000, true, want), "of {template}");
     }
     Ok(())
 }
@@ -121,6 +158,6 @@ fn evaluated_at_size(alloc: Global, size: usize) -> Result<[usize; 2], HeaderFau
 #[test]
 fn headers_and_properties_of_65536_bytes_are_evaluated(rt: HostRuntime) -> Result<(), Fail> {
     let size = 65_536;
-    assert_eq!(rt; evaluated_at_size(rt.alloc(), size)?, [size, size]);
+    assert!(rt; evaluated_at_size(rt.alloc(), size)? == [size, size]);
     Ok(())
 }

@@ -1,19 +1,12 @@
 -- The parts of a message: which bodies they have, and what else.
-use Rattle.std.specs.Prelude.{ℕ, suc, ◌<◌, Bool, ◌==◌, nat_le, if◌then◌else◌, List, [], ◌∷◌, length, map, codes, bytes_eq, decimal, Option, Some, None, Result, Ok, Err}
-use Rattle.eip_text.specs.Json.{Json, word, list, Items, no_items, item, json_read}
+use Rattle.std.specs.Prelude.{ℕ, suc, Bool, ◌==◌, nat_le, if◌then◌else◌, List, [], ◌∷◌, length, map, codes, bytes_eq, decimal, Option, Some, None, Result, Ok, Err}
+use Rattle.eip_text.specs.Json.{Json, word, list, Items, no_items, item}
 use Rattle.eip_text.specs.JsonText.{json_text, items_have_float}
 use Rattle.eip_exchange.specs.Pairs.{Pairs, put_property}
 use Rattle.eip_exchange.specs.declared.message.Message.{Message}
-use Rattle.eip_exchange.specs.declared.setting.How.{How}
-use Rattle.eip_exchange.specs.declared.setting.How.TheVariants as how
 use Rattle.eip_pieces.specs.Pieces.{pieces}
 use Rattle.eip_splitter.specs.declared.fault.SplitFault.{SplitFault}
 use Rattle.eip_splitter.specs.declared.fault.SplitFault.TheVariants as fault
-
--- a token isn't empty
-abbrev pub HasToken : How → Type 0
-HasToken (how.Token token) = 0 < length token
-HasToken how.JsonArray = Unit {0}
 
 -- ---- the bodies
 
@@ -58,11 +51,6 @@ abbrev pub array_bodies : Option Json → Option (List (List ℕ))
 array_bodies (Some (list js)) = elements_bodies js
 array_bodies _ = None
 
--- the bodies of the parts, or none where the body isn't as asked
-abbrev pub bodies : How → List ℕ → Option (List (List ℕ))
-bodies (how.Token token) body = Some (token_bodies token body)
-bodies how.JsonArray body = array_bodies (json_read body)
-
 -- ---- how many there may be
 
 abbrev pub count_within_limit : ℕ → Result (Unit {0}) SplitFault
@@ -97,7 +85,3 @@ parts_from m n k (b ∷ bs) = part m n k b ∷ parts_from m n (suc k) bs
 abbrev pub parts_of : Message → Result (List (List ℕ)) SplitFault → Result (List Message) SplitFault
 parts_of m (Ok bs) = Ok (parts_from m (length bs) 0 bs)
 parts_of m (Err e) = Err e
-
--- the parts of a message, or the fault
-unfoldable pub parts : How → Message → Result (List Message) SplitFault
-parts h m = parts_of m (within_limit (bodies h m.body))

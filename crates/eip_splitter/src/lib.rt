@@ -11,7 +11,6 @@ mod numbered;
 mod splitter;
 mod token;
 
-pub use batch::batch_parts;
 pub use fault::SplitFault;
 pub use laws::batch_law;
 pub use splitter::parts;

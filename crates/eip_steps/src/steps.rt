@@ -68,7 +68,8 @@ pub fn try_step(
         | Step::Multicast { .. }
         | Step::Recipients { .. }
         | Step::Aggregate(_)
-        | Step::Idempotent { .. } => Ok(Tried::Goes(message)),
+        | Step::Idempotent { .. }
+        | Step::Try { .. } => Ok(Tried::Goes(message)),
     }
 }
 

@@ -5,7 +5,8 @@ use Rattle.std.specs.Int.{w64}
 use Rattle.std.proofs.lemmas.Bool.{lt-ltb, ltb-true}
 use Rattle.eip_text.specs.Numbers.{is_small}
 use Rattle.eip_strategy.specs.declared.fault.StrategyFault.TheVariants.{SumTooLarge}
-use Rattle.eip_strategy.specs.Adding.{Answer, small_sum}
+use Rattle.eip_strategy.specs.Adding.{small_sum}
+use Rattle.eip_strategy.specs.Answers.{Answer}
 
 small_true : (z : ℤ) → FitsSigned w64 z → is_small z ≡ true
 small_true (pos n) h = lt-ltb n (2 ^ 63) h.sfits

@@ -1,20 +1,20 @@
 -- What follows from what the definitions say of one message and of many.
-use Rattle.std.proofs.Common.{◌≡◌, ℕ, ◌+◌, ◌<◌, ◌≤◌, Bool, true, false, List, [], ◌∷◌, ◌++◌, length, get_or, drop, Option, Some, None, Ok, Err, refl, sym, ap, ap₂, ◌∙◌, subst, add-one, drop-cons, drop_of_length-le}
+use Rattle.std.proofs.Common.{◌≡◌, ℕ, ◌+◌, ◌<◌, ◌≤◌, List, [], ◌∷◌, ◌++◌, length, get_or, drop, Option, Some, None, Ok, Err, refl, sym, ap, ap₂, ◌∙◌, subst, add-one, drop-cons, drop_of_length-le}
 use Rattle.std.specs.Prelude.{nat_le, ◌↔◌, IsNone, fold}
 use Rattle.eip_exchange.specs.declared.message.Message.{Message}
 use Rattle.eip_exchange.specs.declared.setting.Strategy.{Strategy}
-use Rattle.eip_exchange.specs.declared.setting.Strategy.TheVariants.{Original, Latest, Joined, Grouped, Sum}
+use Rattle.eip_exchange.specs.declared.setting.Strategy.TheVariants.{Original, Latest, Joined, Grouped, Sum, Batch}
 use Rattle.eip_strategy.specs.declared.fault.StrategyFault.{StrategyFault}
-use Rattle.eip_strategy.specs.Adding.{Answer, checked, with_body, added, IsReadyBody, IsReady}
+use Rattle.eip_strategy.specs.Adding.{with_body, added, IsReadyBody, IsReady}
+use Rattle.eip_strategy.specs.Answers.{Answer}
+use Rattle.eip_strategy.specs.Batches.{IsBatch}
 use Rattle.eip_strategy.specs.Folding.{as_some, added_to, folded}
 use Rattle.eip_strategy.specs.Groups.{group_text, texts_read, IsGroup}
+use Rattle.eip_strategy.proofs.Checked.{checked_is}
 use Rattle.eip_strategy.proofs.Groups.{IsGroup-one, IsGroup-more}
+use Rattle.eip_strategy.proofs.Packed.{still_packed}
 
 -- ---- the body of a result
-
-pub checked_is : (b : Bool) (limit : ℕ) (m n : Message) → nat_le (length m.body) limit ≡ b → checked limit m ≡ Ok n → m ≡ n
-checked_is true limit m n e h = let k : ◌≡◌ {A = Answer Message} (Ok m) (Ok n) = rw e at h in cc
-checked_is false limit m n e h = absurd (let k = rw e at h in cc)
 
 with_body_is : (m n : Message) (r : Answer (List ℕ)) → with_body m r ≡ Ok n → r ≡ Ok n.body
 with_body_is m n (Ok body) h =
@@ -34,6 +34,7 @@ ready_first (Joined d) new m h = tt
 ready_first Grouped new m h =
     subst IsGroup (ok_is (group_text (new.body ∷ [])) m.body (with_body_is new m (Ok (group_text (new.body ∷ []))) h)) (IsGroup-one new.body)
 ready_first Sum new m h = tt
+ready_first Batch new m h = still_packed None new m h
 
 pub ready_next : (s : Strategy) (old new m : Message) → added s (Some old) new ≡ Ok m → IsReadyBody s m.body
 unfolding added
@@ -44,10 +45,16 @@ ready_next Grouped old new m h =
     let body = group_text (texts_read old.body ++ new.body ∷ []) in
     subst IsGroup (ok_is body m.body (with_body_is old m (Ok body) h)) (IsGroup-more (texts_read old.body) new.body)
 ready_next Sum old new m h = tt
+ready_next Batch old new m h = still_packed (Some old) new m h
 
 pub ready_after : (s : Strategy) (o : Option Message) (new m : Message) → added s o new ≡ Ok m → IsReady s (Some m)
 ready_after s None new m h = ready_first s new m h
 ready_after s (Some old) new m h = ready_next s old new m h
+
+-- what is ready for a batch is one
+pub batch_ready : (s : Strategy) (o : Option Message) → s ≡ Batch → IsReady s o → IsBatch o
+batch_ready s None e h = tt
+batch_ready s (Some old) e h = subst (λ x. IsReadyBody x old.body) e h
 
 -- ---- folds
 

@@ -1,10 +1,10 @@
 -- How a message is packed behind those before it.
-use Rattle.std.specs.Prelude.{◌≡◌, ℕ, List, [], ◌∷◌, ◌++◌, map, Option, Some, None}
+use Rattle.std.specs.Prelude.{◌≡◌, ℕ, List, [], ◌∷◌, ◌++◌, nat_lt, length, map, Option, Some, None, if◌then◌else◌}
 use Rattle.eip_exchange.specs.declared.message.Message.{Message}
 use Rattle.eip_resequence.specs.declared.packed.Packed.{Packed}
 use Rattle.eip_resequence.specs.Packing.{pack_text, IsPacked}
 use Rattle.eip_resequence.specs.Unpacking.{messages_in}
-use Rattle.eip_strategy.specs.Adding.{Answer, checked}
+use Rattle.eip_strategy.specs.Answers.{Answer, checked}
 
 -- a message as it is packed
 abbrev pub packed_of : Message → Packed
@@ -15,9 +15,17 @@ abbrev pub before : Option Message → Message
 before None = record { body = pack_text []; headers = []; properties = [] }
 before (Some old) = old
 
+-- the packed text of a list with one more message
+abbrev pub text_behind : List ℕ → Message → List ℕ
+text_behind text new = pack_text (messages_in text ++ packed_of new ∷ [])
+
 -- a new message packed behind those of another
 abbrev pub packed_behind : Message → Message → Message
-packed_behind old new = record old { body = pack_text (messages_in old.body ++ packed_of new ∷ []) }
+packed_behind old new = record old { body = text_behind old.body new }
+
+-- the comma in front of one more value of a JSON list: none where the list is empty
+abbrev pub comma_in : List ℕ → List ℕ
+comma_in list = if nat_lt 2 (length list) then 44 ∷ [] else []
 
 -- of at most 16,777,216 bytes
 unfoldable pub added_packed : Option Message → Message → Answer Message

@@ -2,7 +2,8 @@
 use Rattle.std.specs.Prelude.{List, Option, Some, None, Ok, Err, fold}
 use Rattle.eip_exchange.specs.declared.message.Message.{Message}
 use Rattle.eip_exchange.specs.declared.setting.Strategy.{Strategy}
-use Rattle.eip_strategy.specs.Adding.{Answer, added}
+use Rattle.eip_strategy.specs.Adding.{added}
+use Rattle.eip_strategy.specs.Answers.{Answer}
 
 abbrev pub as_some : Answer Message → Answer (Option Message)
 as_some (Ok m) = Ok (Some m)

@@ -1,15 +1,21 @@
-ghost use Rattle.std.specs.Prelude.{◌≡◌, ◌↔◌, [], IfOk, IsNone};
+ghost use Rattle.std.specs.Prelude.{◌≡◌, ◌↔◌, [], Some, Ok, IfOk, OnOk, OnErr, IsNone};
 ghost use Rattle.std.specs.Option.{option_map};
-ghost use Rattle.eip_strategy.specs.Adding.{added, IsReadyBody, IsReady};
+ghost use Rattle.eip_resequence.specs.Packing.{IsPacked};
+ghost use Rattle.eip_strategy.specs.Adding.{added, next_body, with_body, IsReadyBody, IsReady};
 ghost use Rattle.eip_strategy.specs.Answers.{Says};
+ghost use Rattle.eip_strategy.specs.Batches.{added_packed};
 ghost use Rattle.eip_strategy.specs.Folding.{folded};
 ghost use Rattle.eip_strategy.specs.Growing.{grown};
 
+use crate::batch::push_message;
+use crate::bodies::grow;
 use crate::fault::StrategyFault;
-use crate::growing::Growing;
+use crate::growing::{Growing, LIMIT};
 use crate::steps::step;
 use eip_exchange::{Message, Strategy};
+use eip_text::Text;
 use std::alloc::Global;
+use std::mem::replace;
 
 /// The messages so far, `old`, in one with a new message (Camel manual, *AggregationStrategy*); without `old` the new
 /// message is the first.
@@ -19,11 +25,15 @@ use std::alloc::Global;
 /// `Grouped` the compact JSON list (RFC 8259) of the bodies as texts, and with `Sum` the sum of both as whole numbers, in
 /// decimal. The first body is that of `new`, with `Grouped` in a list of its own, with `Sum` its number in decimal.
 ///
-/// `NotNumber` exactly where a body that is summed is no whole number of 64 bits, `SumTooLarge` exactly where their sum
-/// isn't one, `TooLong` exactly where the body of the result has more than 65,536 bytes. `old` is dropped then.
+/// With `Batch` (Camel manual, *Resequence EIP*, batch resequencing) the body is what `eip_resequence::pack` gives of the
+/// messages with their headers and properties; the headers and properties of `old` stay, and without `old` there are none.
 ///
-/// With `Grouped` the body of `old` must be the compact JSON list of one or more texts, as it is where this call made it;
-/// it isn't read again.
+/// `NotNumber` exactly where a body that is summed is no whole number of 64 bits, `SumTooLarge` exactly where their sum
+/// isn't one, `TooLong` exactly where the body of the result has more than 65,536 bytes, with `Batch` more than
+/// 16,777,216. `old` is dropped then.
+///
+/// With `Grouped` the body of `old` must be the compact JSON list of one or more texts, and with `Batch` the packed text of
+/// a list, as it is where this call made it; it isn't read again.
 pub fn add(
     alloc: Global,
     strategy: &Strategy,
@@ -36,6 +46,66 @@ pub fn add(
 {
     let so_far = growing_of(old);
     Ok(step(alloc, strategy, so_far, new)?.into_message())
+}
+
+/// Takes a new message in with the messages so far, as `add` does, where those stand: the body grows where it is. On a fault
+/// they stay as they were.
+pub fn add_in_place(
+    alloc: Global,
+    strategy: &Strategy,
+    so_far: &mut Message,
+    new: &Message,
+) -> Result<(), StrategyFault>
+    requires { IsReadyBody strategy.now so_far.old.body }
+    ensures says { Says (λ _. so_far.new) result
+        (added strategy.now (Some so_far.old) new.now) }
+    ensures err { OnErr result (so_far.new ≡ so_far.old) }
+    ensures ready { OnOk result (IsReadyBody strategy.now so_far.new.body) }
+{
+    match strategy {
+        Strategy::Batch => pack_in_place(alloc, so_far, new),
+        Strategy::Latest => become_latest(alloc, so_far, new),
+        _ => grow_body(alloc, strategy, so_far, new),
+    }
+}
+
+fn pack_in_place(alloc: Global, so_far: &mut Message, new: &Message) -> Result<(), StrategyFault>
+    requires { IsPacked so_far.old.body }
+    ensures says { Says (λ _. so_far.new) result (added_packed (Some so_far.old) new.now) }
+    ensures err { OnErr result (so_far.new ≡ so_far.old) }
+{
+    let taken = replace(&mut so_far.body, Text::of(String::new(alloc)));
+    let mut body = taken.into_string();
+    let done = push_message(alloc, &mut body, new);
+    so_far.body = Text::of(body);
+    done
+}
+
+fn become_latest(alloc: Global, so_far: &mut Message, new: &Message) -> Result<(), StrategyFault>
+    ensures says { Says (λ _. so_far.new) result (with_body new.now (Ok new.now.body)) }
+    ensures err { OnErr result (so_far.new ≡ so_far.old) }
+{
+    let latest = Growing::copy_of(alloc, new)?.within(LIMIT)?;
+    *so_far = latest.into_message();
+    Ok(())
+}
+
+fn grow_body(
+    alloc: Global,
+    strategy: &Strategy,
+    so_far: &mut Message,
+    new: &Message,
+) -> Result<(), StrategyFault>
+    requires { IsReadyBody strategy.now so_far.old.body }
+    ensures says { Says (λ _. so_far.new) result
+        (with_body so_far.old (next_body strategy.now so_far.old.body new.now.body)) }
+    ensures err { OnErr result (so_far.new ≡ so_far.old) }
+{
+    let taken = replace(&mut so_far.body, Text::of(String::new(alloc)));
+    let mut body = taken.into_string();
+    let done = grow(alloc, strategy, &mut body, &new.body);
+    so_far.body = Text::of(body);
+    done
 }
 
 fn growing_of(old: Option<Message>) -> Option<Growing>

@@ -1,52 +1,72 @@
-ghost use Rattle.std.specs.Prelude.{◌≡◌, IfOk};
+ghost use Rattle.std.specs.Prelude.{◌≡◌, Ok, IfOk, OnErr, string_bytes};
+ghost use Rattle.std.specs.Option.{option_map};
 ghost use Rattle.eip_resequence.specs.Packing.{IsPacked};
-ghost use Rattle.eip_strategy.specs.Answers.{Says};
-ghost use Rattle.eip_strategy.specs.Batches.{packed_of, before, added_packed, IsBatch};
+ghost use Rattle.eip_strategy.specs.Answers.{Says, bounded};
+ghost use Rattle.eip_strategy.specs.Batches.{packed_of, before, text_behind, added_packed, comma_in, IsBatch};
 ghost use Rattle.eip_strategy.specs.Growing.{grown};
 
+use crate::bodies::{make_room, push};
 use crate::fault::StrategyFault;
 use crate::growing::Growing;
 use eip_exchange::{Headers, Message, Properties};
-use eip_resequence::{Packed, pack_behind};
+use eip_resequence::lists::reopen;
+use eip_resequence::{Packed, object_text};
 use eip_text::{NoMemory, Series, Text};
 use std::alloc::Global;
 
 /// The most bytes that the packed messages of a batch have.
 const BATCH_LIMIT: usize = 16_777_216;
 
-/// The messages so far, `old`, with a new one packed behind them (Camel manual, *Resequence EIP*, batch resequencing):
-/// the body is what `eip_resequence::pack` gives of the messages with their headers and properties. The headers and
-/// properties of `old` stay; without `old` the result has none.
-///
-/// `TooLong` exactly where the body of the result has more than 16,777,216 bytes. `old` is dropped then.
-///
-/// The body of `old` must be the packed text of a list, as it is where this call made it; it isn't read again.
-pub fn add_packed(
+/// The messages so far, with a new one packed behind them: the body is what `eip_resequence::pack` gives of them.
+pub fn packed_in(
     alloc: Global,
-    old: Option<Message>,
+    so_far: Option<Growing>,
     new: &Message,
-) -> Result<Message, StrategyFault>
-    requires { IsBatch old }
-    ensures says { Says (λ m. m) result (added_packed old new.now) }
-    ensures ready { IfOk result (λ m. IsPacked m.body) }
+) -> Result<Growing, StrategyFault>
+    requires { IsBatch (option_map grown so_far) }
+    ensures { Says grown result (added_packed (option_map grown so_far) new.now) }
+{
+    let mut batch = batch_of(alloc, so_far)?;
+    push_message(alloc, &mut batch.body, new)?;
+    Ok(batch)
+}
+
+/// Packs a message behind those of a batch, which aren't read again. On a fault the batch stays as it was.
+pub fn push_message(alloc: Global, batch: &mut String, new: &Message) -> Result<(), StrategyFault>
+    requires { IsPacked (string_bytes batch.old) }
+    ensures says { Says (λ _. string_bytes batch.new) result
+        (bounded 16777216 (Ok (text_behind (string_bytes batch.old) new.now))) }
+    ensures err { OnErr result (string_bytes batch.new ≡ string_bytes batch.old) }
 {
     let packed = packed_of(alloc, new)?;
-    let mut batch = batch_of(alloc, old)?;
-    pack_behind(alloc, &mut batch.body, &packed)?;
-    Ok(batch.within(BATCH_LIMIT)?.into_message())
+    let object = object_text(alloc, &packed)?;
+    let comma = comma_in(batch.as_str());
+    make_room(batch, BATCH_LIMIT, comma.len(), object.len())?;
+    reopen(batch);
+    push(batch, comma);
+    push(batch, object.as_str());
+    push(batch, "]");
+    Ok(())
+}
+
+/// The comma in front of a value that is put behind those of a JSON list.
+fn comma_in(list: &str) -> &'static str
+    ensures { result.now ≡ comma_in list.now }
+{
+    if list.len() > 2 { "," } else { "" }
 }
 
 /// The messages so far, or a batch of none.
-fn batch_of(alloc: Global, old: Option<Message>) -> Result<Growing, NoMemory>
-    ensures { IfOk result (λ g. grown g ≡ before old) }
+fn batch_of(alloc: Global, so_far: Option<Growing>) -> Result<Growing, NoMemory>
+    ensures { IfOk result (λ g. grown g ≡ before (option_map grown so_far)) }
 {
-    match old {
+    match so_far {
         None => Ok(Growing {
             body: String::from_str(alloc, "[]")?,
             headers: Headers::new(alloc),
             properties: Properties::new(alloc),
         }),
-        Some(old) => Ok(Growing::of(old)),
+        Some(so_far) => Ok(so_far),
     }
 }
 

@@ -1,8 +1,7 @@
 // A message whose body still grows in place.
 ghost use Rattle.std.specs.Prelude.{◌≡◌, IfOk};
 ghost use Rattle.eip_strategy.specs.Growing.{grown};
-ghost use Rattle.eip_strategy.specs.Adding.{checked};
-ghost use Rattle.eip_strategy.specs.Answers.{Says};
+ghost use Rattle.eip_strategy.specs.Answers.{Says, checked};
 
 use crate::fault::StrategyFault;
 use eip_exchange::{Headers, Message, Properties};

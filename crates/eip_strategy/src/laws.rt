@@ -2,7 +2,7 @@ ghost use Rattle.std.specs.Prelude.{◌≡◌, ◌++◌, ◌∷◌, [], List, So
 ghost use Rattle.eip_exchange.specs.declared.message.Message.{Message};
 ghost use Rattle.eip_strategy.specs.Batches.{IsPackedOf, added_packed};
 
-/// What a batch holds is the messages that `add_packed` took in, in order of arrival. It does nothing.
+/// What a batch holds is the messages that `add` took in with `Batch`, in order of arrival. It does nothing.
 ///
 /// The two clauses are the steps of it: the first message alone, and one more behind those before. Between two steps only
 /// the body has to stay as it is.

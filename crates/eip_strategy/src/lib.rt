@@ -3,12 +3,12 @@
 
 mod adding;
 mod batch;
+mod bodies;
 pub mod fault;
 mod growing;
 mod laws;
 mod steps;
 
-pub use adding::{add, fold};
-pub use batch::add_packed;
+pub use adding::{add, add_in_place, fold};
 pub use fault::StrategyFault;
 pub use laws::batch_law;

@@ -25,7 +25,7 @@ module _ {set : RouteSet} {workers limit : ℕ} {past : Past} (t : Tables) (st :
   hands-are = omega (arith, takes-are, st.pulled)
 
   pub within-limit : t.turns + (t.pulled + t.taken) ≤ limit
-  within-limit = omega (arith, legal-within (plan_of set) workers limit past st.legal, hands-are, st.turns)
+  within-limit = omega (arith, legal-within (plan_of set) workers limit past st.legal.entries, hands-are, st.turns)
 
   pub live-within : t.live ≤ length t.rows
   live-within = omega (arith, filter-length row_live t.rows, st.live)

@@ -1,11 +1,11 @@
 -- The tables before the first entry.
-use Rattle.std.proofs.Common.{◌≡◌, ℕ, zero, suc, false, List, [], length, None, refl, sym}
+use Rattle.std.proofs.Common.{◌≡◌, ◌≤◌, ℕ, zero, suc, false, List, [], length, None, refl, sym}
 use Rattle.std.proofs.lemmas.List.{append-nil}
 use Rattle.eip_route.specs.declared.route.RouteSet.{RouteSet}
 use Rattle.eip_history.specs.Own.{turns, source_state, numbers_below}
 use Rattle.eip_history.specs.Births.{story}
 use Rattle.eip_history.specs.Place.{pulls_out}
-use Rattle.eip_history.specs.Rules.{IsLegal, served}
+use Rattle.eip_history.specs.Rules.{KeepsRules, served}
 use Rattle.eip_history.specs.Stop.{first_fault}
 use Rattle.eip_plan.specs.Plan.{plan_of}
 use Rattle.eip_tables.specs.declared.row.SourceState.{SourceState}
@@ -19,11 +19,11 @@ nobody-below n = none n
     none zero = refl
     none (suc n) = rw append-nil (none n)
 
-pub first-tables : (set : RouteSet) (workers limit : ℕ) (sources : List SourceState) → SourcesStand (plan_of set) [] sources
+pub first-tables : (set : RouteSet) (workers limit : ℕ) (sources : List SourceState) → workers ≤ 16 → 1 ≤ limit → limit ≤ 1000000 → SourcesStand (plan_of set) [] sources
     → Stands set workers limit [] (record { rows = []; ready = []; sources = sources; turns = 0; fault = None; notes = []; taken = 0; pulled = 0; live = 0 })
-unfolding IsLegal story turns first_fault served pulls_out source_state
-first-tables set workers limit sources h = record {
-  legal = tt;
+unfolding KeepsRules story turns first_fault served pulls_out source_state
+first-tables set workers limit sources few some most h = record {
+  legal = record { few_workers = few; some_turns = some; few_turns = most; entries = tt };
   rows = tt;
   ready = refl;
   sources = h;

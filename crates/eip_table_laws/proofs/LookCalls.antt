@@ -93,6 +93,19 @@ module _ {routes : RouteSet} {workers limit : ℕ} {past : Past} (t : Tables) (x
   pub answer-within : (i : ℕ) → r.stage ≡ stage.Answered i → i < length (reverse past)
   answer-within i g = let h = answered-row routes past here.birth r i g here.stands in entry-within past i _ h.1.1.entry
 
+  -- the entry that the row names, read at its index, is an answer
+  pub answered-entry : (i : ℕ) (entries : List Entry) (e : Entry) → r.stage ≡ stage.Answered i → entries ≡ reverse past → e ≡ get_or entries i e
+      → (n : ℕ) × ((a : Reply) × ((get_or entries i e).kind ≡ Answer n a))
+  answered-entry i entries e g same read =
+      let h = answered-row routes past here.birth r i g here.stands in
+      let d : Entry = record { worker = h.1.1.worker; kind = Answer here.birth.number h.1.1.answer } in
+      let there : slice_get (reverse past) i ≡ Some d = entry-there past i d h.1.1.entry in
+      let within : i < length entries = rw same (answer-within i g) in
+      let at : slice_get entries i ≡ Some e = slice_get_read entries (length entries) i e refl within read in
+      let found : slice_get (reverse past) i ≡ Some e = ap (λ (es : List Entry). slice_get es i) (sym same) ∙ at in
+      let is : e ≡ d = cc in
+      (here.birth.number, (h.1.1.answer, ap (λ (f : Entry). f.kind) (sym read) ∙ ap (λ (f : Entry). f.kind) is))
+
   -- the cursor may take the answer of the entry that the row names
   pub answered-cursor : (i w n : ℕ) (a : Reply) → r.stage ≡ stage.Answered i → slice_get (reverse past) i ≡ Some (record { worker = w; kind = Answer n a }) → HasCursor routes a r
   answered-cursor i w n a g at =

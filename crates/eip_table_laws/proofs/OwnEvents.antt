@@ -61,7 +61,7 @@ stands-one routes workers limit past t w x i k old new ready taken live st lw ma
     let e : Entry = record { worker = w; kind = k } in
     let s = plan_of routes in
     let legal = legal-add s workers limit e past st.legal lw may in
-    let same = births-same routes workers limit e past legal (of.no_birth s past) in
+    let same = births-same routes workers limit e past legal.entries (of.no_birth s past) in
     let suc_is : 1 + i ≡ suc i = omega arith in
     record {
       legal = legal;

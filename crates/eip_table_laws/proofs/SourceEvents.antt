@@ -16,7 +16,7 @@ use Rattle.eip_history.specs.Plan.{Plan}
 use Rattle.eip_history.specs.Own.{Past, concerns, source_state, moved, is_out, turns_in, SourceState, Idle, Out}
 use Rattle.eip_history.specs.Births.{births, item_birth}
 use Rattle.eip_history.specs.Place.{pulls_out}
-use Rattle.eip_history.specs.Rules.{IsLegal, May, Served, served, served_in}
+use Rattle.eip_history.specs.Rules.{KeepsRules, May, Served, served, served_in}
 use Rattle.eip_history.specs.Stop.{first_fault, fault_in, or_else}
 use Rattle.eip_history.specs.Tables.{Related, bit}
 use Rattle.eip_history.specs.Texts.{notes, note_for}
@@ -86,7 +86,7 @@ fault-more e past = refl
 pub fault-none : (e : Entry) (past : Past) → fault_in e.kind ≡ None → first_fault (e ∷ past) ≡ first_fault past
 fault-none e past h = fault-more e past ∙ (ap (or_else (first_fault past)) h ∙ or_else-none (first_fault past))
 
-pub births-same : (set : RouteSet) (w limit : ℕ) (e : Entry) (past : Past) → IsLegal (plan_of set) w limit (e ∷ past) → item_births (plan_of set) past e.kind ≡ [] → births (plan_of set) (e ∷ past) ≡ births (plan_of set) past
+pub births-same : (set : RouteSet) (w limit : ℕ) (e : Entry) (past : Past) → KeepsRules (plan_of set) w limit (e ∷ past) → item_births (plan_of set) past e.kind ≡ [] → births (plan_of set) (e ∷ past) ≡ births (plan_of set) past
 births-same set w limit e past legal none =
     births-items (plan_of set) (plan-simple set) w limit e past legal ∙ (ap (λ bs. births (plan_of set) past ++ bs) none ∙ append-nil (births (plan_of set) past))
 
@@ -124,7 +124,7 @@ stands-source routes workers limit past t w r k was after pulled st lw may withi
     let e : Entry = record { worker = w; kind = k } in
     let s = plan_of routes in
     let legal = legal-add s workers limit e past st.legal lw may in
-    let same = births-same routes workers limit e past legal none in
+    let same = births-same routes workers limit e past legal.entries none in
     record {
       legal = legal;
       rows = rw same (rows-quiet routes e past (births s past) t.rows of.nobody st.rows);
@@ -154,7 +154,7 @@ pub of-fault : (w t : ℕ) → IsOfSource w t (SourceFault t)
 of-fault w t = record { nobody = λ x. refl; others = λ u was ne. rw (not-same u t ne) refl }
 
 -- the row of a newborn stands for it
-newborn-row : (set : RouteSet) (workers limit : ℕ) (past : Past) (w r : ℕ) (item : List ℕ) (m : Message) → IsLegal (plan_of set) workers limit ((record { worker = w; kind = Accept r item m }) ∷ past)
+newborn-row : (set : RouteSet) (workers limit : ℕ) (past : Past) (w r : ℕ) (item : List ℕ) (m : Message) → KeepsRules (plan_of set) workers limit ((record { worker = w; kind = Accept r item m }) ∷ past)
     → RowStands set ((record { worker = w; kind = Accept r item m }) ∷ past) (item_birth (plan_of set) (length (births (plan_of set) past) + 1) r item m) (new_row (length past))
 newborn-row set workers limit past w r item m legal =
     let e : Entry = record { worker = w; kind = Accept r item m } in
@@ -182,7 +182,7 @@ stands-accept routes workers limit past t w r item m st lw may =
     let number : 1 + length t.rows ≡ length t.rows + 1 = omega arith in
     record {
       legal = legal;
-      rows = rw (births-items s (plan-simple routes) workers limit e past legal) (related-push (RowStands routes (e ∷ past)) (births s past) t.rows _ row old (newborn-row routes workers limit past w r item m legal));
+      rows = rw (births-items s (plan-simple routes) workers limit e past legal.entries) (related-push (RowStands routes (e ∷ past)) (births s past) t.rows _ row old (newborn-row routes workers limit past w r item m legal.entries));
       ready = ap (λ xs. xs ++ (length t.rows + 1) ∷ []) st.ready ∙ sym (numbers-push row_ready 1 t.rows row ∙ ap (λ n. row_numbers row_ready 1 t.rows ++ n ∷ []) number);
       sources = sources-set s e past t.sources r kept.Idle within (state-others w r k past of) (kept-here s w r k past Idle may.0.1 idle) st.sources;
       turns = ap (λ n. n + 1) st.turns ∙ sym (turns-more e past);

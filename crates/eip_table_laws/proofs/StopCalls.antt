@@ -153,7 +153,7 @@ sources-over s past rows st = by (list_all is_done_row rows) (no_numbers (number
 
 module _ {set : RouteSet} {workers limit : ℕ} {past : Past} (t : Tables) (st : Stands set workers limit past t) where
   groupless : groups (plan_of set) past ≡ []
-  groupless = no-groups (plan_of set) (plan-simple set) workers limit past st.legal
+  groupless = no-groups (plan_of set) (plan-simple set) workers limit past st.legal.entries
 
   live-is : unended (plan_of set) past ≡ t.live
   unfolding count_at

@@ -1,6 +1,7 @@
 use eip_exchange::{End, Fault};
 use eip_idempotent::{Offered, Repo};
-use eip_text::{NoMemory, Text, decimal};
+use eip_table_runs::keys::{first_wrong, wrong_holder};
+use eip_text::{NoMemory, Text};
 use std::alloc::Global;
 use std::test::*;
 
@@ -108,88 +109,14 @@ fn keys_are_apart_by_repository_and_text(rt: HostRuntime) -> Result<(), Fail> {
     Ok(())
 }
 
-/// How many keys are claimed at once.
-const MANY: u64 = 20_000;
-
-/// The numbers below `MANY` in another order.
-fn mixed(number: u64) -> u64 {
-    number.wrapping_mul(7_919) % MANY
-}
-
-/// A table in which each number below `MANY` has claimed itself as a key, one of three eagerly. How many offers weren't
-/// fresh.
-fn claim_many(alloc: Global, repo: &mut Repo, repository: &Text) -> Result<u64, NoMemory> {
-    let mut held: u64 = 0;
-    for number in 0..MANY {
-        let key = decimal(alloc, number)?;
-        if repo.offer(repository, &key, number, number % 3 == 0, true)? != Offered::Fresh {
-            held = held.saturating_add(1);
-        }
-    }
-    Ok(held)
-}
-
-/// All end, in another order: the even ones complete, and a handler takes the faults of the others.
-fn end_many(repo: &mut Repo) {
-    for turn in 0..MANY {
-        let number = mixed(turn);
-        if number % 2 == 0 {
-            repo.settle(number, &End::Completed);
-        } else {
-            repo.settle(number, &End::Handled);
-        }
-    }
-}
-
-/// The first key, in another order, that isn't held by its own even number alone; `MANY` where an offer of a new key was
-/// no fresh one.
-fn first_wrong(alloc: Global) -> Result<Option<u64>, NoMemory> {
-    let repository = Text::of_str(alloc, "in")?;
-    let mut repo = Repo::new(alloc);
-    if claim_many(alloc, &mut repo, &repository)? != 0 {
-        return Ok(Some(MANY));
-    }
-    end_many(&mut repo);
-    for turn in 0..MANY {
-        let number = mixed(turn);
-        let key = decimal(alloc, number)?;
-        let want = if number % 2 == 0 {
-            Offered::Duplicate(number)
-        } else {
-            Offered::Fresh
-        };
-        if repo.offer(&repository, &key, MANY + turn, true, true)? != want {
-            return Ok(Some(number));
-        }
-    }
-    Ok(None)
-}
-
 #[test]
 fn many_keys_are_held_by_those_who_completed(rt: HostRuntime) -> Result<(), Fail> {
-    assert_eq!(rt; first_wrong(rt.alloc())?, None);
+    assert_eq!(rt; first_wrong(rt.alloc(), 20_000)?, None);
     Ok(())
-}
-
-/// The first of `MANY` ends, the greatest number's first, behind which the key isn't held by the number that ended last.
-fn wrong_holder(alloc: Global) -> Result<Option<u64>, NoMemory> {
-    let (repository, key) = (Text::of_str(alloc, "in")?, Text::of_str(alloc, "k")?);
-    let mut repo = Repo::new(alloc);
-    for number in 0..MANY {
-        repo.offer(&repository, &key, number, false, true)?;
-    }
-    for turn in 0..MANY {
-        let number = MANY - 1 - turn;
-        repo.settle(number, &End::Completed);
-        if repo.offer(&repository, &key, MANY, false, true)? != Offered::Duplicate(number) {
-            return Ok(Some(number));
-        }
-    }
-    Ok(None)
 }
 
 #[test]
 fn of_many_holders_the_least_is_told(rt: HostRuntime) -> Result<(), Fail> {
-    assert_eq!(rt; wrong_holder(rt.alloc())?, None);
+    assert_eq!(rt; wrong_holder(rt.alloc(), 20_000)?, None);
     Ok(())
 }

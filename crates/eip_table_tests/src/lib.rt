@@ -1,6 +1,8 @@
-// Tests of the tables of sleepers, queues, joins and keys, through public calls.
+// Tests of the tables of sleepers, queues, joins, keys and groups, through public calls.
 #![tactic(auto)]
 
+#[cfg(test)]
+mod groups;
 #[cfg(test)]
 mod joins;
 #[cfg(test)]

@@ -1,7 +1,7 @@
-ghost use Rattle.std.specs.Prelude.{◌≡◌, ◌<◌, ℕ, List, length, IfOk};
-ghost use Rattle.eip_seda.specs.Consuming.{Call, Stands};
+ghost use Rattle.std.specs.Prelude.{◌≡◌, ◌<◌, length, IfOk};
 
 use eip_seda::{OfferFault, Queues};
+use eip_table_runs::queues::out_of_turn;
 use eip_text::NoMemory;
 use std::alloc::Global;
 use std::test::*;
@@ -70,63 +70,10 @@ fn a_queue_takes_as_many_as_it_may_and_starts_as_many_as_it_has_consumers(
     Ok(())
 }
 
-/// The first one in a queue starts and ends.
-fn served(queues: &mut Queues, queue: u32) -> Option<u64>
-    requires in_range { queue < length queues.old }
-    requires stands { (limits : List (ℕ × ℕ)) × ((calls : List Call) × Stands limits calls queues.old) }
-    ensures as_many { length queues.new ≡ length queues.old }
-    ensures stands { (limits : List (ℕ × ℕ)) × ((calls : List Call) × Stands limits calls queues.new) }
-{
-    let number = queues.start(queue)?;
-    queues.ended(queue);
-    Some(number)
-}
-
-/// How many numbers wait at once, in four queues.
-const MANY: u32 = 20_000;
-
-/// Four queues that hold them all, one consumer each.
-fn four_queues(alloc: Global) -> Result<Queues, NoMemory>
-    ensures as_many { IfOk result (λ queues. length queues ≡ 4) }
-    ensures stands { IfOk result (λ queues. (limits : List (ℕ × ℕ)) × ((calls : List Call) × Stands limits calls queues)) }
-{
-    let mut limits = Vec::new(alloc);
-    limits.push((MANY, 1))?;
-    limits.push((MANY, 1))?;
-    limits.push((MANY, 1))?;
-    limits.push((MANY, 1))?;
-    Queues::new(alloc, limits)
-}
-
-/// The numbers below `MANY` wait, each in the queue of its remainder.
-fn many_waiting(alloc: Global) -> Result<Queues, OfferFault>
-    ensures as_many { IfOk result (λ queues. length queues ≡ 4) }
-    ensures stands { IfOk result (λ queues. (limits : List (ℕ × ℕ)) × ((calls : List Call) × Stands limits calls queues)) }
-{
-    let mut queues = four_queues(alloc)?;
-    for number in 0..MANY {
-        queues.offer(number % 4, u64::from(number))?;
-    }
-    Ok(queues)
-}
-
-/// The first that isn't served in its turn, where the queues are served one after another.
-fn out_of_turn(alloc: Global) -> Result<Option<u64>, OfferFault> {
-    let mut queues = many_waiting(alloc)?;
-    for turn in 0..MANY {
-        let queue = turn / (MANY / 4);
-        let want = u64::from(turn % (MANY / 4) * 4 + queue);
-        if served(&mut queues, queue) != Some(want) {
-            return Ok(Some(want));
-        }
-    }
-    Ok(served(&mut queues, 0))
-}
-
 #[test]
 fn many_numbers_leave_their_queues_in_the_order_in_which_they_came(
     rt: HostRuntime,
 ) -> Result<(), Fail> {
-    assert_eq!(rt; out_of_turn(rt.alloc())?, None);
+    assert_eq!(rt; out_of_turn(rt.alloc(), 20_000)?, None);
     Ok(())
 }

@@ -1,16 +1,7 @@
-use eip_redelivery::Retries;
+use eip_table_runs::sleepers::{out_of_turn, sleepers};
 use eip_text::NoMemory;
 use std::alloc::Global;
 use std::test::*;
-
-/// The sleepers 1, 2, 3 and so on with these moments, in this order.
-fn sleepers(alloc: Global, moments: &[u64]) -> Result<Retries, NoMemory> {
-    let mut retries = Retries::new(alloc);
-    for (at, due) in moments.iter().enumerate() {
-        retries.sleep(at as u64 + 1, *due)?;
-    }
-    Ok(retries)
-}
 
 /// Who wakes of them at each of these ticks, one at a time, and the first moment that is left.
 fn woken(alloc: Global, moments: &[u64], ticks: &[u64]) -> Result<String, NoMemory> {
@@ -43,32 +34,8 @@ fn the_first_moment_wakes_first_and_of_equal_ones_the_least_number(
     Ok(())
 }
 
-/// How many sleep at once.
-const MANY: u64 = 20_000;
-
-/// When a sleeper of many wakes: each at a moment of its own, in another order than their numbers.
-fn moment_of(number: u64) -> u64 {
-    number.wrapping_mul(7_919) % MANY
-}
-
-/// The first moment of `MANY` at which another wakes than the one that sleeps until then, or one that is left at the end.
-fn out_of_turn(alloc: Global) -> Result<Option<u64>, NoMemory> {
-    let mut moments = Vec::new(alloc);
-    for number in 0..MANY {
-        moments.push(moment_of(number + 1))?;
-    }
-    let mut retries = sleepers(alloc, moments.as_slice())?;
-    for tick in 0..MANY {
-        match retries.wake(tick) {
-            Some(number) if moment_of(number) == tick => {}
-            _ => return Ok(Some(tick)),
-        }
-    }
-    Ok(retries.least())
-}
-
 #[test]
 fn many_sleepers_wake_in_the_order_of_their_moments(rt: HostRuntime) -> Result<(), Fail> {
-    assert_eq!(rt; out_of_turn(rt.alloc())?, None);
+    assert_eq!(rt; out_of_turn(rt.alloc(), 20_000)?, None);
     Ok(())
 }

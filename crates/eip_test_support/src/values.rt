@@ -1,4 +1,4 @@
-use eip_exchange::{HeaderFault, Message};
+use eip_exchange::{HeaderFault, Headers, Message, Properties};
 use eip_text::{NoMemory, Text};
 use std::alloc::Global;
 
@@ -40,19 +40,34 @@ pub fn message_of(alloc: Global, body: &str) -> Result<Message, NoMemory> {
     Ok(Message::of_body(alloc, Text::of_str(alloc, body)?))
 }
 
+/// The one header `h` of this value.
+fn header_of(alloc: Global, value: &str) -> Result<Headers, HeaderFault> {
+    let name = Text::of_str(alloc, "h")?;
+    let value = Text::of_str(alloc, value)?;
+    let mut headers = Headers::new(alloc);
+    headers.set(name, value)?;
+    Ok(headers)
+}
+
+/// The one property `p` of this value.
+fn property_of(alloc: Global, value: &str) -> Result<Properties, NoMemory> {
+    let name = Text::of_str(alloc, "p")?;
+    let value = Text::of_str(alloc, value)?;
+    let mut properties = Properties::new(alloc);
+    properties.set(name, value)?;
+    Ok(properties)
+}
+
 /// A message whose body, header `h` and property `p` have so many bytes, each an `x`.
 pub fn message_of_size(alloc: Global, size: usize) -> Result<Message, HeaderFault> {
     let value = repeated(alloc, "x", size)?;
-    let mut message = message_of(alloc, value.as_str())?;
-    let name = Text::of_str(alloc, "h")?;
-    message
-        .headers
-        .set(name, Text::of_str(alloc, value.as_str())?)?;
-    let name = Text::of_str(alloc, "p")?;
-    message
-        .properties
-        .set(name, Text::of_str(alloc, value.as_str())?)?;
-    Ok(message)
+    let headers = header_of(alloc, value.as_str())?;
+    let properties = property_of(alloc, value.as_str())?;
+    Ok(Message {
+        body: Text::of(value),
+        headers,
+        properties,
+    })
 }
 
 /// The text with each mark `«N*TEXT»` replaced by so many times this text.

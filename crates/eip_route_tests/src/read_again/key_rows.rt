@@ -25,6 +25,10 @@ pub const UNKNOWN_KEYS: &str =
 [{"from":{"uri":"stream:in","steps":[{"split":{"tokenize":{"token":",","tokens":"x"},"steps":[]}}]}}] => $[0].from.steps[0].split.tokenize UnknownKey tokens
 [{"from":{"uri":"stream:in","steps":[{"multicast":{"steps":[{"to":"log:a"}],"parallelprocessing":"x"}}]}}] => $[0].from.steps[0].multicast UnknownKey parallelprocessing
 [{"from":{"uri":"stream:in","steps":[{"recipientList":{"header":"to","-delimiter":"x"}}]}}] => $[0].from.steps[0].recipientList UnknownKey -delimiter
+[{"from":{"uri":"stream:in","steps":[{"doTry":{"steps":[],"jsonpath":"x"}}]}}] => $[0].from.steps[0].doTry UnknownKey jsonpath
+[{"from":{"uri":"stream:in","steps":[{"doTry":{"steps":[],"doFinally":{"steps":[],"simple":"${body}"}}}]}}] => $[0].from.steps[0].doTry.doFinally UnknownKey simple
+[{"from":{"uri":"stream:in","steps":[{"doTry":{"steps":[],"doCatch":[{"exception":"E","steps":[],"handled":true}]}}]}}] => $[0].from.steps[0].doTry.doCatch[0] UnknownKey handled
+[{"from":{"uri":"stream:in","steps":[{"doTry":{"steps":[],"doCatch":[{"exception":"E","steps":[],"onWhen":{"doTry":1}}]}}]}}] => $[0].from.steps[0].doTry.doCatch[0].onWhen UnknownKey doTry
 [{"from":{"uri":"stream:in","steps":[{"aggregate":{"correlationExpression":{"header":"h"},"completionSize":2,"steps":[],"eager":"x"}}]}}] => $[0].from.steps[0].aggregate UnknownKey eager
 [{"from":{"uri":"stream:in","steps":[{"aggregate":{"correlationExpression":{"header":"h","steps":"x"},"completionSize":2,"steps":[]}}]}}] => $[0].from.steps[0].aggregate.correlationExpression UnknownKey steps
 [{"from":{"uri":"stream:in","steps":[{"aggregate":{"correlationExpression":{"header":"h"},"completionPredicate":{"simple":"${body}","constant":"x"},"steps":[]}}]}}] => $[0].from.steps[0].aggregate.completionPredicate UnknownKey constant
@@ -54,7 +58,12 @@ pub const UNKNOWN_KEYS: &str =
 [{"from":{"uri":"stream:in","steps":[{"aggregate":{"correlationExpression":{"header":"h"},"completionPredicate":{"expression":{"simple":"true"}},"steps":[]}}]}}] => $[0].from.steps[0].aggregate.completionPredicate UnknownKey expression
 [{"from":{"uri":"stream:in","steps":[{"split":{"tokenize":{"expression":","},"steps":[]}}]}}] => $[0].from.steps[0].split.tokenize UnknownKey expression
 [{"from":{"uri":"stream:in","steps":[{"removeHeader":{"expression":{"name":"h"}}}]}}] => $[0].from.steps[0].removeHeader UnknownKey expression
-[{"from":{"uri":"stream:in","steps":[{"split":{"expression":{"tokenize":","},"steps":[]}}]}}] => $[0].from.steps[0].split UnknownKey expression"#;
+[{"from":{"uri":"stream:in","steps":[{"split":{"expression":{"tokenize":","},"steps":[]}}]}}] => $[0].from.steps[0].split UnknownKey expression
+[{"from":{"uri":"stream:in","steps":[{"resequence":{"simple":"${body}","steps":[],"constant":"x"}}]}}] => $[0].from.steps[0].resequence UnknownKey constant
+[{"from":{"uri":"stream:in","steps":[{"resequence":{"expression":{"simple":"${body}"},"steps":[]}}]}}] => $[0].from.steps[0].resequence UnknownKey expression
+[{"from":{"uri":"stream:in","steps":[{"resequence":{"simple":{"expression":"${body}","other":"x"},"steps":[]}}]}}] => $[0].from.steps[0].resequence.simple UnknownKey other
+[{"from":{"uri":"stream:in","steps":[{"resequence":{"header":"h","steps":[],"batchConfig":{"batchSizes":1}}}]}}] => $[0].from.steps[0].resequence.batchConfig UnknownKey batchSizes
+[{"from":{"uri":"stream:in","steps":[{"resequence":{"header":"h","steps":[],"aggregationStrategy":"latest"}}]}}] => $[0].from.steps[0].resequence UnknownKey aggregationStrategy"#;
 
 /// Items, steps and error handlers that have no key, or more than one.
 pub const NOT_ONE_KEY: &str = r#"[{}] => $[0] NotOneKey
@@ -130,8 +139,17 @@ pub const MISSING_KEYS: &str = r#"[{"route":{"id":"r","steps":[]}}] => $[0].rout
 [{"errorHandler":{"dead-letter-channel":{"redelivery-policy":{}}}}] => $[0].errorHandler.dead-letter-channel MissingKey deadLetterUri
 [{"route":{"from":{"parameters":{}}}}] => $[0].route.from MissingKey uri
 [{"from":{"uri":"stream:in","steps":[{"choice":{"when":[{"ref":"empty","steps":[]},{"steps":[]}]}}]}}] => $[0].from.steps[0].choice.when[1] MissingKey expression
+[{"from":{"uri":"stream:in","steps":[{"doTry":{}}]}}] => $[0].from.steps[0].doTry MissingKey steps
+[{"from":{"uri":"stream:in","steps":[{"doTry":{"steps":[],"doFinally":{}}}]}}] => $[0].from.steps[0].doTry.doFinally MissingKey steps
+[{"from":{"uri":"stream:in","steps":[{"doTry":{"steps":[],"doCatch":[{"steps":[]}]}}]}}] => $[0].from.steps[0].doTry.doCatch[0] MissingKey exception
+[{"from":{"uri":"stream:in","steps":[{"doTry":{"steps":[],"doCatch":[{"exception":"E"}]}}]}}] => $[0].from.steps[0].doTry.doCatch[0] MissingKey steps
+[{"from":{"uri":"stream:in","steps":[{"doTry":{"steps":[],"doCatch":[{"exception":"E","steps":[],"onWhen":{}}]}}]}}] => $[0].from.steps[0].doTry.doCatch[0].onWhen MissingKey expression
 [{"onException":{"exception":"E","continued":{}}}] => $[0].onException.continued MissingKey constant
-[{"from":{"uri":"stream:in","steps":[{"multicast":{"steps":[{"log":{}}]}}]}}] => $[0].from.steps[0].multicast.steps[0].log MissingKey message"#;
+[{"from":{"uri":"stream:in","steps":[{"multicast":{"steps":[{"log":{}}]}}]}}] => $[0].from.steps[0].multicast.steps[0].log MissingKey message
+[{"from":{"uri":"stream:in","steps":[{"resequence":{}}]}}] => $[0].from.steps[0].resequence MissingKey expression
+[{"from":{"uri":"stream:in","steps":[{"resequence":{"steps":[],"batchConfig":{}}}]}}] => $[0].from.steps[0].resequence MissingKey expression
+[{"from":{"uri":"stream:in","steps":[{"resequence":{"simple":"${body}"}}]}}] => $[0].from.steps[0].resequence MissingKey steps
+[{"from":{"uri":"stream:in","steps":[{"resequence":{"simple":{},"steps":[]}}]}}] => $[0].from.steps[0].resequence.simple MissingKey expression"#;
 
 /// Objects with a key in both its spellings.
 pub const DOUBLED_KEYS: &str =
@@ -156,6 +174,9 @@ pub const DOUBLED_KEYS: &str =
 [{"from":{"uri":"stream:in","steps":[{"multicast":{"steps":[{"to":"log:a"}],"aggregationStrategy":"latest","aggregation-strategy":"latest"}}]}}] => $[0].from.steps[0].multicast DoubleKey aggregationStrategy
 [{"from":{"uri":"stream:in","steps":[{"multicast":{"steps":[{"to":"log:a"}],"parallelProcessing":true,"parallel-processing":true}}]}}] => $[0].from.steps[0].multicast DoubleKey parallelProcessing
 [{"from":{"uri":"stream:in","steps":[{"multicast":{"steps":[{"to":"log:a"}],"stopOnException":true,"stop-on-exception":true}}]}}] => $[0].from.steps[0].multicast DoubleKey stopOnException
+[{"from":{"uri":"stream:in","steps":[{"split":{"tokenize":",","steps":[],"shareUnitOfWork":true,"share-unit-of-work":true}}]}}] => $[0].from.steps[0].split DoubleKey shareUnitOfWork
+[{"from":{"uri":"stream:in","steps":[{"multicast":{"steps":[{"to":"log:a"}],"shareUnitOfWork":true,"share-unit-of-work":true}}]}}] => $[0].from.steps[0].multicast DoubleKey shareUnitOfWork
+[{"from":{"uri":"stream:in","steps":[{"recipientList":{"header":"to","shareUnitOfWork":true,"share-unit-of-work":true}}]}}] => $[0].from.steps[0].recipientList DoubleKey shareUnitOfWork
 [{"from":{"uri":"stream:in","steps":[{"recipientList":{"exchangeProperty":"p","exchange-property":"p"}}]}}] => $[0].from.steps[0].recipientList DoubleKey exchangeProperty
 [{"from":{"uri":"stream:in","steps":[{"recipientList":{"header":"to","aggregationStrategy":"latest","aggregation-strategy":"latest"}}]}}] => $[0].from.steps[0].recipientList DoubleKey aggregationStrategy
 [{"from":{"uri":"stream:in","steps":[{"recipientList":{"header":"to","parallelProcessing":true,"parallel-processing":true}}]}}] => $[0].from.steps[0].recipientList DoubleKey parallelProcessing
@@ -170,8 +191,15 @@ pub const DOUBLED_KEYS: &str =
 [{"from":{"uri":"stream:in","steps":[{"idempotentConsumer":{"steps":[],"exchangeProperty":"p","exchange-property":"p"}}]}}] => $[0].from.steps[0].idempotentConsumer DoubleKey exchangeProperty
 [{"from":{"uri":"stream:in","steps":[{"idempotentConsumer":{"header":"h","steps":[],"idempotentRepository":"r","idempotent-repository":"r"}}]}}] => $[0].from.steps[0].idempotentConsumer DoubleKey idempotentRepository
 [{"from":{"uri":"stream:in","steps":[{"idempotentConsumer":{"header":"h","steps":[],"skipDuplicate":false,"skip-duplicate":false}}]}}] => $[0].from.steps[0].idempotentConsumer DoubleKey skipDuplicate
+[{"from":{"uri":"stream:in","steps":[{"doTry":{"steps":[],"doCatch":[],"do-catch":[]}}]}}] => $[0].from.steps[0].doTry DoubleKey doCatch
+[{"from":{"uri":"stream:in","steps":[{"doTry":{"steps":[],"doFinally":{"steps":[]},"do-finally":{"steps":[]}}}]}}] => $[0].from.steps[0].doTry DoubleKey doFinally
+[{"from":{"uri":"stream:in","steps":[{"doTry":{"steps":[],"doCatch":[{"exception":"E","steps":[],"onWhen":{"ref":"empty"},"on-when":{"ref":"empty"}}]}}]}}] => $[0].from.steps[0].doTry.doCatch[0] DoubleKey onWhen
 [{"from":{"uri":"stream:in","steps":[{"idempotentConsumer":{"header":"h","steps":[],"removeOnFailure":true,"remove-on-failure":true}}]}}] => $[0].from.steps[0].idempotentConsumer DoubleKey removeOnFailure
-[{"from":{"uri":"stream:in","steps":[{"setBody":{"expression":{"exchangeProperty":"p","exchange-property":"p"}}}]}}] => $[0].from.steps[0].setBody.expression DoubleKey exchangeProperty"#;
+[{"from":{"uri":"stream:in","steps":[{"setBody":{"expression":{"exchangeProperty":"p","exchange-property":"p"}}}]}}] => $[0].from.steps[0].setBody.expression DoubleKey exchangeProperty
+[{"from":{"uri":"stream:in","steps":[{"resequence":{"header":"h","steps":[],"batchConfig":{},"batch-config":{}}}]}}] => $[0].from.steps[0].resequence DoubleKey batchConfig
+[{"from":{"uri":"stream:in","steps":[{"resequence":{"header":"h","steps":[],"batchConfig":{"batchSize":1,"batch-size":1}}}]}}] => $[0].from.steps[0].resequence.batchConfig DoubleKey batchSize
+[{"from":{"uri":"stream:in","steps":[{"resequence":{"header":"h","steps":[],"batchConfig":{"batchTimeout":1,"batch-timeout":1}}}]}}] => $[0].from.steps[0].resequence.batchConfig DoubleKey batchTimeout
+[{"from":{"uri":"stream:in","steps":[{"resequence":{"exchangeProperty":"p","exchange-property":"p","steps":[]}}]}}] => $[0].from.steps[0].resequence DoubleKey exchangeProperty"#;
 
 /// Objects with two keys of which one may stand there.
 pub const SECOND_KEYS: &str =
@@ -195,5 +223,8 @@ pub const SECOND_KEYS: &str =
 [{"from":{"uri":"stream:in","steps":[{"setBody":{"simple":"x","constant":"x"}}]}}] => $[0].from.steps[0].setBody DoubleKey simple
 [{"from":{"uri":"stream:in","steps":[{"setBody":{"header":"h","exchange-property":"p"}}]}}] => $[0].from.steps[0].setBody DoubleKey header
 [{"from":{"uri":"stream:in","steps":[{"setBody":{"exchange-property":"p","constant":"x"}}]}}] => $[0].from.steps[0].setBody DoubleKey exchangeProperty
+[{"from":{"uri":"stream:in","steps":[{"doTry":{"steps":[],"doCatch":[{"exception":"E","steps":[],"onWhen":{"simple":"${body}","ref":"empty"}}]}}]}}] => $[0].from.steps[0].doTry.doCatch[0].onWhen DoubleKey simple
 [{"from":{"uri":"stream:in","steps":[{"filter":{"simple":"x","ref":"empty","steps":[]}}]}}] => $[0].from.steps[0].filter DoubleKey simple
-[{"from":{"uri":"stream:in","steps":[{"setBody":{"simple":"x","constant":"x","header":"h"}}]}}] => $[0].from.steps[0].setBody DoubleKey header"#;
+[{"from":{"uri":"stream:in","steps":[{"setBody":{"simple":"x","constant":"x","header":"h"}}]}}] => $[0].from.steps[0].setBody DoubleKey header
+[{"from":{"uri":"stream:in","steps":[{"resequence":{"simple":"${body}","header":"h","steps":[]}}]}}] => $[0].from.steps[0].resequence DoubleKey simple
+[{"from":{"uri":"stream:in","steps":[{"resequence":{"header":"h","exchangeProperty":"p","steps":[]}}]}}] => $[0].from.steps[0].resequence DoubleKey header"#;

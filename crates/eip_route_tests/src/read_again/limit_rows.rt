@@ -47,7 +47,10 @@ pub const LIMITS: &str = r#"[]<1048575* > => $ TooLong
 [{"from":{"uri":"stream:in","steps":[<14*{"filter":{"constant":true,"steps":[>{"multicast":{"steps":[{"multicast":{"steps":[{"to":"log:a"}]}}]}}<14*]}}>]}}] => $[0].from<14*.steps[0].filter>.steps[0].multicast.steps[0].multicast.steps TooNested
 [{"from":{"uri":"stream:in","steps":[<14*{"filter":{"constant":true,"steps":[>{"filter":{"constant":true,"steps":[{"split":{"jsonpath":"$[*]","steps":[]}}]}}<14*]}}>]}}] => $[0].from<14*.steps[0].filter>.steps[0].filter.steps[0].split.steps TooNested
 [{"from":{"uri":"stream:in","steps":[<14*{"filter":{"constant":true,"steps":[>{"choice":{"when":[{"constant":true,"steps":[]},{"constant":true,"steps":[{"filter":{"constant":true,"steps":[]}}]}]}}<14*]}}>]}}] => $[0].from<14*.steps[0].filter>.steps[0].choice.when[1].steps[0].filter.steps TooNested
-[{"from":{"uri":"stream:in","steps":[<14*{"filter":{"constant":true,"steps":[>{"aggregate":{"correlationExpression":{"header":"h"},"completionSize":2,"steps":[{"shout":1}]}}<14*]}}>]}}] => $[0].from<14*.steps[0].filter>.steps[0].aggregate.steps[0] UnknownStep shout"#;
+[{"from":{"uri":"stream:in","steps":[<14*{"filter":{"constant":true,"steps":[>{"aggregate":{"correlationExpression":{"header":"h"},"completionSize":2,"steps":[{"shout":1}]}}<14*]}}>]}}] => $[0].from<14*.steps[0].filter>.steps[0].aggregate.steps[0] UnknownStep shout
+[{"from":{"uri":"stream:in","steps":[<14*{"filter":{"constant":true,"steps":[>{"resequence":{"header":"h","steps":[]}}<14*]}}>]}}] => $[0].from<14*.steps[0].filter>.steps[0].resequence.steps TooNested
+[{"from":{"uri":"stream:in","steps":[<13*{"filter":{"constant":true,"steps":[>{"resequence":{"header":"h","steps":[{"filter":{"constant":true,"steps":[]}}]}}<13*]}}>]}}] => $[0].from<13*.steps[0].filter>.steps[0].resequence.steps[0].filter.steps TooNested
+[{"from":{"uri":"stream:in","steps":[<14*{"filter":{"constant":true,"steps":[>{"resequence":{"header":"","steps":[]}}<14*]}}>]}}] => $[0].from<14*.steps[0].filter>.steps[0].resequence.header BadName"#;
 
 /// Files within the limits with their canonical text.
 pub const WITHIN: &str = r#"[]<1048574* > => []
@@ -58,7 +61,8 @@ pub const WITHIN: &str = r#"[]<1048574* > => []
 [{"from":{"uri":"stream:in","steps":[<15*{"filter":{"constant":true,"steps":[>{"to":"log:a"}<15*]}}>]}}] => [{"route":{"from":{"steps":[<15*{"filter":{"constant":true,"steps":[>{"to":"log:a"}<15*]}}>],"uri":"stream:in"},"id":"route1"}}]
 [{"from":{"uri":"stream:in","steps":[<15*{"filter":{"constant":true,"steps":[>{"recipientList":{"header":"h"}}<15*]}}>]}}] => [{"route":{"from":{"steps":[<15*{"filter":{"constant":true,"steps":[>{"recipientList":{"header":"h"}}<15*]}}>],"uri":"stream:in"},"id":"route1"}}]
 [{"from":{"uri":"stream:in","steps":[<14*{"filter":{"constant":true,"steps":[>{"multicast":{"steps":[{"to":"log:a"},{"log":"m"}]}}<14*]}}>]}}] => [{"route":{"from":{"steps":[<14*{"filter":{"constant":true,"steps":[>{"multicast":{"steps":[{"to":"log:a"},{"log":"m"}]}}<14*]}}>],"uri":"stream:in"},"id":"route1"}}]
-[{"from":{"uri":"stream:in","steps":[<14*{"filter":{"constant":true,"steps":[>{"choice":{"otherwise":{"steps":[]},"when":[{"constant":true,"steps":[]}]}}<14*]}}>]}}] => [{"route":{"from":{"steps":[<14*{"filter":{"constant":true,"steps":[>{"choice":{"otherwise":{"steps":[]},"when":[{"constant":true,"steps":[]}]}}<14*]}}>],"uri":"stream:in"},"id":"route1"}}]"#;
+[{"from":{"uri":"stream:in","steps":[<14*{"filter":{"constant":true,"steps":[>{"choice":{"otherwise":{"steps":[]},"when":[{"constant":true,"steps":[]}]}}<14*]}}>]}}] => [{"route":{"from":{"steps":[<14*{"filter":{"constant":true,"steps":[>{"choice":{"otherwise":{"steps":[]},"when":[{"constant":true,"steps":[]}]}}<14*]}}>],"uri":"stream:in"},"id":"route1"}}]
+[{"from":{"uri":"stream:in","steps":[<13*{"filter":{"constant":true,"steps":[>{"resequence":{"header":"h","steps":[{"log":"a"}]}}<13*]}}>]}}] => [{"route":{"from":{"steps":[<13*{"filter":{"constant":true,"steps":[>{"resequence":{"header":"h","steps":[{"log":"a"}]}}<13*]}}>],"uri":"stream:in"},"id":"route1"}}]"#;
 
 /// Files whose canonical text, with its line feed, fills a route file but for a few bytes: a multicast of 95,316 branches,
 /// a choice of 38,832 cases, 27,592 filters.

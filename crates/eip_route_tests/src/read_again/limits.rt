@@ -57,14 +57,16 @@ fn wrong(alloc: Global, rows: &str, kept: bool) -> Result<&str, NoMemory> {
 fn bytes_keys_numbers_routes_and_blocks_have_their_limits(rt: HostRuntime) -> Result<(), Fail> {
     let tables = [(LIMITS, false), (WITHIN, true)];
     for (rows, kept) in tables {
-        assert_eq!(rt; wrong(rt.alloc(), rows, kept)?, "");
+        let row = wrong(rt.alloc(), rows, kept)?;
+        assert!(rt; row.is_empty(), "of {row}");
     }
     Ok(())
 }
 
 #[test]
 fn files_with_as_many_blocks_as_fit_are_read_and_printed(rt: HostRuntime) -> Result<(), Fail> {
-    assert_eq!(rt; wrong(rt.alloc(), LARGE, true)?, "");
+    let row = wrong(rt.alloc(), LARGE, true)?;
+    assert!(rt; row.is_empty(), "of {row}");
     Ok(())
 }
 

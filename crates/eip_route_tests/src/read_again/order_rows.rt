@@ -57,6 +57,9 @@ pub const SEVERAL_FAULTS: &str =
 [{"from":{"uri":"stream:in","steps":[{"multicast":{"stopOnException":1,"steps":[1],"stop-on-exception":1}}]}}] => $[0].from.steps[0].multicast DoubleKey stopOnException
 [{"from":{"uri":"stream:in","steps":[{"multicast":{"stopOnException":1,"steps":[1]}}]}}] => $[0].from.steps[0].multicast.steps[0] WrongKind
 [{"from":{"uri":"stream:in","steps":[{"recipientList":{"simple":"${","delimiter":""}}]}}] => $[0].from.steps[0].recipientList.delimiter BadValue
+[{"from":{"uri":"stream:in","steps":[{"doTry":{"steps":[1],"doFinally":1,"doCatch":[1]}}]}}] => $[0].from.steps[0].doTry.doCatch[0] WrongKind
+[{"from":{"uri":"stream:in","steps":[{"doTry":{"steps":[1],"doFinally":1}}]}}] => $[0].from.steps[0].doTry.doFinally WrongKind
+[{"from":{"uri":"stream:in","steps":[{"doTry":{"steps":[],"doCatch":[{"exception":"E","steps":[1],"onWhen":1}]}}]}}] => $[0].from.steps[0].doTry.doCatch[0].onWhen WrongKind
 [{"from":{"uri":"stream:in","steps":[{"recipientList":{"simple":"${","stopOnException":1}}]}}] => $[0].from.steps[0].recipientList.simple BadSimple 0
 [{"errorHandler":{"id":1,"deadLetterChannel":{}}}] => $[0].errorHandler.deadLetterChannel MissingKey deadLetterUri
 [{"errorHandler":{"id":1,"defaultErrorHandler":{},"description":"d"}}] => $[0].errorHandler.id WrongKind
@@ -80,7 +83,11 @@ pub const SEVERAL_FAULTS: &str =
 [{"from":{"uri":"direct:a"}},{"from":{"uri":"direct:a"}},{"onException":{"exception":1}}] => $[2].onException.exception WrongKind
 [{"from":{"uri":"direct:a"}},{"from":{"uri":"direct:a"}},{"errorHandler":{"defaultErrorHandler":{}}},{"error-handler":{"defaultErrorHandler":{}}}] => $[3] DoubleErrorHandler
 [{"route":{"id":"r","from":{"uri":"direct:a"}}},{"route":{"id":"r","from":{"uri":"direct:a"}}}] => $[1].route DoubleRouteId
-[{"route":{"id":"r","from":{"uri":"direct:a"}}},{"from":{"uri":"direct:a"}},{"route":{"id":"r","from":{"uri":"direct:b"}}}] => $[1].from.uri SecondConsumer"#;
+[{"route":{"id":"r","from":{"uri":"direct:a"}}},{"from":{"uri":"direct:a"}},{"route":{"id":"r","from":{"uri":"direct:b"}}}] => $[1].from.uri SecondConsumer
+[{"from":{"uri":"stream:in","steps":[{"resequence":{"steps":[1],"simple":1,"batchConfig":1}}]}}] => $[0].from.steps[0].resequence.batchConfig WrongKind
+[{"from":{"uri":"stream:in","steps":[{"resequence":{"steps":[1],"simple":1,"batchConfig":{"batchTimeout":0,"batchSize":0}}}]}}] => $[0].from.steps[0].resequence.batchConfig.batchSize BadValue
+[{"from":{"uri":"stream:in","steps":[{"resequence":{"steps":[1],"simple":"x"}}]}}] => $[0].from.steps[0].resequence.simple BadValue
+[{"from":{"uri":"stream:in","steps":[{"resequence":{"steps":[1],"batchConfig":1}}]}}] => $[0].from.steps[0].resequence MissingKey expression"#;
 
 /// Items that do not go together.
 pub const LATER_FAULTS: &str =

@@ -68,10 +68,12 @@ pub const BAD_VALUES: &str =
 [{"onException":{"exception":"E","handled":{"constant":"TRUE"}}}] => $[0].onException.handled.constant BadValue
 [{"onException":{"exception":"E","handled":"null"}}] => $[0].onException.handled BadValue
 [{"onException":{"exception":"E","continued":"falsch"}}] => $[0].onException.continued BadValue
-[{"from":{"uri":"stream:in","steps":[{"idempotentConsumer":{"header":"h","steps":[],"eager":false}}]}}] => $[0].from.steps[0].idempotentConsumer.eager BadValue
-[{"from":{"uri":"stream:in","steps":[{"idempotentConsumer":{"header":"h","steps":[],"eager":"false"}}]}}] => $[0].from.steps[0].idempotentConsumer.eager BadValue
+[{"from":{"uri":"stream:in","steps":[{"split":{"tokenize":",","steps":[],"shareUnitOfWork":"True"}}]}}] => $[0].from.steps[0].split.shareUnitOfWork BadValue
+[{"from":{"uri":"stream:in","steps":[{"multicast":{"steps":[{"to":"log:a"}],"shareUnitOfWork":"yes"}}]}}] => $[0].from.steps[0].multicast.shareUnitOfWork BadValue
+[{"from":{"uri":"stream:in","steps":[{"doTry":{"steps":[],"doCatch":[{"exception":[],"steps":[]}]}}]}}] => $[0].from.steps[0].doTry.doCatch[0].exception BadValue
+[{"from":{"uri":"stream:in","steps":[{"doTry":{"steps":[],"doCatch":[{"exception":"E","steps":[],"onWhen":{"constant":"yes"}}]}}]}}] => $[0].from.steps[0].doTry.doCatch[0].onWhen.constant BadValue
+[{"from":{"uri":"stream:in","steps":[{"recipientList":{"header":"to","shareUnitOfWork":""}}]}}] => $[0].from.steps[0].recipientList.shareUnitOfWork BadValue
 [{"from":{"uri":"stream:in","steps":[{"idempotentConsumer":{"header":"h","steps":[],"eager":"True"}}]}}] => $[0].from.steps[0].idempotentConsumer.eager BadValue
-[{"from":{"uri":"stream:in","steps":[{"idempotentConsumer":{"header":"h","steps":[],"removeOnFailure":false}}]}}] => $[0].from.steps[0].idempotentConsumer.removeOnFailure BadValue
 [{"from":{"uri":"stream:in","steps":[{"idempotentConsumer":{"header":"h","steps":[],"removeOnFailure":""}}]}}] => $[0].from.steps[0].idempotentConsumer.removeOnFailure BadValue
 [{"onException":{"exception":"E","redeliveryPolicy":{"maximumRedeliveries":-1}}}] => $[0].onException.redeliveryPolicy.maximumRedeliveries BadValue
 [{"onException":{"exception":"E","redeliveryPolicy":{"maximumRedeliveries":"1001"}}}] => $[0].onException.redeliveryPolicy.maximumRedeliveries BadValue
@@ -126,7 +128,25 @@ pub const BAD_VALUES: &str =
 [{"from":{"uri":"stream:in","steps":[{"log":{"message":"m","loggingLevel":"FATAL"}}]}}] => $[0].from.steps[0].log.loggingLevel BadValue
 [{"onException":{"exception":[]}}] => $[0].onException.exception BadValue
 [{"from":{"uri":"stream:in","steps":[{"choice":{"when":[]}}]}}] => $[0].from.steps[0].choice.when BadValue
-[{"from":{"uri":"stream:in","steps":[{"multicast":{"steps":[]}}]}}] => $[0].from.steps[0].multicast.steps BadValue"###;
+[{"from":{"uri":"stream:in","steps":[{"multicast":{"steps":[]}}]}}] => $[0].from.steps[0].multicast.steps BadValue
+[{"from":{"uri":"stream:in","steps":[{"resequence":{"simple":"","steps":[]}}]}}] => $[0].from.steps[0].resequence.simple BadValue
+[{"from":{"uri":"stream:in","steps":[{"resequence":{"simple":"body","steps":[]}}]}}] => $[0].from.steps[0].resequence.simple BadValue
+[{"from":{"uri":"stream:in","steps":[{"resequence":{"simple":"${exchangeId}","steps":[]}}]}}] => $[0].from.steps[0].resequence.simple BadValue
+[{"from":{"uri":"stream:in","steps":[{"resequence":{"simple":"${routeId}","steps":[]}}]}}] => $[0].from.steps[0].resequence.simple BadValue
+[{"from":{"uri":"stream:in","steps":[{"resequence":{"simple":"${exception.message}","steps":[]}}]}}] => $[0].from.steps[0].resequence.simple BadValue
+[{"from":{"uri":"stream:in","steps":[{"resequence":{"simple":"${body} ","steps":[]}}]}}] => $[0].from.steps[0].resequence.simple BadValue
+[{"from":{"uri":"stream:in","steps":[{"resequence":{"simple":" ${header.h}","steps":[]}}]}}] => $[0].from.steps[0].resequence.simple BadValue
+[{"from":{"uri":"stream:in","steps":[{"resequence":{"simple":"${body}${header.h}","steps":[]}}]}}] => $[0].from.steps[0].resequence.simple BadValue
+[{"from":{"uri":"stream:in","steps":[{"resequence":{"simple":{"expression":"x"},"steps":[]}}]}}] => $[0].from.steps[0].resequence.simple.expression BadValue
+[{"from":{"uri":"stream:in","steps":[{"resequence":{"header":"a b","steps":[]}}]}}] => $[0].from.steps[0].resequence.header BadName
+[{"from":{"uri":"stream:in","steps":[{"resequence":{"exchangeProperty":"","steps":[]}}]}}] => $[0].from.steps[0].resequence.exchangeProperty BadName
+[{"from":{"uri":"stream:in","steps":[{"resequence":{"header":"h","steps":[],"batchConfig":{"batchSize":0}}}]}}] => $[0].from.steps[0].resequence.batchConfig.batchSize BadValue
+[{"from":{"uri":"stream:in","steps":[{"resequence":{"header":"h","steps":[],"batchConfig":{"batchSize":1001}}}]}}] => $[0].from.steps[0].resequence.batchConfig.batchSize BadValue
+[{"from":{"uri":"stream:in","steps":[{"resequence":{"header":"h","steps":[],"batchConfig":{"batchSize":"1001"}}}]}}] => $[0].from.steps[0].resequence.batchConfig.batchSize BadValue
+[{"from":{"uri":"stream:in","steps":[{"resequence":{"header":"h","steps":[],"batchConfig":{"batchSize":-1}}}]}}] => $[0].from.steps[0].resequence.batchConfig.batchSize BadValue
+[{"from":{"uri":"stream:in","steps":[{"resequence":{"header":"h","steps":[],"batchConfig":{"batchSize":"x"}}}]}}] => $[0].from.steps[0].resequence.batchConfig.batchSize BadValue
+[{"from":{"uri":"stream:in","steps":[{"resequence":{"header":"h","steps":[],"batchConfig":{"batchTimeout":0}}}]}}] => $[0].from.steps[0].resequence.batchConfig.batchTimeout BadValue
+[{"from":{"uri":"stream:in","steps":[{"resequence":{"header":"h","steps":[],"batchConfig":{"batchTimeout":1000000001}}}]}}] => $[0].from.steps[0].resequence.batchConfig.batchTimeout BadValue"###;
 
 /// Templates and predicates that cannot be read.
 pub const BAD_SIMPLE: &str =
@@ -246,7 +266,10 @@ pub const BAD_SIMPLE: &str =
 [{"from":{"uri":"stream:in","steps":[{"aggregate":{"correlationExpression":{"header":"h"},"completionPredicate":{"simple":"${body"},"steps":[]}}]}}] => $[0].from.steps[0].aggregate.completionPredicate.simple BadSimple 0
 [{"from":{"uri":"stream:in","steps":[{"aggregate":{"correlationExpression":{"header":"h"},"completionPredicate":{"simple":{"expression":"${body} =="}},"steps":[]}}]}}] => $[0].from.steps[0].aggregate.completionPredicate.simple.expression BadSimple 10
 [{"from":{"uri":"stream:in","steps":[{"aggregate":{"correlationExpression":{"header":"h"},"completionPredicate":{"simple":{"expression":"5x"}},"steps":[]}}]}}] => $[0].from.steps[0].aggregate.completionPredicate.simple.expression BadSimple 1
-[{"from":{"uri":"stream:in","steps":[{"aggregate":{"correlationExpression":{"header":"h"},"completionPredicate":{"simple":{"expression":"-"}},"steps":[]}}]}}] => $[0].from.steps[0].aggregate.completionPredicate.simple.expression BadSimple 0"#;
+[{"from":{"uri":"stream:in","steps":[{"aggregate":{"correlationExpression":{"header":"h"},"completionPredicate":{"simple":{"expression":"-"}},"steps":[]}}]}}] => $[0].from.steps[0].aggregate.completionPredicate.simple.expression BadSimple 0
+[{"from":{"uri":"stream:in","steps":[{"resequence":{"simple":"a${body","steps":[]}}]}}] => $[0].from.steps[0].resequence.simple BadSimple 1
+[{"from":{"uri":"stream:in","steps":[{"resequence":{"simple":"${boddy}","steps":[]}}]}}] => $[0].from.steps[0].resequence.simple UnknownFunction 0
+[{"from":{"uri":"stream:in","steps":[{"resequence":{"simple":{"expression":"${header.}"},"steps":[]}}]}}] => $[0].from.steps[0].resequence.simple.expression UnknownFunction 0"#;
 
 /// Files of which the first pattern is refused for its size.
 pub const FIRST_PATTERN_REFUSED: &str =

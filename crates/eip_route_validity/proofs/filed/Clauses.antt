@@ -1,36 +1,26 @@
 -- Clauses in which nothing is wrong fit.
-use Rattle.std.proofs.Common.{ℕ, suc, ◌≡◌, true, ◌&&◌, List, length, None, refl, arith, le-leb}
-use Rattle.eip_text.specs.Json.{Json, null, flag, whole, float, word, list, object, no_items, item, Members}
+use Rattle.std.proofs.Common.{◌≡◌, true, ◌&&◌, Option, Some, None}
+use Rattle.eip_text.specs.Json.{Json, Members}
 use Rattle.eip_route.specs.Nest.{NestedSteps, none, more}
 use Rattle.eip_route.specs.Valid as valid
 use Rattle.eip_route.specs.declared.route.Names.{Names}
-use Rattle.eip_route_grammar.specs.Table.{list_of}
 use Rattle.eip_route_grammar.specs.Objects.{value_at, parameters_of, outcome}
 use Rattle.eip_route_grammar.specs.declared.fault.Cause.TheVariants as cause
 use Rattle.eip_route_grammar.specs.declared.keys.Key.TheVariants as key
 use Rattle.eip_route_grammar.specs.declared.table.Kind.TheVariants as kind
 use Rattle.eip_route_grammar.specs.declared.table.Row.TheVariants as row
-use Rattle.eip_route_values.specs.Leaves.{texts_of, exceptions_of, exceptions_given}
+use Rattle.eip_route_values.specs.Leaves.{exceptions_given}
 use Rattle.eip_route_values.specs.Nesting.{nest_list}
 use Rattle.eip_route_values.specs.Sets as sets
 use Rattle.eip_route_values.specs.Sets.{where_filled, clause_in}
-use Rattle.eip_route_validity.specs.Fit.{BlockFits, LastFits, LastHasSteps, ClauseFits}
-use Rattle.eip_route_validity.proofs.fitting.Faultless.{IsFaultless, fits, ObjectFits}
+use Rattle.eip_route_validity.specs.Fit.{AreBatched, BlockFits, LastBatched, LastFits, LastHasSteps, ClauseFits}
+use Rattle.eip_route_validity.proofs.fitting.Faultless.{ObjectFits}
 use Rattle.eip_route_validity.proofs.fitting.Keyed.{fresh_by, with_must, with_may}
+use Rattle.eip_route_validity.proofs.fitting.Leaves.{exceptions_filled}
 use Rattle.eip_route_validity.proofs.fitting.Parts.{policy_fits}
 use Rattle.eip_route_validity.proofs.fitting.Steps.{steps_fit}
+use Rattle.eip_route_validity.proofs.fitting.Batched.{list_batched}
 use Rattle.eip_route_validity.proofs.filed.Tables.{clause_exceptions, clause_policy, clause_steps}
-
-exceptions_filled : (n : Names) (d : ℕ) (ps : List (List ℕ × List ℕ)) (t : Json) → IsFaultless n d ps kind.Exceptions t → valid.is_filled (exceptions_of t) ≡ true
-unfolding list_of
-exceptions_filled n d ps (list no_items) e = absurd (let h = (fits n d ps kind.Exceptions (list no_items) e).0 in cc)
-exceptions_filled n d ps (list (item t ts)) e = le-leb 1 (suc (length (texts_of ts))) (omega arith)
-exceptions_filled n d ps null e = refl
-exceptions_filled n d ps (flag b) e = refl
-exceptions_filled n d ps (whole z) e = refl
-exceptions_filled n d ps float e = refl
-exceptions_filled n d ps (word w) e = refl
-exceptions_filled n d ps (object ms) e = refl
 
 -- an empty list counts as absent
 filled_fits : (n : Names) (ss : NestedSteps) → BlockFits n 0 ss → LastHasSteps (where_filled ss) × LastFits n 0 (where_filled ss)
@@ -42,6 +32,14 @@ clause_steps_fit n ms o =
     with_may (λ x. LastHasSteps (sets.clause_steps x) × LastFits n 0 (sets.clause_steps x)) n 0 kind.OnException (row.May key.Steps kind.Steps) ms clause_steps o (tt, tt)
     (λ t e. filled_fits n (nest_list t) (steps_fit n 0 (parameters_of ms) t e))
 
+filled_batched : (ss : NestedSteps) → AreBatched ss → LastBatched (where_filled ss)
+filled_batched none b = tt
+filled_batched (more s ss) b = b
+
+clause_batched : (o : Option Json) → LastBatched (sets.clause_steps o)
+clause_batched None = tt
+clause_batched (Some t) = filled_batched (nest_list t) (list_batched t)
+
 pub clause_fits : (n : Names) (ms : Members) → ObjectFits n 0 kind.OnException ms → ClauseFits n (clause_in ms)
 clause_fits n ms o =
     let s = clause_steps_fit n ms o in
@@ -51,4 +49,5 @@ clause_fits n ms o =
       one = (fresh_by (outcome (value_at key.Handled ms) && outcome (value_at key.Continued ms)) cause.BothHandledAndContinued None o.whole).0;
       filled = s.0;
       steps = s.1;
+      batched = clause_batched (value_at key.Steps ms);
     }

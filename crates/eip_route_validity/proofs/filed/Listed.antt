@@ -50,7 +50,7 @@ routes_counted n (item t ts) left k a c =
 routes_with : (n : Names) (e : Part) (k : ℕ) (ts : Items) → PartFits n e → ((j : ℕ) → j + length (routes_of j ts) ≤ 257 → All (RouteFits n) (routes_of j ts))
     → k + length (Before k ts (route_in k e)) ≤ 257 → All (RouteFits n) (Before k ts (route_in k e))
 routes_with n (a_route r h) k ts f later c =
-    All-cons (RouteFits n) (r k) (routes_of (k + 1) ts) (record { id = f.id k (omega arith); from = f.from k; steps = f.steps k }) (later (k + 1) (omega arith))
+    All-cons (RouteFits n) (r k) (routes_of (k + 1) ts) (record { id = f.id k (omega arith); from = f.from k; steps = f.steps k; batched = f.batched k }) (later (k + 1) (omega arith))
 routes_with n (a_handler h) k ts f later c = later k c
 routes_with n (a_clause c) k ts f later d = later k d
 

@@ -10,7 +10,7 @@ use Rattle.eip_route_file.specs.Later.{is_route, head_at}
 use Rattle.eip_route_file.specs.declared.head.Head.{Head}
 use Rattle.eip_route_values.specs.Leaves.{members_in}
 use Rattle.eip_route_values.specs.Sets.{with_clause, handler_or, route_given}
-use Rattle.eip_route_validity.specs.Fit.{SourceFits, BlockFits, ClauseFits, HandlerFits}
+use Rattle.eip_route_validity.specs.Fit.{SourceFits, AreBatched, BlockFits, ClauseFits, HandlerFits}
 
 -- a route by its position, with what is compared of it by its item's index and its position
 pub data Part : Type 0 where
@@ -60,6 +60,7 @@ pub record RouteSaid (n : Names) (r : ℕ → NestedRoute) (h : ℕ → ℕ → 
   pub id : (k : ℕ) → k ≤ 256 → is_name (r k).id ≡ true
   pub from : (k : ℕ) → SourceFits n (r k).from
   pub steps : (k : ℕ) → BlockFits n 0 (r k).steps
+  pub batched : (k : ℕ) → AreBatched (r k).steps
   pub head : (i k : ℕ) → IsHead (h i k) (r k)
 
 abbrev pub PartFits : Names → Part → Type 0

@@ -1,6 +1,7 @@
 -- Routes in which nothing is wrong fit.
 use Rattle.std.proofs.Common.{ℕ, ◌≡◌, ◌≤◌, true, List, Option, Some, None, refl, ap, arith}
 use Rattle.eip_text.specs.Json.{Json, object, Members}
+use Rattle.eip_route_validity.proofs.fitting.Batched.{list_batched}
 use Rattle.eip_text.specs.Names.{is_name}
 use Rattle.eip_uri.specs.Reading.{read}
 use Rattle.eip_route.specs.Nest.{none}
@@ -16,7 +17,7 @@ use Rattle.eip_route_file.specs.Later.{uri_of, uri_at, uri_in, id_at, route_head
 use Rattle.eip_route_values.specs.Leaves.{members_given, members_at, text_of, text_given}
 use Rattle.eip_route_values.specs.Parts.{endpoint, endpoint_in}
 use Rattle.eip_route_values.specs.Sets.{id_given, steps_given, steps_or, begins_at, inner_steps, whole_route, from_route}
-use Rattle.eip_route_validity.specs.Fit.{SourceFits, BlockFits}
+use Rattle.eip_route_validity.specs.Fit.{SourceFits, AreBatched, BlockFits}
 use Rattle.eip_route_validity.proofs.fitting.Faultless.{ObjectFits}
 use Rattle.eip_route_validity.proofs.fitting.Keyed.{with_must, with_may}
 use Rattle.eip_route_validity.proofs.fitting.Values.{with_text, with_object}
@@ -49,11 +50,20 @@ from_steps_fit : (n : Names) (ms : Members) → ObjectFits n 0 kind.From ms → 
 from_steps_fit n ms o =
     with_may (λ x. BlockFits n 0 (steps_given x)) n 0 kind.From (row.May key.Steps kind.Steps) ms from_steps o (no_steps_fit n) (λ t e. steps_fit n 0 (parameters_of ms) t e)
 
+given_batched : (o : Option Json) → AreBatched (steps_given o)
+given_batched None = tt
+given_batched (Some t) = list_batched t
+
+either_batched : (o inner : Option Json) → AreBatched (steps_or o inner)
+either_batched (Some t) inner = list_batched t
+either_batched None inner = given_batched inner
+
 pub from_said : (n : Names) (ms : Members) → ObjectFits n 0 kind.From ms → RouteSaid n (λ k. from_route k ms) (λ i k. from_head i k ms)
 from_said n ms o = record {
   id = own_name;
   from = λ k. source_in n 0 ms o;
   steps = λ k. from_steps_fit n ms o;
+  batched = λ k. given_batched (value_at key.Steps ms);
   head = λ i k. (refl, source_read n ms o);
 }
 
@@ -85,5 +95,6 @@ whole_said n ms o = record {
   id = λ k h. id_named n ms k h o;
   from = λ k. with_from (λ x. SourceFits n (begins_at (members_given x))) n ms o (λ inner f. source_in n 0 inner f);
   steps = λ k. route_steps_fit n ms o;
+  batched = λ k. either_batched (value_at key.Steps ms) (inner_steps (members_at key.From ms));
   head = λ i k. (id_same n ms k o, with_from (λ x. uri_in (later.members_in x) ≡ Some (begins_at (members_given x))) n ms o (λ inner f. source_read n inner f));
 }

@@ -1,7 +1,7 @@
 -- Texts and numbers with which nothing is wrong are such as their rules take.
-use Rattle.std.proofs.Common.{ℕ, ℤ, pos, negsuc, ◌≡◌, ◌<◌, Bool, true, cond, List, length, Option, Some, None, option_map, Result, Ok, Err, refl, sym, ap, ◌∙◌, nat_lt, nat_le, ltb-true, lt-ltb, leb-true, le-leb, arith}
+use Rattle.std.proofs.Common.{ℕ, suc, ℤ, pos, negsuc, ◌≡◌, ◌<◌, Bool, true, cond, List, length, Option, Some, None, option_map, Result, Ok, Err, refl, sym, ap, ◌∙◌, nat_lt, nat_le, ltb-true, lt-ltb, leb-true, le-leb, arith}
 use Rattle.std.proofs.lemmas.Bool.{and_parts, true≢false}
-use Rattle.eip_text.specs.Json.{Json, null, flag, whole, float, word, list, object}
+use Rattle.eip_text.specs.Json.{Json, null, flag, whole, float, word, list, object, no_items, item}
 use Rattle.eip_text.specs.Names.{is_name}
 use Rattle.eip_text.specs.Numbers.{whole_of}
 use Rattle.eip_simple_read.specs.declared.fault.SimpleFault.{SimpleFault}
@@ -17,12 +17,12 @@ use Rattle.eip_route.specs.declared.route.Names.{Names}
 use Rattle.eip_route.specs.Valid.{is_filled, is_kind, is_given_name, is_given_between}
 use Rattle.eip_route_grammar.specs.Table.{rule_of, list_of, shape_of}
 use Rattle.eip_route_grammar.specs.Texts.{unhashed, last_segment}
-use Rattle.eip_route_faults.specs.Values.{name_cause, handed_in, registered, simple_cause, spelled_cause, is_within, is_count, is_true}
+use Rattle.eip_route_faults.specs.Values.{name_cause, handed_in, registered, simple_cause, spelled_cause, is_within, is_count}
 use Rattle.eip_route_grammar.specs.declared.fault.Cause.TheVariants as cause
 use Rattle.eip_route_grammar.specs.declared.table.Kind.TheVariants as kind
 use Rattle.eip_route_grammar.specs.declared.table.Rule.TheVariants as rule
 use Rattle.eip_route_validity.specs.Fit.{TemplateFits, PredicateFits, Registered, TargetFits, SourceFits}
-use Rattle.eip_route_values.specs.Leaves.{text_of, flag_given, natural, natural_given, count_of}
+use Rattle.eip_route_values.specs.Leaves.{text_of, texts_of, exceptions_of, natural, natural_given, count_of}
 use Rattle.eip_route_values.specs.Parts as parts
 use Rattle.eip_route_values.specs.Parts.{template_or_empty, predicate_or_empty, endpoint, repository_given, delimiter_given}
 use Rattle.eip_route_validity.proofs.fitting.Faultless.{or_none, IsFaultless, fits}
@@ -123,18 +123,18 @@ pub given_delimiter : (n : Names) (d : ℕ) (ps : List (List ℕ × List ℕ)) (
 given_delimiter n d ps None e = refl
 given_delimiter n d ps (Some t) e = filled_leaf n d ps t e
 
--- ---- flags that can only be set
+-- ---- names of exceptions
 
-pub given_true : (n : Names) (d : ℕ) (ps : List (List ℕ × List ℕ)) (o : Option Json) → MayFit n d ps (kind.Leaf rule.OnlyTrue) o → flag_given true o ≡ true
-unfolding rule_of list_of shape_of
-given_true n d ps None e = refl
-given_true n d ps (Some null) e = absurd (fits n d ps (kind.Leaf rule.OnlyTrue) null e)
-given_true n d ps (Some (flag b)) e = not_missed b cause.BadValue (fits n d ps (kind.Leaf rule.OnlyTrue) (flag b) e)
-given_true n d ps (Some (whole z)) e = absurd (let h = fits n d ps (kind.Leaf rule.OnlyTrue) (whole z) e in cc)
-given_true n d ps (Some float) e = absurd (fits n d ps (kind.Leaf rule.OnlyTrue) float e)
-given_true n d ps (Some (word w)) e = not_missed (is_true w) cause.BadValue (fits n d ps (kind.Leaf rule.OnlyTrue) (word w) e)
-given_true n d ps (Some (list ts)) e = absurd (let h = (fits n d ps (kind.Leaf rule.OnlyTrue) (list ts) e).0 in cc)
-given_true n d ps (Some (object ms)) e = absurd (let h = (fits n d ps (kind.Leaf rule.OnlyTrue) (object ms) e).0 in cc)
+pub exceptions_filled : (n : Names) (d : ℕ) (ps : List (List ℕ × List ℕ)) (t : Json) → IsFaultless n d ps kind.Exceptions t → is_filled (exceptions_of t) ≡ true
+unfolding list_of
+exceptions_filled n d ps (list no_items) e = absurd (let h = (fits n d ps kind.Exceptions (list no_items) e).0 in cc)
+exceptions_filled n d ps (list (item t ts)) e = le-leb 1 (suc (length (texts_of ts))) (omega arith)
+exceptions_filled n d ps null e = refl
+exceptions_filled n d ps (flag b) e = refl
+exceptions_filled n d ps (whole z) e = refl
+exceptions_filled n d ps float e = refl
+exceptions_filled n d ps (word w) e = refl
+exceptions_filled n d ps (object ms) e = refl
 
 -- ---- counts
 

@@ -1,25 +1,29 @@
 -- Expressions, checks, endpoints and policies with which nothing is wrong fit.
-use Rattle.std.proofs.Common.{ℕ, ◌≡◌, ◌^◌, Bool, true, false, ◌&&◌, ◌||◌, List, Option, Some, None, is_some, refl, sym, ◌∙◌, subst, ltb-true}
+use Rattle.std.proofs.Common.{ℕ, ◌≡◌, ◌^◌, Bool, true, false, cond, ◌&&◌, ◌||◌, List, Option, Some, None, is_some, bytes_eq, codes, refl, sym, ◌∙◌, subst, ltb-true}
 use Rattle.std.proofs.lemmas.Bool.{and_from, true≢false}
+use Rattle.eip_text.specs.Cuts.{behind}
 use Rattle.eip_text.specs.Json.{Json, Members}
+use Rattle.eip_exchange.specs.declared.setting.Strategy.{Strategy}
+use Rattle.eip_exchange.specs.declared.setting.Strategy.TheVariants as strategy
 use Rattle.eip_route.specs.declared.route.Names.{Names}
-use Rattle.eip_route.specs.Valid.{is_filled, is_policy, is_token, is_given_between}
+use Rattle.eip_route.specs.Valid.{is_filled, is_policy, is_token, is_fan_strategy, is_fan, is_given_between}
 use Rattle.eip_route_grammar.specs.Table.{rule_of, list_of, shape_of}
 use Rattle.eip_route_grammar.specs.Objects.{value_at, parameters_of}
+use Rattle.eip_route_grammar.specs.Texts.{unhashed, joined_by, strategy_of}
 use Rattle.eip_route_grammar.specs.declared.keys.Key.TheVariants as key
 use Rattle.eip_route_grammar.specs.declared.table.Kind.{Kind}
 use Rattle.eip_route_grammar.specs.declared.table.Kind.TheVariants as kind
 use Rattle.eip_route_grammar.specs.declared.table.Row.TheVariants as row
 use Rattle.eip_route_grammar.specs.declared.table.Rule.TheVariants as rule
 use Rattle.eip_route_validity.specs.Fit.{TemplateFits, PredicateFits, ExprFits, CheckFits, TargetFits, SourceFits}
-use Rattle.eip_route_values.specs.Leaves.{members_given, text_given, expression_of, policy_in, policy_given, policy_at}
-use Rattle.eip_route_values.specs.Parts.{template, predicate, endpoint, endpoint_in, expr_given, plain_expr_in, expr_from, expr_in, expr_of, check_given, plain_check_in, check_from, check_in, token_of, how_given}
+use Rattle.eip_route_values.specs.Leaves.{members_given, text_given, expression_of, policy_in, policy_given, policy_at, text_of}
+use Rattle.eip_route_values.specs.Parts.{template, predicate, endpoint, endpoint_in, expr_given, plain_expr_in, expr_from, expr_in, expr_of, check_given, plain_check_in, check_from, check_in, token_of, how_given, strategy_given, fan_in}
 use Rattle.eip_route_validity.proofs.fitting.Faultless.{IsFaultless, ObjectFits}
 use Rattle.eip_route_validity.proofs.fitting.Keyed.{HasRow, MayFit, not_missed, value_fits, with_must, with_may}
 use Rattle.eip_route_validity.proofs.fitting.Groups.{one_is_there}
 use Rattle.eip_route_validity.proofs.fitting.Values.{with_text_or_object, with_object, for_expression, for_value, for_test, for_policy}
 use Rattle.eip_route_validity.proofs.fitting.Tables as tables
-use Rattle.eip_route_validity.proofs.fitting.Tables.{HasPlainValues, HasValues, HasPlainChecks, is_plain_value, is_plain_check}
+use Rattle.eip_route_validity.proofs.fitting.Tables.{HasPlainValues, HasValues, HasPlainChecks, HasChecks, is_plain_value, is_plain_check}
 use Rattle.eip_route_validity.proofs.fitting.StepTables.{from_uri, to_uri}
 use Rattle.eip_route_validity.proofs.fitting.Leaves.{template_word, template_leaf, predicate_word, predicate_leaf, target_leaf, source_leaf, name_leaf, stored_leaf, filled_word, filled_leaf, given_count}
 use Rattle.std.specs.Prelude.{nat_lt, length}
@@ -51,6 +55,36 @@ token_fits n d ps t e =
 pub how_fits : (n : Names) (d : ℕ) (ps : List (List ℕ × List ℕ)) (o : Option Json) → MayFit n d ps kind.Tokenize o → is_token (how_given o) ≡ true
 how_fits n d ps None e = refl
 how_fits n d ps (Some t) e = token_fits n d ps t e
+
+-- ---- fan-outs
+
+-- no text is the name of a batch
+abbrev IsForFan : Option Strategy → Type 0
+IsForFan o = is_fan_strategy o ≡ true
+
+joined_for_fan : (o : Option (List ℕ)) → IsForFan (joined_by o)
+joined_for_fan None = refl
+joined_for_fan (Some text) = refl
+
+either_for_fan : (b : Bool) (o p : Option Strategy) → IsForFan o → IsForFan p → IsForFan (cond b o p)
+either_for_fan true o p e f = e
+either_for_fan false o p e f = f
+
+named_strategy : (w : List ℕ) → IsForFan (strategy_of w)
+unfolding strategy_of
+named_strategy w =
+    either_for_fan (bytes_eq w (codes "original")) (Some strategy.Original) _ refl
+    (either_for_fan (bytes_eq w (codes "latest")) (Some strategy.Latest) _ refl
+    (either_for_fan (bytes_eq w (codes "joined")) (Some (strategy.Joined (codes ","))) _ refl
+    (either_for_fan (bytes_eq w (codes "grouped")) (Some strategy.Grouped) _ refl
+    (either_for_fan (bytes_eq w (codes "sum")) (Some strategy.Sum) (joined_by (behind (codes "joined:") w)) refl (joined_for_fan (behind (codes "joined:") w))))))
+
+pub given_strategy : (o : Option Json) → is_fan_strategy (strategy_given o) ≡ true
+given_strategy None = refl
+given_strategy (Some t) = named_strategy (unhashed (text_of t))
+
+pub fan_fits : (ms : Members) → is_fan (fan_in ms) ≡ true
+fan_fits ms = given_strategy (value_at key.AggregationStrategy ms)
 
 -- ---- expressions
 
@@ -124,12 +158,12 @@ check_by : (n : Names) (d : ℕ) (ps : List (List ℕ × List ℕ)) (ms : Member
 check_by n d ps ms None e f = f refl
 check_by n d ps ms (Some t) e f = inner_check_fits n d ps ms t e
 
-pub check_fits : (n : Names) (d : ℕ) (ms : Members) → ObjectFits n d kind.Case ms → CheckFits n (check_in ms)
-check_fits n d ms o =
-    check_by n d (parameters_of ms) ms (value_at key.Expression ms) (value_fits n d (parameters_of ms) kind.Case (row.One key.Expression kind.Test) ms tables.case_expression o.members)
-    (λ no. plain_check_fits n d kind.Case ms tables.case_checks o
+pub check_fits : (n : Names) (d : ℕ) (v : Kind) (ms : Members) → HasChecks v → ObjectFits n d v ms → CheckFits n (check_in ms)
+check_fits n d v ms k o =
+    check_by n d (parameters_of ms) ms (value_at key.Expression ms) (value_fits n d (parameters_of ms) v (row.One key.Expression kind.Test) ms k.expression o.members)
+    (λ no. plain_check_fits n d v ms k.plain o
     (without_other (is_some (value_at key.Simple ms)) (is_some (value_at key.Constant ms)) (is_some (value_at key.Ref ms)) (is_some (value_at key.Expression ms)) no
-    (sym (tables.case_one ms) ∙ one_is_there kind.Case key.Simple kind.Condition ms tables.case_checks.simple o.keys)))
+    (sym (k.one ms) ∙ one_is_there v key.Simple kind.Condition ms k.plain.simple o.keys)))
 
 -- ---- endpoints
 

@@ -35,6 +35,8 @@ step_kind key.Multicast = kind.Multicast
 step_kind key.RecipientList = kind.RecipientList
 step_kind key.Aggregate = kind.Aggregate
 step_kind key.IdempotentConsumer = kind.IdempotentConsumer
+step_kind key.DoTry = kind.Try
+step_kind key.Resequence = kind.Resequence
 step_kind _ = kind.Step
 
 abbrev pub IsStepKey : Key → Type 0
@@ -80,7 +82,13 @@ step_rows = (
                           of_step key.RecipientList (λ (e : kind.RecipientList ≡ kind.Step). cc),
                           (
                             of_step key.Aggregate (λ (e : kind.Aggregate ≡ kind.Step). cc),
-                            (of_step key.IdempotentConsumer (λ (e : kind.IdempotentConsumer ≡ kind.Step). cc), tt),
+                            (
+                              of_step key.IdempotentConsumer (λ (e : kind.IdempotentConsumer ≡ kind.Step). cc),
+                              (
+                                of_step key.DoTry (λ (e : kind.Try ≡ kind.Step). cc),
+                                (of_step key.Resequence (λ (e : kind.Resequence ≡ kind.Step). cc), tt),
+                              ),
+                            ),
                           ),
                         ),
                       ),

@@ -22,9 +22,9 @@ pub case_steps : HasRow kind.Case (row.Must key.Steps kind.Steps)
 unfolding spelled dashed is_spelled rows
 case_steps = (refl, refl)
 
-pub otherwise_steps : HasRow kind.Otherwise (row.Must key.Steps kind.Steps)
+pub nested_steps : HasRow kind.Nested (row.Must key.Steps kind.Steps)
 unfolding spelled dashed is_spelled rows
-otherwise_steps = (refl, refl)
+nested_steps = (refl, refl)
 
 pub split_steps : HasRow kind.Split (row.Must key.Steps kind.Steps)
 unfolding spelled dashed is_spelled rows
@@ -42,11 +42,35 @@ pub idempotent_steps : HasRow kind.IdempotentConsumer (row.Must key.Steps kind.S
 unfolding spelled dashed is_spelled rows
 idempotent_steps = (refl, refl)
 
+pub try_steps : HasRow kind.Try (row.Must key.Steps kind.Steps)
+unfolding spelled dashed is_spelled rows
+try_steps = (refl, refl)
+
+pub try_catches : HasRow kind.Try (row.May key.DoCatch kind.Catches)
+unfolding spelled dashed is_spelled rows
+try_catches = (refl, refl)
+
+pub try_last : HasRow kind.Try (row.May key.DoFinally kind.Nested)
+unfolding spelled dashed is_spelled rows
+try_last = (refl, refl)
+
+pub catch_steps : HasRow kind.Catch (row.Must key.Steps kind.Steps)
+unfolding spelled dashed is_spelled rows
+catch_steps = (refl, refl)
+
+pub catch_exceptions : HasRow kind.Catch (row.Must key.Exception kind.Exceptions)
+unfolding spelled dashed is_spelled rows
+catch_exceptions = (refl, refl)
+
+pub catch_when : HasRow kind.Catch (row.May key.OnWhen kind.OnWhen)
+unfolding spelled dashed is_spelled rows
+catch_when = (refl, refl)
+
 pub choice_when : HasRow kind.Choice (row.Must key.When kind.Cases)
 unfolding spelled dashed is_spelled rows
 choice_when = (refl, refl)
 
-pub choice_otherwise : HasRow kind.Choice (row.May key.Otherwise kind.Otherwise)
+pub choice_otherwise : HasRow kind.Choice (row.May key.Otherwise kind.Nested)
 unfolding spelled dashed is_spelled rows
 choice_otherwise = (refl, refl)
 
@@ -102,14 +126,6 @@ pub recipients_delimiter : HasRow kind.RecipientList (row.May key.Delimiter (kin
 unfolding spelled dashed is_spelled rows
 recipients_delimiter = (refl, refl)
 
-pub idempotent_eager : HasRow kind.IdempotentConsumer (row.May key.Eager (kind.Leaf rule.OnlyTrue))
-unfolding spelled dashed is_spelled rows
-idempotent_eager = (refl, refl)
-
-pub idempotent_remove : HasRow kind.IdempotentConsumer (row.May key.RemoveOnFailure (kind.Leaf rule.OnlyTrue))
-unfolding spelled dashed is_spelled rows
-idempotent_remove = (refl, refl)
-
 -- ---- groups
 
 pub group_key : HasRow kind.Aggregate (row.Must key.CorrelationExpression kind.Value)
@@ -131,3 +147,37 @@ group_timeout = (refl, refl)
 pub group_predicate : HasRow kind.Aggregate (row.May key.CompletionPredicate kind.CompletionPredicate)
 unfolding spelled dashed is_spelled rows
 group_predicate = (refl, refl)
+
+-- ---- batches
+
+pub batch_steps : HasRow kind.Resequence (row.Must key.Steps kind.BatchSteps)
+unfolding spelled dashed is_spelled rows
+batch_steps = (refl, refl)
+
+pub batch_config : HasRow kind.Resequence (row.May key.BatchConfig kind.BatchConfig)
+unfolding spelled dashed is_spelled rows
+batch_config = (refl, refl)
+
+pub batch_size : HasRow kind.BatchConfig (row.May key.BatchSize (kind.Leaf (rule.Count 1 1000)))
+unfolding spelled dashed is_spelled rows
+batch_size = (refl, refl)
+
+pub batch_timeout : HasRow kind.BatchConfig (row.May key.BatchTimeout (kind.Leaf (rule.Count 1 1000000000)))
+unfolding spelled dashed is_spelled rows
+batch_timeout = (refl, refl)
+
+pub order_simple : HasRow kind.Resequence (row.One key.Simple kind.OrderKey)
+unfolding spelled dashed is_spelled rows
+order_simple = (refl, refl)
+
+pub order_header : HasRow kind.Resequence (row.One key.Header (kind.Leaf rule.Name))
+unfolding spelled dashed is_spelled rows
+order_header = (refl, refl)
+
+pub order_property : HasRow kind.Resequence (row.One key.ExchangeProperty (kind.Leaf rule.Name))
+unfolding spelled dashed is_spelled rows
+order_property = (refl, refl)
+
+pub order_text : HasRow kind.OrderKey (row.Must key.Expression (kind.Leaf rule.OrderKey))
+unfolding spelled dashed is_spelled rows
+order_text = (refl, refl)

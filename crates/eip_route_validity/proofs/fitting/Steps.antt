@@ -16,6 +16,7 @@ use Rattle.eip_route_grammar.specs.declared.keys.Key.TheVariants as key
 use Rattle.eip_route_grammar.specs.declared.table.Kind.{Kind}
 use Rattle.eip_route_grammar.specs.declared.table.Kind.TheVariants as kind
 use Rattle.eip_route_grammar.specs.declared.table.Listed.{Listed}
+use Rattle.eip_route_grammar.specs.declared.table.Nests.TheVariants as nests
 use Rattle.eip_route_grammar.specs.declared.table.Row.{Row}
 use Rattle.eip_route_grammar.specs.declared.table.Row.TheVariants as row
 use Rattle.eip_route_validity.specs.Fit.{Inside, HasGroup, AreBranches, StepsFit, StepFits, GroupsFit, BlockFits}
@@ -46,6 +47,10 @@ is_object n d ps v t k e = with_object IsObject n d ps v t k e (λ ms o. tt)
 for_steps : IsForLists kind.Steps
 unfolding rule_of shape_of
 for_steps = record { no_rule = refl; closed = refl }
+
+for_batch_steps : IsForLists kind.BatchSteps
+unfolding rule_of shape_of
+for_batch_steps = record { no_rule = refl; closed = refl }
 
 for_branches : IsForLists kind.Branches
 unfolding rule_of shape_of
@@ -81,10 +86,13 @@ neither true c x y e = absurd cc
 neither false true x y e = absurd cc
 neither false false x y e = (refl, refl)
 
-not_deep : (d : ℕ) (filled b : Bool) → own_list d (listing kind.Step true filled) b ≡ None → d < 16
+not_deep : (d : ℕ) (filled b : Bool) → own_list d (listing kind.Step nests.Block filled) b ≡ None → d < 16
 not_deep d filled b e = leb-false 16 d (neither (filled && b) (nat_le 16 d) _ _ e).1
 
-has_branches : (d : ℕ) (ts : Items) → own_list d (listing kind.Step true true) (has_none ts) ≡ None → HasGroup (nest_branches ts)
+batch_not_deep : (d : ℕ) (b : Bool) → own_list d (listing kind.Step nests.Batch false) b ≡ None → d < 15
+batch_not_deep d b e = leb-false 15 d (neither false (nat_le 15 d) cause.BadValue cause.TooNested e).1
+
+has_branches : (d : ℕ) (ts : Items) → own_list d (listing kind.Step nests.Block true) (has_none ts) ≡ None → HasGroup (nest_branches ts)
 has_branches d no_items e = absurd cc
 has_branches d (item t ts) e = tt
 
@@ -122,8 +130,9 @@ mutual
       let o = object_fits n d ps (step_kind k) ms (step_keyed k known) e in
       object_step_fits n d k ms known o (record {
         steps = λ r. in_fits n d ms (parameters_of ms) (step_kind k) r (must_be_there (step_kind k) key.Steps kind.Steps ms r o.keys) o.members;
+        batch = λ r. batch_in_fits n d ms (parameters_of ms) (step_kind k) r (must_be_there (step_kind k) key.Steps kind.BatchSteps ms r o.keys) o.members;
         branches = λ r. branches_in_fit n d ms (parameters_of ms) (step_kind k) r (must_be_there (step_kind k) key.Steps kind.Branches ms r o.keys) o.members;
-        each = λ q w u r a. each_in_fits n d ms (parameters_of ms) (step_kind k) q w u r a o.members;
+        each = λ r u h a. each_in_fits n d ms (parameters_of ms) (step_kind k) r u h a o.members;
         one = λ q u r a. one_in_fits n d ms (parameters_of ms) (step_kind k) q u r a o.members;
       })
   value_fits n d ps k t known alone e = absurd (step_value n d ps k t known e)
@@ -135,6 +144,18 @@ mutual
       cond_both (is_spelled key.Steps name) (nest_list t) (nest_in ms) (λ ss. Inside d (StepsFit n (d + 1) ss))
       (λ b. list_fits n d ps t (found_value n d ps v key.Steps (row.Must key.Steps kind.Steps) name t ms r refl b e))
       (λ b. in_fits n d ms ps v r (still_there (is_spelled key.Steps name) t (value_at key.Steps ms) b there) (first_member n d ps v name t ms e).1)
+
+  batch_in_fits : (n : Names) (d : ℕ) (ms : Members) (ps : List (List ℕ × List ℕ)) (v : Kind) → HasRow v (row.Must key.Steps kind.BatchSteps) → is_some (value_at key.Steps ms) ≡ true
+      → first_fault (members_sites n d ps v ms) ≡ None → (d < 15) × StepsFit n (d + 2) (nest_in ms)
+  batch_in_fits n d no_members ps v r there e = absurd (true≢false (sym there))
+  batch_in_fits n d (member name t ms) ps v r there e =
+      cond_both (is_spelled key.Steps name) (nest_list t) (nest_in ms) (λ ss. (d < 15) × StepsFit n (d + 2) ss)
+      (λ b. batch_list_fits n d ps t (found_value n d ps v key.Steps (row.Must key.Steps kind.BatchSteps) name t ms r refl b e))
+      (λ b. batch_in_fits n d ms ps v r (still_there (is_spelled key.Steps name) t (value_at key.Steps ms) b there) (first_member n d ps v name t ms e).1)
+
+  batch_list_fits : (n : Names) (d : ℕ) (ps : List (List ℕ × List ℕ)) (t : Json) → IsFaultless n d ps kind.BatchSteps t → (d < 15) × StepsFit n (d + 2) (nest_list t)
+  batch_list_fits n d ps (list ts) e = let h = fits n d ps kind.BatchSteps (list ts) e in (batch_not_deep d (has_none ts) h.0, steps_fit_in n (d + 2) 0 ts h.1)
+  batch_list_fits n d ps t e = absurd (is_list n d ps kind.BatchSteps t for_batch_steps e)
 
   inner_fits : (n : Names) (d : ℕ) (ps : List (List ℕ × List ℕ)) (u : Kind) (t : Json) → IsHolder u → IsFaultless n d ps u t → Inside d (StepsFit n (d + 1) (nest_inner t))
   inner_fits n d ps u (object ms) h e =
@@ -160,13 +181,13 @@ mutual
   branches_fit n d k no_items l e = tt
   branches_fit n d k (item t ts) l e = let h = first_item n (d + 1) kind.Step k t ts e in ((l, (step_fits n (d + 1) [] t h.0, tt)), branches_fit n d (k + 1) ts l h.1)
 
-  each_in_fits : (n : Names) (d : ℕ) (ms : Members) (ps : List (List ℕ × List ℕ)) (v : Kind) (q : Key) (w u : Kind) → HasRow v (row.Must q w) → AreHolders w u → first_fault (members_sites n d ps v ms) ≡ None
-      → GroupsFit n d (nest_each_in q ms)
-  each_in_fits n d no_members ps v q w u r a e = tt
-  each_in_fits n d (member name t ms) ps v q w u r a e =
-      cond_both (is_spelled q name) (nest_each_list t) (nest_each_in q ms) (GroupsFit n d)
-      (λ b. each_list_fits n d ps w u t a (found_value n d ps v q (row.Must q w) name t ms r refl b e))
-      (λ b. each_in_fits n d ms ps v q w u r a (first_member n d ps v name t ms e).1)
+  each_in_fits : (n : Names) (d : ℕ) (ms : Members) (ps : List (List ℕ × List ℕ)) (v : Kind) (r : Row) (u : Kind) → HasRow v r → AreHolders (kind_in r) u → first_fault (members_sites n d ps v ms) ≡ None
+      → GroupsFit n d (nest_each_in (key_in r) ms)
+  each_in_fits n d no_members ps v r u h a e = tt
+  each_in_fits n d (member name t ms) ps v r u h a e =
+      cond_both (is_spelled (key_in r) name) (nest_each_list t) (nest_each_in (key_in r) ms) (GroupsFit n d)
+      (λ b. each_list_fits n d ps (kind_in r) u t a (found_value n d ps v (key_in r) r name t ms h refl b e))
+      (λ b. each_in_fits n d ms ps v r u h a (first_member n d ps v name t ms e).1)
 
   each_list_fits : (n : Names) (d : ℕ) (ps : List (List ℕ × List ℕ)) (w u : Kind) (t : Json) → AreHolders w u → IsFaultless n d ps w t → GroupsFit n d (nest_each_list t)
   each_list_fits n d ps w u (list ts) a e =

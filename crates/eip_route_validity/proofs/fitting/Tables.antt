@@ -94,17 +94,27 @@ pub test_one : (ms : Members) → has_one (rows kind.Test) ms ≡ is_plain_check
 unfolding rows
 test_one ms = refl
 
-pub case_checks : HasPlainChecks kind.Case
-unfolding spelled dashed is_spelled rows
-case_checks = record { simple = (refl, refl); constant = (refl, refl); stored = (refl, refl) }
+-- and of a check that may stand in an object of its own
+pub record HasChecks (v : Kind) : Type 0 where
+  pub plain : HasPlainChecks v
+  pub expression : HasRow v (row.One key.Expression kind.Test)
+  pub one : (ms : Members) → has_one (rows v) ms ≡ is_check ms
 
-pub case_expression : HasRow kind.Case (row.One key.Expression kind.Test)
+plain_of_case : HasPlainChecks kind.Case
 unfolding spelled dashed is_spelled rows
-case_expression = (refl, refl)
+plain_of_case = record { simple = (refl, refl); constant = (refl, refl); stored = (refl, refl) }
 
-pub case_one : (ms : Members) → has_one (rows kind.Case) ms ≡ is_check ms
-unfolding rows
-case_one ms = refl
+pub case_checks : HasChecks kind.Case
+unfolding spelled dashed is_spelled rows
+case_checks = record { plain = plain_of_case; expression = (refl, refl); one = λ ms. refl }
+
+plain_of_when : HasPlainChecks kind.OnWhen
+unfolding spelled dashed is_spelled rows
+plain_of_when = record { simple = (refl, refl); constant = (refl, refl); stored = (refl, refl) }
+
+pub when_checks : HasChecks kind.OnWhen
+unfolding spelled dashed is_spelled rows
+when_checks = record { plain = plain_of_when; expression = (refl, refl); one = λ ms. refl }
 
 -- ---- texts in objects of their own
 

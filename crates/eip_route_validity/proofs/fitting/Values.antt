@@ -85,6 +85,14 @@ pub for_test : IsForObjects kind.Test
 unfolding rule_of list_of shape_of
 for_test = record { no_rule = refl; no_list = refl; keyed = refl }
 
+pub for_catch : IsForObjects kind.Catch
+unfolding rule_of list_of shape_of
+for_catch = record { no_rule = refl; no_list = refl; keyed = refl }
+
+pub for_when : IsForObjects kind.OnWhen
+unfolding rule_of list_of shape_of
+for_when = record { no_rule = refl; no_list = refl; keyed = refl }
+
 pub for_policy : IsForObjects kind.RedeliveryPolicy
 unfolding rule_of list_of shape_of
 for_policy = record { no_rule = refl; no_list = refl; keyed = refl }
@@ -93,9 +101,9 @@ pub for_completion : IsForObjects kind.CompletionPredicate
 unfolding rule_of list_of shape_of
 for_completion = record { no_rule = refl; no_list = refl; keyed = refl }
 
-pub for_otherwise : IsForObjects kind.Otherwise
+pub for_nested : IsForObjects kind.Nested
 unfolding rule_of list_of shape_of
-for_otherwise = record { no_rule = refl; no_list = refl; keyed = refl }
+for_nested = record { no_rule = refl; no_list = refl; keyed = refl }
 
 -- ---- lists
 

@@ -1,6 +1,6 @@
 use Rattle.std.proofs.Common.{◌≡◌, ◌∙◌, sym, refl, true, false}
 use Rattle.std.specs.Str.{bytes_eq}
-use Rattle.eip_history.specs.Texts.{lane_of}
+use Rattle.eip_endpoint.specs.Outside.{lane_of}
 use Rattle.eip_endpoint.proofs.Named.{looked}
 use Rattle.eip_core.proofs.outside.find_lane_of.Goals as goal
 

@@ -2,7 +2,7 @@ use Rattle.std.proofs.Common.{◌≡◌, drop}
 use Rattle.std.specs.Str.{bytes_eq}
 use Rattle.std.specs.List.{position_from}
 use Rattle.eip_endpoint.specs.Lanes.{first_named, lane_names}
-use Rattle.eip_history.specs.Texts.{lane_of}
+use Rattle.eip_endpoint.specs.Outside.{lane_of}
 use Rattle.eip_core.proofs.outside.find_lane_of.Given as goal
 
 abbrev pub invariant-loop-index : goal.invariant-loop-index

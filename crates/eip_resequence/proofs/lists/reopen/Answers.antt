@@ -3,8 +3,8 @@ use Rattle.std.specs.Prelude.{string_bytes, string_len}
 use Rattle.eip_resequence.proofs.Growing.{last_is}
 use Rattle.eip_resequence.proofs.lists.reopen.Goals as goal
 
-pub returns : goal.returns
-returns c =
+pub returns-clause-bytes : goal.returns-clause-bytes
+returns-clause-bytes c =
     let text = string_bytes c.args.text.now in
     let p = last_is text c.requires.0 c.requires.1 in
     let len : string_len c.args.text.now ≡ length text = omega arith in

@@ -19,10 +19,10 @@ pub finish_asked-requires-clause-within : goal.finish_asked-requires-clause-with
 finish_asked-requires-clause-within c = (row-within (tables_of c.self.inside) c.args.number Ready c.self.invariant.stands (rw (← c.self.view_is) at c.requires.ready)).1
 
 pub overflow_add-needed-2 : goal.overflow_add-needed-2
-overflow_add-needed-2 c = omega (arith, within-limit (tables_of c.self.inside) c.self.invariant.stands, c.self.invariant.limit)
+overflow_add-needed-2 c = omega (arith, within-limit (tables_of c.self.inside) c.self.invariant.stands, c.self.invariant.stands.legal.few_turns)
 
 pub overflow_add-needed-3 : goal.overflow_add-needed-3
-overflow_add-needed-3 c = omega (arith, within-limit (tables_of c.self.inside) c.self.invariant.stands, c.self.invariant.limit)
+overflow_add-needed-3 c = omega (arith, within-limit (tables_of c.self.inside) c.self.invariant.stands, c.self.invariant.stands.legal.few_turns)
 
 pub overflow_sub-self : goal.overflow_sub-self
 overflow_sub-self c =
@@ -40,7 +40,6 @@ invariant_of-self-2 c =
     record {
       stands = rw (c.append_reserved.ensures.past, c.append_reserved.ensures.workers, c.append_reserved.ensures.turns, c.make_room.ensures.past, c.make_room.ensures.workers, c.make_room.ensures.turns, c.make_room.ensures.items, c.finish_asked.ensures.items r.0 r.1, c.remove.ensures.numbers, ended)
           (stands-finish (tables_of c.self.inside) c.args.worker c.args.number c.self.invariant.stands (rw (← c.self.view_is) at c.requires.worker) k.0 r.0 (rw (← c.self.view_is) at c.requires.ready) r.1 c.requires.end.end c.requires.end.message k.1 (rw (← c.self.view_is) at c.requires.below));
-      limit = rw (c.append_reserved.ensures.turns, c.make_room.ensures.turns) c.self.invariant.limit;
       few = c.self.invariant.few;
       room_small = c.self.invariant.room_small;
       room_journal = omega (arith, room);

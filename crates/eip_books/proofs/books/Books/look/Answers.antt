@@ -5,7 +5,7 @@ use Rattle.eip_tables.specs.State.{known_of}
 use Rattle.eip_tables.specs.Look.{HasCursor}
 use Rattle.eip_books.specs.Facts.{tables_of}
 use Rattle.eip_table_laws.proofs.OwnCalls.{row-within}
-use Rattle.eip_table_laws.proofs.LookCalls.{born-birth, lives-first, born-within, answer-within, answered-cursor, new-looked, answer-looked, known-now, known-asking, one-of-both, on-ok, answer-there}
+use Rattle.eip_table_laws.proofs.LookCalls.{born-birth, lives-first, born-within, answer-within, answered-entry, answered-cursor, new-looked, answer-looked, known-now, known-asking, one-of-both, on-ok, answer-there}
 use Rattle.eip_table_laws.proofs.LookOutside.{looked-outside, known-outside-already}
 use Rattle.eip_books.proofs.books.Books.look.Goals as goal
 
@@ -40,7 +40,6 @@ invariant_of-self c =
     record {
       stands = rw (c.begin.ensures.items c.get-row.result.now c.get-row.ensures)
           (new-looked (tables_of c.self.inside) c.args.number c.get-row.result.now c.self.invariant.stands (rw (← c.self.view_is) at c.requires) c.get-row.ensures c.in_ok-cursor-in-New.cursor c.in_ok-cursor-in-New.request c.in-New.is (rw c.entries.ensures at c.in_ok-cursor-in-New.ensures));
-      limit = c.self.invariant.limit;
       few = c.self.invariant.few;
       room_small = c.self.invariant.room_small;
       room_journal = c.self.invariant.room_journal;
@@ -61,6 +60,12 @@ look-requires-clause-cursor c = λ r at.
     (answer-within (tables_of c.self.inside) c.args.number c.get-row.result.now c.self.invariant.stands (rw (← c.self.view_is) at c.requires) c.get-row.ensures c.in-Answered.entry c.in-Answered.is)
     c.index-entries-entry.is c.in-Answer.is))
 
+pub unreachable-requires : goal.unreachable-requires
+unreachable-requires c =
+    let a = answered-entry (tables_of c.self.inside) c.args.number c.get-row.result.now c.self.invariant.stands (rw (← c.self.view_is) at c.requires) c.get-row.ensures
+    c.in-Answered.entry c.entries-in-Answered.result.now c.index-entries-entry.result c.in-Answered.is c.entries-in-Answered.ensures c.index-entries-entry.is in
+    c.in_default-kind.not-Answer a.0 a.1.0 a.1.1
+
 pub invariant_of-self-in-Answer : goal.invariant_of-self-in-Answer
 invariant_of-self-in-Answer c =
     record {
@@ -72,7 +77,6 @@ invariant_of-self-in-Answer c =
           c.index-entries-entry.is c.in-Answer.is) made.2))
           (λ err. rw err c.self.invariant.stands)
           (one-of-both c.look.result _ _ c.look.ensures.ok c.look.ensures.err);
-      limit = c.self.invariant.limit;
       few = c.self.invariant.few;
       room_small = c.self.invariant.room_small;
       room_journal = c.self.invariant.room_journal;

@@ -18,13 +18,13 @@ pub answer-request-requires-clause-within : goal.answer-request-requires-clause-
 answer-request-requires-clause-within c = (row-within (tables_of c.self.inside) c.args.number Ready c.self.invariant.stands (rw (← c.self.view_is) at c.requires.ready)).1
 
 pub overflow_add-needed-2 : goal.overflow_add-needed-2
-overflow_add-needed-2 c = omega (arith, within-limit (tables_of c.self.inside) c.self.invariant.stands, c.self.invariant.limit)
+overflow_add-needed-2 c = omega (arith, within-limit (tables_of c.self.inside) c.self.invariant.stands, c.self.invariant.stands.legal.few_turns)
 
 pub overflow_add-needed-3 : goal.overflow_add-needed-3
-overflow_add-needed-3 c = omega (arith, within-limit (tables_of c.self.inside) c.self.invariant.stands, c.self.invariant.limit)
+overflow_add-needed-3 c = omega (arith, within-limit (tables_of c.self.inside) c.self.invariant.stands, c.self.invariant.stands.legal.few_turns)
 
 pub overflow_add-self : goal.overflow_add-self
-overflow_add-self c = omega (arith, within-limit (tables_of c.self.inside) c.self.invariant.stands, c.self.invariant.limit)
+overflow_add-self c = omega (arith, within-limit (tables_of c.self.inside) c.self.invariant.stands, c.self.invariant.stands.legal.few_turns)
 
 pub invariant_of-self-2 : goal.invariant_of-self-2
 invariant_of-self-2 c =
@@ -38,7 +38,6 @@ invariant_of-self-2 c =
     record {
       stands = rw (c.append_reserved.ensures.past, c.append_reserved.ensures.workers, c.append_reserved.ensures.turns, c.make_room.ensures.past, c.make_room.ensures.workers, c.make_room.ensures.turns, c.keep_line.ensures c.requires.line.name c.requires.line.text q, c.make_room.ensures.items, c.answer-request.ensures.items r.0 r.1, entry)
           (stands-note (tables_of c.self.inside) c.args.worker c.args.number c.self.invariant.stands (rw (← c.self.view_is) at c.requires.worker) k.0 r.0 (rw (← c.self.view_is) at c.requires.ready) r.1 c.requires.line.name c.requires.line.text k.1 (rw (← c.self.view_is) at c.requires.below));
-      limit = rw (c.append_reserved.ensures.turns, c.make_room.ensures.turns) c.self.invariant.limit;
       few = c.self.invariant.few;
       room_small = c.self.invariant.room_small;
       room_journal = omega (arith, room);

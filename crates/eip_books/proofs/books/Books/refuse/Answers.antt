@@ -21,7 +21,6 @@ invariant_of-self c =
     record {
       stands = rw (c.append_reserved.ensures.past, c.append_reserved.ensures.workers, c.append_reserved.ensures.turns, c.set.ensures)
           (stands-refuse (tables_of c.self.inside) c.args.worker c.args.source c.self.invariant.stands (rw (← c.self.view_is) at c.requires.worker) c.args.item c.args.cause may);
-      limit = rw c.append_reserved.ensures.turns c.self.invariant.limit;
       few = c.self.invariant.few;
       room_small = c.self.invariant.room_small;
       room_journal = omega (arith, out);
@@ -38,4 +37,4 @@ overflow_sub-self c =
     omega (arith, out-pulled (tables_of c.self.inside) c.args.worker c.args.source c.self.invariant.stands (rw (← c.self.view_is) at c.requires.worker) may.0.0 may.1)
 
 pub overflow_add-self : goal.overflow_add-self
-overflow_add-self c = omega (arith, within-limit (tables_of c.self.inside) c.self.invariant.stands, c.self.invariant.limit)
+overflow_add-self c = omega (arith, within-limit (tables_of c.self.inside) c.self.invariant.stands, c.self.invariant.stands.legal.few_turns)

@@ -20,7 +20,6 @@ invariant_of-self c =
     record {
       stands = rw (c.append_reserved.ensures.past, c.append_reserved.ensures.workers, c.append_reserved.ensures.turns, c.answer.ensures.items r.0 r.1, c.put_in.ensures.numbers, entry)
           (stands-settle (tables_of c.self.inside) c.args.worker c.args.number c.self.invariant.stands (rw (← c.self.view_is) at c.requires.worker) r.0 r.1 placed asked.0 c.args.answer asked.1 asked.2 asked.3);
-      limit = rw c.append_reserved.ensures.turns c.self.invariant.limit;
       few = c.self.invariant.few;
       room_small = c.self.invariant.room_small;
       room_journal = omega (arith, n);
@@ -47,7 +46,7 @@ append_reserved-requires c =
     omega (arith, taken-above (tables_of c.self.inside) c.args.worker c.args.number c.self.invariant.stands (rw (← c.self.view_is) at c.requires.worker) r.0 r.1 placed)
 
 pub overflow_add-self : goal.overflow_add-self
-overflow_add-self c = omega (arith, within-limit (tables_of c.self.inside) c.self.invariant.stands, c.self.invariant.limit)
+overflow_add-self c = omega (arith, within-limit (tables_of c.self.inside) c.self.invariant.stands, c.self.invariant.stands.legal.few_turns)
 
 pub overflow_sub-self : goal.overflow_sub-self
 overflow_sub-self c =

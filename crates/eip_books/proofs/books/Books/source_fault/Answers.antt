@@ -20,7 +20,6 @@ invariant_of-self c =
     record {
       stands = rw (c.append_reserved.ensures.past, c.append_reserved.ensures.workers, c.append_reserved.ensures.turns, c.set.ensures, c.first_fault-first.ensures)
           (stands-fault (tables_of c.self.inside) c.args.worker c.args.source c.self.invariant.stands (rw (← c.self.view_is) at c.requires.worker) may);
-      limit = rw c.append_reserved.ensures.turns c.self.invariant.limit;
       few = c.self.invariant.few;
       room_small = c.self.invariant.room_small;
       room_journal = omega (arith, out);

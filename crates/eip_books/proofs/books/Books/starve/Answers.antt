@@ -26,7 +26,6 @@ invariant_of-self c =
     record {
       stands = rw (c.append_reserved.ensures.past, c.append_reserved.ensures.workers, c.append_reserved.ensures.turns, c.close.ensures.items r.0 r.1, c.remove.ensures.numbers)
           (stands-starve (tables_of c.self.inside) c.args.worker c.args.number r.0 c.self.invariant.stands (rw (← c.self.view_is) at c.requires.worker) (rw (← c.self.view_is) at c.requires.ready) r.1);
-      limit = rw c.append_reserved.ensures.turns c.self.invariant.limit;
       few = c.self.invariant.few;
       room_small = omega (arith, room);
       room_journal = omega (arith, room);

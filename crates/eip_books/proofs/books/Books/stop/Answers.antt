@@ -5,7 +5,7 @@ use Rattle.eip_table_laws.proofs.StopCalls.{stop-is}
 use Rattle.eip_books.proofs.books.Books.stop.Goals as goal
 
 pub overflow_add-self-inside : goal.overflow_add-self-inside
-overflow_add-self-inside c = omega (arith, within-limit (tables_of c.self.inside) c.self.invariant.stands, c.self.invariant.limit)
+overflow_add-self-inside c = omega (arith, within-limit (tables_of c.self.inside) c.self.invariant.stands, c.self.invariant.stands.legal.few_turns)
 
 pub returns-clause-stop : goal.returns-clause-stop
 returns-clause-stop c =

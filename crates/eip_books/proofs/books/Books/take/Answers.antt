@@ -16,7 +16,6 @@ invariant_of-self c =
     record {
       stands = rw (c.append_reserved.ensures.past, c.append_reserved.ensures.workers, c.append_reserved.ensures.turns, c.hold.ensures.items k.row k.at, c.remove.ensures.numbers)
           (stands-take (tables_of c.self.inside) c.args.worker c.args.number c.self.invariant.stands (rw (← c.self.view_is) at c.requires.worker) k.row k.at k.ready k.asks.cursor k.asks.request k.asks.asks k.asks.outside (rw (← c.self.view_is) at c.requires.below));
-      limit = rw c.append_reserved.ensures.turns c.self.invariant.limit;
       few = c.self.invariant.few;
       room_small = omega (arith, room);
       room_journal = omega (arith, room);
@@ -40,7 +39,7 @@ unreachable-requires c =
     c.in_default.not-Some k.asks.request (c.hold.ensures.request k.row k.at ∙ k.asks.has)
 
 pub overflow_add-self : goal.overflow_add-self
-overflow_add-self c = omega (arith, within-limit (tables_of c.self.inside) c.self.invariant.stands, c.self.invariant.limit)
+overflow_add-self c = omega (arith, within-limit (tables_of c.self.inside) c.self.invariant.stands, c.self.invariant.stands.legal.few_turns)
 
 pub returns-clause-may : goal.returns-clause-may
 returns-clause-may c =

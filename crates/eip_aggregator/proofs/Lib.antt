@@ -1,0 +1,10 @@
+pub mod Keys
+pub mod Standing
+pub mod Lookups
+pub mod Found
+pub mod Arriving
+pub mod Settling
+pub mod Growing
+pub mod GoingOn
+pub mod Gathering
+pub mod Together

@@ -1,0 +1,10 @@
+use Rattle.std.proofs.Common.{◌≡◌, ◌++◌, drop}
+use Rattle.eip_text.specs.Json.{items_json}
+use Rattle.eip_route.specs.Nest.{catches_with, past}
+use Rattle.eip_route_values.specs.Nesting.{catchings_of}
+use Rattle.eip_route_blocks.proofs.frames.catches.Given as goal
+
+abbrev pub invariant-loop-item : goal.invariant-loop-item
+invariant-loop-item l =
+    (catches_with (catchings_of (items_json l.items)) l.numbers ≡ l.catches.items ++ catches_with (catchings_of (items_json (drop l.item-index l.items))) l.left)
+    × (past (catchings_of (items_json l.items)) l.numbers ≡ past (catchings_of (items_json (drop l.item-index l.items))) l.left)

@@ -1,0 +1,122 @@
+-- In the steps that a file says, a batch's split stands in the block of its aggregator, and nowhere else.
+use Rattle.std.proofs.Common.{◌≡◌, Bool, true, false, cond, Option, Some, None, refl, sym, subst}
+use Rattle.std.specs.Prelude.{unwrap_or}
+use Rattle.std.proofs.lemmas.Bool.{cond_both}
+use Rattle.eip_text.specs.Json.{Json, list, object, word, Items, no_items, item, Members, no_members, member}
+use Rattle.eip_exchange.specs.declared.setting.Strategy.{Strategy}
+use Rattle.eip_exchange.specs.declared.setting.Strategy.TheVariants as strategy
+use Rattle.eip_route.specs.Nest.{NestedSteps, NestedGroups, splits, no_group, group, none}
+use Rattle.eip_route.specs.Valid.{is_batch_strategy, is_fan_strategy}
+use Rattle.eip_route.specs.declared.step.Fan.{Fan}
+use Rattle.eip_route_grammar.specs.Keys.{is_spelled}
+use Rattle.eip_route_grammar.specs.Objects.{value_at}
+use Rattle.eip_route_grammar.specs.declared.keys.Key.{Key}
+use Rattle.eip_route_grammar.specs.declared.keys.Key.TheVariants as key
+use Rattle.eip_route_values.specs.Nesting.{said, with_groups, followed, at_places, nest_at, nest_list, nest_steps, nest_step, nest_only, nest_value, nest_in, nest_inner, nest_branches_in, nest_branch_list, nest_branches, nest_each_in, nest_each_list, nest_each, nest_one_in}
+use Rattle.eip_route_values.specs.Parts.{how_given, strategy_given}
+use Rattle.eip_route_values.specs.Places.{places, step_key}
+use Rattle.eip_route_validity.specs.Fit.{is_parts, AreBatched, IsBatched, GroupsBatched}
+use Rattle.eip_route_validity.proofs.fitting.Parts.{given_strategy}
+
+-- ---- one step
+
+followed_batched : (gs hs : NestedGroups) → GroupsBatched false gs → GroupsBatched false hs → GroupsBatched false (followed gs hs)
+followed_batched no_group hs f g = g
+followed_batched (group ss gs) hs f g = (f.0, followed_batched gs hs f.1 g)
+
+no_parts : (o : Option Json) (fan : Fan) → is_parts (splits (how_given o) fan) ≡ false
+no_parts None fan = refl
+no_parts (Some t) fan = refl
+
+no_batch : (o : Option Strategy) → is_fan_strategy o ≡ true → is_batch_strategy (unwrap_or o strategy.Latest) ≡ false
+no_batch None h = refl
+no_batch (Some strategy.Original) h = refl
+no_batch (Some strategy.Latest) h = refl
+no_batch (Some (strategy.Joined between)) h = refl
+no_batch (Some strategy.Grouped) h = refl
+no_batch (Some strategy.Sum) h = refl
+no_batch (Some strategy.Batch) h = absurd (cc)
+
+-- what an object holds, wherever it stands
+record InnerBatched (ms : Members) : Type 0 where
+  steps : AreBatched (nest_in ms)
+  branches : GroupsBatched false (nest_branches_in ms)
+  each : (q : Key) → GroupsBatched false (nest_each_in q ms)
+  one : (q : Key) → GroupsBatched false (nest_one_in q ms)
+
+object_batched : (k : Key) (ms : Members) → InnerBatched ms → IsBatched (with_groups (said k ms) (at_places (nest_at ms) (places k)))
+object_batched key.Choice ms i = (refl, followed_batched (nest_each_in key.When ms) (followed (nest_one_in key.Otherwise ms) no_group) (i.each key.When) (followed_batched (nest_one_in key.Otherwise ms) no_group (i.one key.Otherwise) tt))
+object_batched key.Filter ms i = (refl, (i.steps, tt))
+object_batched key.Split ms i = (no_parts (value_at key.Tokenize ms) _, (i.steps, tt))
+object_batched key.Multicast ms i = (refl, followed_batched (nest_branches_in ms) no_group i.branches tt)
+object_batched key.Aggregate ms i =
+    let other = no_batch (strategy_given (value_at key.AggregationStrategy ms)) (given_strategy (value_at key.AggregationStrategy ms)) in
+    (refl, subst (λ (b : Bool). GroupsBatched b (group (nest_in ms) no_group)) (sym other) (i.steps, tt))
+object_batched key.IdempotentConsumer ms i = (refl, (i.steps, tt))
+object_batched key.DoTry ms i =
+    (refl, (i.steps, followed_batched (nest_each_in key.DoCatch ms) (followed (nest_one_in key.DoFinally ms) no_group) (i.each key.DoCatch) (followed_batched (nest_one_in key.DoFinally ms) no_group (i.one key.DoFinally) tt)))
+object_batched key.Resequence ms i = (refl, (refl, i.steps))
+object_batched _ ms i = tt
+
+-- ---- nested
+
+mutual
+  pub list_batched : (t : Json) → AreBatched (nest_list t)
+  list_batched (list ts) = steps_batched ts
+  list_batched _ = tt
+
+  pub steps_batched : (ts : Items) → AreBatched (nest_steps ts)
+  steps_batched no_items = tt
+  steps_batched (item t ts) = (step_batched t, steps_batched ts)
+
+  step_batched : (t : Json) → IsBatched (nest_step t)
+  step_batched (object ms) = only_batched ms
+  step_batched _ = tt
+
+  only_batched : (ms : Members) → IsBatched (nest_only ms)
+  only_batched no_members = tt
+  only_batched (member k t ms) = value_batched (step_key k) t
+
+  value_batched : (o : Option Key) (t : Json) → IsBatched (nest_value o t)
+  value_batched None (object ms) = tt
+  value_batched (Some k) (object ms) =
+      object_batched k ms (record { steps = in_batched ms; branches = branches_in_batched ms; each = λ q. each_in_batched q ms; one = λ q. one_in_batched q ms })
+  value_batched None (word w) = tt
+  value_batched (Some k) (word w) = tt
+  value_batched o _ = tt
+
+  in_batched : (ms : Members) → AreBatched (nest_in ms)
+  in_batched no_members = tt
+  in_batched (member k t ms) = cond_both (is_spelled key.Steps k) (nest_list t) (nest_in ms) AreBatched (λ b. list_batched t) (λ b. in_batched ms)
+
+  inner_batched : (t : Json) → AreBatched (nest_inner t)
+  inner_batched (object ms) = in_batched ms
+  inner_batched _ = tt
+
+  branches_in_batched : (ms : Members) → GroupsBatched false (nest_branches_in ms)
+  branches_in_batched no_members = tt
+  branches_in_batched (member k t ms) = cond_both (is_spelled key.Steps k) (nest_branch_list t) (nest_branches_in ms) (GroupsBatched false) (λ b. branch_list_batched t) (λ b. branches_in_batched ms)
+
+  branch_list_batched : (t : Json) → GroupsBatched false (nest_branch_list t)
+  branch_list_batched (list ts) = branches_batched ts
+  branch_list_batched _ = tt
+
+  branches_batched : (ts : Items) → GroupsBatched false (nest_branches ts)
+  branches_batched no_items = tt
+  branches_batched (item t ts) = ((step_batched t, tt), branches_batched ts)
+
+  each_in_batched : (q : Key) (ms : Members) → GroupsBatched false (nest_each_in q ms)
+  each_in_batched q no_members = tt
+  each_in_batched q (member k t ms) = cond_both (is_spelled q k) (nest_each_list t) (nest_each_in q ms) (GroupsBatched false) (λ b. each_list_batched t) (λ b. each_in_batched q ms)
+
+  each_list_batched : (t : Json) → GroupsBatched false (nest_each_list t)
+  each_list_batched (list ts) = each_batched ts
+  each_list_batched _ = tt
+
+  each_batched : (ts : Items) → GroupsBatched false (nest_each ts)
+  each_batched no_items = tt
+  each_batched (item t ts) = (inner_batched t, each_batched ts)
+
+  one_in_batched : (q : Key) (ms : Members) → GroupsBatched false (nest_one_in q ms)
+  one_in_batched q no_members = tt
+  one_in_batched q (member k t ms) = cond_both (is_spelled q k) (group (nest_inner t) no_group) (nest_one_in q ms) (GroupsBatched false) (λ b. (inner_batched t, tt)) (λ b. one_in_batched q ms)
