@@ -9,7 +9,8 @@ use Rattle.eip_aggregator.specs.declared.closed.Arrived.{Arrived}
 use Rattle.eip_aggregator.specs.declared.closed.ArriveFault.{ArriveFault}
 use Rattle.eip_aggregator.specs.declared.closed.ArriveFault.TheVariants.{Unfit, NoMemory}
 use Rattle.eip_aggregator.specs.Arrivals.{Key, same_key, Arrival, Call, Came, Settings, Group, message_of, cause_at, cause_of, parts_of, next_begun, begun, next_number, number_of, group_of, numbered, open_at}
-use Rattle.eip_aggregator.specs.Tables.{Table, value_at, Puts, Stands, IsSetSo, IsFree, IsOf, count_in, message_in, grown, Grows, left_in, closed_by, added_at, Settles, Answers}
+use Rattle.eip_ordered.specs.Numbered.{value_at, Puts}
+use Rattle.eip_aggregator.specs.Tables.{Table, Stands, IsSetSo, IsFree, IsOf, count_in, message_in, grown, Grows, left_in, closed_by, added_at, Settles, Answers}
 use Rattle.eip_aggregator.proofs.Standing.{few_parts, few_begun, opened, open_key, message_at, grown_by, with_number, left_at_arrival, open_behind, stands_put, unused}
 
 -- ---- what the condition gives

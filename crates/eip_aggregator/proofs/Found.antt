@@ -3,7 +3,8 @@ use Rattle.std.proofs.Common.{◌≡◌, ℕ, ◌≤◌, inl, inr, Bool, true, f
 use Rattle.std.proofs.lemmas.Bool.{cases_Bool, and_parts}
 use Rattle.std.proofs.lemmas.Option.{none-some, same_Some}
 use Rattle.eip_aggregator.specs.Arrivals.{Key, same_key, Group}
-use Rattle.eip_aggregator.specs.Tables.{value_at, number_at, has_due, is_until, is_due_at, Puts, AreFound, IsFree, IsOf, IsLeastDue, Indexes, Times, Forgets}
+use Rattle.eip_ordered.specs.Numbered.{value_at, Puts}
+use Rattle.eip_aggregator.specs.Tables.{number_at, has_due, is_until, is_due_at, AreFound, IsFree, IsOf, IsLeastDue, Indexes, Times, Forgets}
 use Rattle.eip_aggregator.proofs.Keys.{key_same, same_of, other_key}
 
 -- ---- by key

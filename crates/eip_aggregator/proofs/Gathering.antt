@@ -9,8 +9,11 @@ use Rattle.std.proofs.lemmas.Bool.{cases_Bool, and_from, and_parts, lt-leb}
 use Rattle.std.proofs.lemmas.Cmp.{ranked}
 use Rattle.std.proofs.lemmas.Option.{none-some, same_Some}
 use Rattle.eip_aggregator.specs.Arrivals.{Key, Group, is_at_most}
-use Rattle.eip_aggregator.specs.Tables.{value_at, has_due, AreFound, is_picked, is_by, due_number, is_forced, group_number, passes}
-use Rattle.eip_aggregator.proofs.Lookups.{numbers_tied, by_moment, before_by, found}
+use Rattle.eip_ordered.specs.Numbered.{value_at}
+use Rattle.eip_aggregator.specs.Tables.{has_due, AreFound, is_picked, is_by, due_number, is_forced, group_number, passes}
+use Rattle.eip_ordered.proofs.Lookups.{numbers_tied, found}
+use Rattle.eip_ordered.proofs.Pairs.{by_first}
+use Rattle.eip_aggregator.proofs.Lookups.{before_by}
 use Rattle.eip_aggregator.proofs.Found.{due_some, some_due}
 
 -- what has been gathered, and what is picked of the rest, is what is picked of the whole list
@@ -111,30 +114,30 @@ due_numbers groups numbers dues t n found =
     let at = due_by t its.0.due its.2 in
     due_found t n at.0 dues at.2 (found.timed at.0 n ∙ some_due (value_at groups n) its.0 at.0 its.1 at.1))
 
-later : (t : ℕ) (e f : ℕ × ℕ) → t < e.0 → by_moment e f ≡ Less → t < f.0
+later : (t : ℕ) (e f : ℕ × ℕ) → t < e.0 → by_first e f ≡ Less → t < f.0
 later t e f late less =
     let order : e.0 ≤ f.0 = before_by (nat_cmp e.0 f.0) (nat_cmp e.1 f.1) e.0 f.0 e.1 f.1 (ranked e.0 f.0 (nat_cmp e.0 f.0) refl) (ranked e.1 f.1 (nat_cmp e.1 f.1) refl) (ap is_gt less) in
     omega arith
 
-none_later : (t : ℕ) (e : ℕ × ℕ) (rest : List (ℕ × ℕ)) → t < e.0 → AllByRecursion (λ f. by_moment e f ≡ Less) rest → (n : ℕ) → is_picked (is_by t) due_number rest n ≡ false
+none_later : (t : ℕ) (e : ℕ × ℕ) (rest : List (ℕ × ℕ)) → t < e.0 → AllByRecursion (λ f. by_first e f ≡ Less) rest → (n : ℕ) → is_picked (is_by t) due_number rest n ≡ false
 none_later t e [] late all n = refl
 none_later t e (f ∷ rest) late all n =
     ap (λ (b : Bool). (b && (f.1 == n)) || is_picked (is_by t) due_number rest n) (lt-leb f.0 t (later t e f late all.0))
     ∙ none_later t e rest late all.1 n
 
 -- behind a moment that is too late all are
-pub none_behind : (t : ℕ) (e : ℕ × ℕ) (rest left : List (ℕ × ℕ)) → t < e.0 → rest ≡ e ∷ left → IsStrictlySortedBy by_moment rest → (n : ℕ) → is_picked (is_by t) due_number rest n ≡ false
+pub none_behind : (t : ℕ) (e : ℕ × ℕ) (rest left : List (ℕ × ℕ)) → t < e.0 → rest ≡ e ∷ left → IsStrictlySortedBy by_first rest → (n : ℕ) → is_picked (is_by t) due_number rest n ≡ false
 unfolding IsStrictlySortedBy
 none_behind t e rest left late next sorted n =
-    let order = subst (λ (xs : List (ℕ × ℕ)). IsStrictlySortedBy by_moment xs) next sorted in
+    let order = subst (λ (xs : List (ℕ × ℕ)). IsStrictlySortedBy by_first xs) next sorted in
     ap (λ (xs : List (ℕ × ℕ)). is_picked (is_by t) due_number xs n) next
     ∙ ap (λ (b : Bool). (b && (e.1 == n)) || is_picked (is_by t) due_number left n) (lt-leb e.0 t late)
     ∙ none_later t e left late order.0 n
 
-pub sorted_left : (e : ℕ × ℕ) (rest left : List (ℕ × ℕ)) → rest ≡ e ∷ left → IsStrictlySortedBy by_moment rest → IsStrictlySortedBy by_moment left
+pub sorted_left : (e : ℕ × ℕ) (rest left : List (ℕ × ℕ)) → rest ≡ e ∷ left → IsStrictlySortedBy by_first rest → IsStrictlySortedBy by_first left
 unfolding IsStrictlySortedBy
 sorted_left e rest left next sorted =
-    let order = subst (λ (xs : List (ℕ × ℕ)). IsStrictlySortedBy by_moment xs) next sorted in
+    let order = subst (λ (xs : List (ℕ × ℕ)). IsStrictlySortedBy by_first xs) next sorted in
     order.1
 
 -- ---- groups

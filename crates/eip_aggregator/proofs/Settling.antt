@@ -3,7 +3,8 @@ use Rattle.std.proofs.Common.{◌≡◌, ℕ, Bool, true, false, cond, ◌==◌,
 use Rattle.eip_frames.specs.declared.answer.Completion.{Completion}
 use Rattle.eip_aggregator.specs.declared.closed.Arrived.{Arrived}
 use Rattle.eip_aggregator.specs.Arrivals.{Group}
-use Rattle.eip_aggregator.specs.Tables.{value_at, Puts, closed_as, Settles}
+use Rattle.eip_ordered.specs.Numbered.{value_at, Puts}
+use Rattle.eip_aggregator.specs.Tables.{closed_as, Settles}
 
 pub settles_closed : (old new : List (ℕ × Group)) (n : ℕ) (g : Group) (c : Option Completion) (cause : Completion) (r : Arrived) → Some cause ≡ c → Puts old new n None
     → r ≡ record { group = n; closed = Some (closed_as cause n g) } → Settles old new n g c (Ok r)

@@ -8,7 +8,8 @@ use Rattle.eip_route.specs.declared.step.Aggregate.{Aggregate}
 use Rattle.eip_strategy.specs.Adding.{added, IsReadyBody}
 use Rattle.eip_strategy.specs.Answers.{Answer}
 use Rattle.eip_aggregator.specs.Arrivals.{Key, same_key, Arrival, Call, Came, Ticked, Forced, Settings, Group, labelled, or_old, message_of, is_at_most, due_of, left_open, cause_of, parts_of, next_begun, begun, next_number, number_of, group_of, numbered, open_at}
-use Rattle.eip_aggregator.specs.Tables.{Table, value_at, Puts, Stands, message_in, grown, left_in, IsFirstDue, IsLeastDue}
+use Rattle.eip_ordered.specs.Numbered.{value_at, Puts}
+use Rattle.eip_aggregator.specs.Tables.{Table, Stands, message_in, grown, left_in, IsFirstDue, IsLeastDue}
 use Rattle.eip_aggregator.proofs.Keys.{key_same, same_of, other_key}
 
 -- ---- how many

@@ -11,8 +11,9 @@ use Rattle.eip_route.specs.declared.step.Aggregate.{Aggregate}
 use Rattle.eip_aggregator.specs.declared.closed.Closed.{Closed}
 use Rattle.eip_aggregator.specs.Arrivals.{Key, Arrival, Call, Ticked, Forced, Settings, Group, is_at_most, due_of, parts_of, number_of, group_of, numbered, open_at, begun}
 use Rattle.eip_aggregator.specs.declared.closed.OpenGroup.{OpenGroup}
-use Rattle.eip_aggregator.specs.Tables.{Table, value_at, Puts, Stands, closed_as, AreOpen, AreAsMany, Shows, ShowsBehind, IsBeyond, IsNext, AreClosed, passes, ArePassing, AllOpen, no_group, closing}
-use Rattle.eip_aggregator.proofs.Lookups.{numbers_tied}
+use Rattle.eip_ordered.specs.Numbered.{value_at, Puts}
+use Rattle.eip_aggregator.specs.Tables.{Table, Stands, closed_as, AreOpen, AreAsMany, Shows, ShowsBehind, IsBeyond, IsNext, AreClosed, passes, ArePassing, AllOpen, no_group, closing}
+use Rattle.eip_ordered.proofs.Lookups.{numbers_tied}
 use Rattle.eip_aggregator.proofs.Standing.{open_key}
 use Rattle.eip_aggregator.proofs.Gathering.{or_left, or_right, passing}
 

@@ -8,6 +8,8 @@ use Rattle.std.specs.Option.{unwrap_or}
 use Rattle.std.specs.BTreeSet.{BTreeSet, contains}
 use Rattle.eip_exchange.specs.declared.message.Message.{Message}
 use Rattle.eip_exchange.specs.Keys.{writes}
+use Rattle.eip_ordered.specs.Numbered.{value_at, Puts}
+use Rattle.eip_exchange.specs.declared.setting.Strategy.{Strategy}
 use Rattle.eip_frames.specs.declared.answer.Completion.{Completion}
 use Rattle.eip_route.specs.declared.step.Aggregate.{Aggregate}
 use Rattle.eip_strategy.specs.Adding.{added, IsReadyBody}
@@ -17,7 +19,7 @@ use Rattle.eip_aggregator.specs.declared.closed.ArriveFault.{ArriveFault}
 use Rattle.eip_aggregator.specs.declared.closed.ArriveFault.TheVariants.{Unfit, NoMemory}
 use Rattle.eip_aggregator.specs.declared.closed.Closed.{Closed}
 use Rattle.eip_aggregator.specs.declared.closed.OpenGroup.{OpenGroup}
-use Rattle.eip_aggregator.specs.Arrivals.{Key, same_key, Arrival, Call, Settings, Group, labelled, or_empty, size_cause, after, message_of, parts_of, begun, number_of, next_number, cause_of, group_of, open_at}
+use Rattle.eip_aggregator.specs.Arrivals.{Key, same_key, Arrival, Call, Settings, Group, labelled, or_empty, cause_at, after, message_of, parts_of, begun, number_of, next_number, cause_of, group_of, open_at}
 
 -- ---- tables
 
@@ -25,13 +27,6 @@ use Rattle.eip_aggregator.specs.Arrivals.{Key, same_key, Arrival, Call, Settings
 pub record Table : Type 0 where
   pub begun : ℕ
   pub open_groups : List (ℕ × Group)
-
-abbrev pub value_at : {X : Type 0} → List (ℕ × X) → ℕ → Option X
-value_at entries x = lookup (λ k. x == k) entries
-
--- the new table has w at a number, and all else as before
-abbrev pub Puts : {X : Type 0} → List (ℕ × X) → List (ℕ × X) → ℕ → Option X → Type 0
-Puts old new k w = (x : ℕ) → value_at new x ≡ (if k == x then w else value_at old x)
 
 -- a table has the open group of each key by its number, and no other, and what its strategy adds to can be added to
 pub record Stands (s : Settings) (calls : List Call) (t : Table) : Type 0 where
@@ -89,14 +84,18 @@ Grows a k o part hops at (Ok g) = (m : Message) × (added a.strategy (message_in
 Grows a k o part hops at (Err NoMemory) = Unit {0}
 Grows a k o part hops at (Err (Unfit f)) = added a.strategy (message_in o) part ≡ Err f
 
--- a group of a table grows by one more part, and has so many parts then
-pub record GrowsAt (a : Aggregate) (part : Message) (hops at number : ℕ) (old new : List (ℕ × Group)) (count : ℕ) : Type 0 where
+-- a message with one more part, which says that it is of so many, come by this key
+abbrev pub Takes : Strategy → ℕ → List ℕ → Message → Message → Message → Type 0
+Takes s n key old part new = (m : Message) × (added s (Some old) part ≡ Ok m) × (new ≡ labelled n key m)
+
+-- a group of a table grows by one more part, and this closes it then
+pub record GrowsAt (a : Aggregate) (p : Arrival) (number : ℕ) (old new : List (ℕ × Group)) (cause : Option Completion) : Type 0 where
   pub was : Group
   pub group : Group
   pub open_group : value_at old number ≡ Some was
-  pub grows : Grows a was.key (Some was) part hops at (Ok group)
+  pub grows : Grows a was.key (Some was) p.message p.hops p.at (Ok group)
   pub ready : IsReadyBody a.strategy group.message.body
-  pub counted : count ≡ group.count
+  pub caused : cause ≡ cause_at a group.message group.count p.number p.route
   pub puts : Puts old new number (Some group)
 
 -- a group can't grow by a part
@@ -127,14 +126,14 @@ abbrev pub Settles : List (ℕ × Group) → List (ℕ × Group) → ℕ → Gro
 Settles old new n g c (Ok r) = (r ≡ record { group = n; closed = closed_by c n g }) × Puts old new n (left_in c g)
 Settles old new n g c (Err e) = e ≡ NoMemory
 
--- a group of an aggregator without a predicate goes on with one more part, and is open or closed then
-pub record GoesOn (a : Aggregate) (part : Message) (hops at number : ℕ) (old new : List (ℕ × Group)) (r : Arrived) : Type 0 where
+-- a group goes on with one more part, and is open or closed then
+pub record GoesOn (a : Aggregate) (p : Arrival) (number : ℕ) (old new : List (ℕ × Group)) (r : Arrived) : Type 0 where
   pub was : Group
   pub group : Group
   pub open_group : value_at old number ≡ Some was
-  pub grows : Grows a was.key (Some was) part hops at (Ok group)
+  pub grows : Grows a was.key (Some was) p.message p.hops p.at (Ok group)
   pub ready : IsReadyBody a.strategy group.message.body
-  pub settles : Settles old new number group (size_cause a.size group.count) (Ok r)
+  pub settles : Settles old new number group (cause_at a group.message group.count p.number p.route) (Ok r)
 
 -- what an arrival that the strategy could add is answered: its group's number, and the group where the arrival closes it
 abbrev pub answer_at : Settings → List Call → Key → Arrival → Arrived

@@ -2,7 +2,8 @@
 ghost use Rattle.std.specs.Prelude.{◌≡◌, ◌<◌, ◌≤◌, ◌++◌, ℕ, [], ◌∷◌, length, map, IsSome, None, vec_len, vec_capacity, if◌then◌else◌};
 ghost use Rattle.std.specs.Ordering.{nat_cmp};
 ghost use Rattle.std.specs.BTreeSet.{contains};
-ghost use Rattle.eip_aggregator.specs.Tables.{value_at, Puts, AllOpen, closing};
+ghost use Rattle.eip_ordered.specs.Numbered.{value_at, Puts};
+ghost use Rattle.eip_aggregator.specs.Tables.{AllOpen, closing};
 
 use crate::closed::Closed;
 use crate::places::Places;

@@ -1,9 +1,9 @@
 ghost use Rattle.std.specs.Prelude.{◌≡◌, ◌<◌, max, IfOk, OnOk, IfErr, OnErr, Some, None, Ok, Err};
-ghost use Rattle.std.specs.Option.{option_copied};
 ghost use Rattle.eip_exchange.specs.Pairs.{put_property};
-ghost use Rattle.eip_strategy.specs.Adding.{added, kept, IsReady, IsReadyBody};
+ghost use Rattle.eip_strategy.specs.Adding.{added, kept, IsReadyBody};
+ghost use Rattle.eip_strategy.specs.Undoing.{Undoes};
 ghost use Rattle.eip_aggregator.specs.Arrivals.{labels, labelled, closes, cause_at, size_cause, after};
-ghost use Rattle.eip_aggregator.specs.Tables.{count_in, hops_in, message_in, closed_as, Adds, Grows};
+ghost use Rattle.eip_aggregator.specs.Tables.{closed_as, Adds, Takes, Grows};
 
 use crate::closed::{ArriveFault, Closed};
 use crate::key::GroupKey;
@@ -12,10 +12,11 @@ use eip_frames::Completion;
 use eip_route::Aggregate;
 use eip_simple::{View, holds};
 use eip_simple_read::Predicate;
-use eip_strategy::{StrategyFault, add, add_in_place};
+use eip_strategy::{StrategyFault, Undo, add, add_in_place};
 use eip_text::{NoMemory, Text, decimal};
 use std::alloc::Global;
 use std::marker::Model;
+use std::mem::replace;
 
 /// A group that is open: its message so far, and what its closing asks for.
 #[derive(Drop)]
@@ -82,33 +83,44 @@ impl KeptGroup {
         }
     }
 
-    /// Takes one more part in, which came with so many hops at this moment; the body grows where it stands. On a fault the
-    /// group stays as it was. `Unfit` exactly where the strategy can't add the part.
+    /// Takes one more part in, which came from the exchange of this number in this route, with so many hops and at this
+    /// moment; the body grows where it stands. It is answered what closes the group with it. On a fault the group stays as it
+    /// was. `Unfit` exactly where the strategy can't add the part.
     pub fn grow(
         &mut self,
         alloc: Global,
         setting: &Aggregate,
         part: &Message,
         hops: u32,
+        number: u64,
+        route: &Text,
         tick: u64,
-    ) -> Result<(), ArriveFault>
+    ) -> Result<Option<Completion>, ArriveFault>
         requires ready { IsReadyBody setting.now.strategy self.old.message.body }
         requires fits { self.old.count < 18446744073709551615 }
         ensures ok { OnOk result (Grows setting.now self.old.key (Some self.old) part.now hops tick (Ok self.new)) }
+        ensures cause { IfOk result (λ c. c ≡ cause_at setting.now self.new.message self.new.count number route.now) }
         ensures fault { IfErr result (λ e. Grows setting.now self.old.key (Some self.old) part.now hops tick (Err e)) }
         ensures err { OnErr result (self.new ≡ self.old) }
         ensures ready { OnOk result (IsReadyBody setting.now.strategy self.new.message.body) }
     {
         let count = self.count + 1;
-        let kept = kept(&setting.strategy, &self.message, part);
-        let properties = labels(alloc, &kept.properties, count, self.key.text())?;
-        take_in(alloc, &setting.strategy, &mut self.message, part)?;
-        self.message.properties = properties;
+        let key = self.key.text();
+        let cause = take_part(
+            alloc,
+            setting,
+            &mut self.message,
+            key,
+            count,
+            part,
+            number,
+            route,
+        )?;
         self.count = count;
         self.hops = greater(hops, self.hops);
         self.due = due_behind(tick, setting.timeout);
         self.force = setting.force;
-        Ok(())
+        Ok(cause)
     }
 
     /// What closes it with its last part, which came from the exchange of this number in this route.
@@ -121,11 +133,26 @@ impl KeptGroup {
     ) -> Result<Option<Completion>, NoMemory>
         ensures { IfOk result (λ c. c ≡ cause_at setting.now self.now.message self.now.count number route.now) }
     {
-        if is_met(alloc, &setting.predicate, &self.message, number, route)? {
-            return Ok(Some(Completion::Predicate));
-        }
-        Ok(size_cause(setting.size, self.count))
+        cause_at(alloc, setting, &self.message, self.count, number, route)
     }
+}
+
+/// What closes a group of so many parts with this message, the last of which came from the exchange of this number in this
+/// route.
+fn cause_at(
+    alloc: Global,
+    setting: &Aggregate,
+    message: &Message,
+    count: u64,
+    number: u64,
+    route: &Text,
+) -> Result<Option<Completion>, NoMemory>
+    ensures { IfOk result (λ c. c ≡ cause_at setting.now message.now count number route.now) }
+{
+    if is_met(alloc, &setting.predicate, message, number, route)? {
+        return Ok(Some(Completion::Predicate));
+    }
+    Ok(size_cause(setting.size, count))
 }
 
 /// Whether there is a predicate and it holds of the message.
@@ -152,7 +179,7 @@ fn is_met(
     }
 }
 
-pub fn size_cause(size: Option<u32>, count: u64) -> Option<Completion>
+fn size_cause(size: Option<u32>, count: u64) -> Option<Completion>
     ensures { result ≡ size_cause size count }
 {
     match size {
@@ -161,79 +188,40 @@ pub fn size_cause(size: Option<u32>, count: u64) -> Option<Completion>
     }
 }
 
-/// The group of this key with one more part, which came with so many hops at this moment, or a new group of it. What is
-/// handed in stays. `Unfit` exactly where the strategy can't add the part.
-pub fn grown(
+/// A group of this key with its first part, which came with so many hops at this moment. `Unfit` exactly where the strategy
+/// can't begin with it.
+pub fn first(
     alloc: Global,
     setting: &Aggregate,
     key: &GroupKey,
-    old: Option<&KeptGroup>,
     part: &Message,
     hops: u32,
     tick: u64,
 ) -> Result<KeptGroup, ArriveFault>
-    requires ready { IsReady setting.now.strategy (message_in (option_copied old)) }
-    requires fits { count_in (option_copied old) < 18446744073709551615 }
-    ensures grows { Grows setting.now key.now (option_copied old.entry) part.now hops tick result }
+    ensures grows { Grows setting.now key.now None part.now hops tick result }
     ensures ready { IfOk result (λ g. IsReadyBody setting.now.strategy g.message.body) }
 {
-    let message = added(alloc, &setting.strategy, old, part)?;
-    let count = count_in(old) + 1;
-    let message = labelled(alloc, message, count, key.text())?;
+    let message = begun(alloc, &setting.strategy, part)?;
+    let message = labelled(alloc, message, 1, key.text())?;
     Ok(KeptGroup {
         key: key.copy()?,
         message,
-        count,
-        hops: greater(hops, hops_in(old)),
+        count: 1,
+        hops: greater(hops, 0),
         due: due_behind(tick, setting.timeout),
         force: setting.force,
     })
 }
 
-/// What the strategy makes of a group's message and one more part.
-fn added(
-    alloc: Global,
-    strategy: &Strategy,
-    old: Option<&KeptGroup>,
-    part: &Message,
-) -> Result<Message, ArriveFault>
-    requires { IsReady strategy.now (message_in (option_copied old)) }
-    ensures adds { Adds (added strategy.now (message_in (option_copied old.entry)) part.now) result }
+/// What the strategy makes of a first part.
+fn begun(alloc: Global, strategy: &Strategy, part: &Message) -> Result<Message, ArriveFault>
+    ensures adds { Adds (added strategy.now None part.now) result }
     ensures ready { IfOk result (λ m. IsReadyBody strategy.now m.body) }
 {
-    let so_far = message_in(alloc, old)?;
-    match add(alloc, strategy, so_far, part) {
+    match add(alloc, strategy, None, part) {
         Ok(message) => Ok(message),
         Err(StrategyFault::NoMemory) => Err(ArriveFault::NoMemory),
         Err(fault) => Err(ArriveFault::Unfit(fault)),
-    }
-}
-
-/// A copy of a group's message, since the strategy drops what it can't add to.
-fn message_in(alloc: Global, old: Option<&KeptGroup>) -> Result<Option<Message>, NoMemory>
-    ensures { IfOk result (λ m. m ≡ message_in (option_copied old.entry)) }
-{
-    match old {
-        None => Ok(None),
-        Some(group) => Ok(Some(group.message.copy(alloc)?)),
-    }
-}
-
-fn count_in(old: Option<&KeptGroup>) -> u64
-    ensures { result ≡ count_in (option_copied old.entry) }
-{
-    match old {
-        None => 0,
-        Some(group) => group.count,
-    }
-}
-
-fn hops_in(old: Option<&KeptGroup>) -> u32
-    ensures { result ≡ hops_in (option_copied old.entry) }
-{
-    match old {
-        None => 0,
-        Some(group) => group.hops,
     }
 }
 
@@ -300,21 +288,55 @@ fn kept<'a>(strategy: &Strategy, old: &'a Message, new: &'a Message) -> &'a Mess
     }
 }
 
+/// A group's message takes one more part in where it stands, and says of how many parts it is then. It is answered what
+/// closes the group with it. On a fault the message stays: where there is no memory for the answer, the part is taken out.
+fn take_part(
+    alloc: Global,
+    setting: &Aggregate,
+    message: &mut Message,
+    key: &Text,
+    count: u64,
+    part: &Message,
+    number: u64,
+    route: &Text,
+) -> Result<Option<Completion>, ArriveFault>
+    requires { IsReadyBody setting.now.strategy message.old.body }
+    ensures ok { OnOk result (Takes setting.now.strategy count key.now message.old part.now message.new) }
+    ensures cause { IfOk result (λ c. c ≡ cause_at setting.now message.new count number route.now) }
+    ensures fault { IfErr result (λ e. Adds (added setting.now.strategy (Some message.old) part.now) (Err e)) }
+    ensures err { OnErr result (message.new ≡ message.old) }
+    ensures ready { OnOk result (IsReadyBody setting.now.strategy message.new.body) }
+{
+    let kept = kept(&setting.strategy, message, part);
+    let properties = labels(alloc, &kept.properties, count, key)?;
+    let undo = take_in(alloc, &setting.strategy, message, part)?;
+    let unlabelled = replace(&mut message.properties, properties);
+    match cause_at(alloc, setting, message, count, number, route) {
+        Ok(cause) => Ok(cause),
+        Err(_) => {
+            message.properties = unlabelled;
+            undo.apply(alloc, message);
+            Err(ArriveFault::NoMemory)
+        }
+    }
+}
+
 /// What the strategy makes of a group's message and one more part, in the place of the message. On a fault it stays.
 fn take_in(
     alloc: Global,
     strategy: &Strategy,
     message: &mut Message,
     part: &Message,
-) -> Result<(), ArriveFault>
+) -> Result<Undo, ArriveFault>
     requires { IsReadyBody strategy.now message.old.body }
     ensures ok { OnOk result (added strategy.now (Some message.old) part.now ≡ Ok message.new) }
+    ensures undo { IfOk result (λ u. Undoes u message.old message.new) }
     ensures fault { IfErr result (λ e. Adds (added strategy.now (Some message.old) part.now) (Err e)) }
     ensures err { OnErr result (message.new ≡ message.old) }
     ensures ready { OnOk result (IsReadyBody strategy.now message.new.body) }
 {
     match add_in_place(alloc, strategy, message, part) {
-        Ok(()) => Ok(()),
+        Ok(undo) => Ok(undo),
         Err(StrategyFault::NoMemory) => Err(ArriveFault::NoMemory),
         Err(fault) => Err(ArriveFault::Unfit(fault)),
     }

@@ -1,12 +1,13 @@
 ghost use Rattle.std.specs.Prelude.{◌≡◌, ◌<◌, ◌+◌, List, [], ◌∷◌, IfOk, OnOk, IfErr, OnErr, IsSome, Some, None};
 ghost use Rattle.eip_strategy.specs.Adding.{IsReady};
 ghost use Rattle.eip_aggregator.specs.Arrivals.{Call, Came, Ticked, Forced, Settings, cause_at, is_at_most};
-ghost use Rattle.eip_aggregator.specs.Tables.{value_at, Stands, IsSetSo, IsFree, IsOf, IsFirstDue, closed_as, count_in, message_in, GoesOn, IsRefused, Settles, Answers, AreAsMany, ShowsBehind, AreClosed};
+ghost use Rattle.eip_ordered.specs.Numbered.{value_at};
+ghost use Rattle.eip_aggregator.specs.Tables.{Stands, IsSetSo, IsFree, IsOf, IsFirstDue, closed_as, count_in, message_in, GoesOn, IsRefused, Settles, Answers, AreAsMany, ShowsBehind, AreClosed};
 ghost use Rattle.eip_frames.specs.declared.answer.Completion.TheVariants as by;
 
 use crate::closed::{ArriveFault, Arrived, Closed, OpenGroup};
 use crate::closing::close_all;
-use crate::group::{KeptGroup, grown, size_cause};
+use crate::group::{KeptGroup, first};
 use crate::key::GroupKey;
 use crate::places::Places;
 use eip_exchange::Message;
@@ -67,18 +68,10 @@ impl Groups {
         let key = GroupKey::of(setting.block, key)?;
         match self.places.find(&key) {
             None => {
-                let group = grown(self.alloc, setting, &key, None, part, hops, tick)?;
+                let group = first(self.alloc, setting, &key, part, hops, tick)?;
                 self.begin(setting, group, number, route)
             }
-            Some(place) => match &setting.predicate {
-                None => self.grow(setting, place, part, hops, tick),
-                Some(_) => {
-                    // The predicate may want memory, and the old group has to stay then.
-                    let old = self.places.get(place);
-                    let group = grown(self.alloc, setting, &key, old, part, hops, tick)?;
-                    self.go_on(setting, place, group, number, route)
-                }
-            },
+            Some(place) => self.go_on(setting, place, part, hops, number, route, tick),
         }
     }
 
@@ -112,54 +105,27 @@ impl Groups {
         }
     }
 
-    /// An arrival goes on with a group, which it may close.
-    #[tactic(auto, using(crate::proofs::Settling::settles_closed, crate::proofs::Settling::settles_open, crate::proofs::Settling::puts_none))]
+    /// An arrival goes on with a group, where it stands, and may close it.
     fn go_on(
-        &mut self,
-        setting: &Aggregate,
-        place: u64,
-        group: KeptGroup,
-        number: u64,
-        route: &Text,
-    ) -> Result<Arrived, ArriveFault>
-        requires { IsOf self.old.open_groups group.key place }
-        ensures same { self.new.begun ≡ self.old.begun }
-        ensures settles { Settles self.old.open_groups self.new.open_groups place group (cause_at setting.now group.message group.count number route.now) result }
-        ensures err { OnErr result (self.new ≡ self.old) }
-    {
-        match group.cause(self.alloc, setting, number, route)? {
-            Some(cause) => {
-                drop(self.places.close(place));
-                Ok(closed_at(place, group, cause))
-            }
-            None => {
-                self.places.replace(place, group)?;
-                Ok(open_at(place))
-            }
-        }
-    }
-
-    /// An arrival goes on with a group of an aggregator without a predicate, where it stands, and may close it.
-    fn grow(
         &mut self,
         setting: &Aggregate,
         place: u64,
         part: &Message,
         hops: u32,
+        number: u64,
+        route: &Text,
         tick: u64,
     ) -> Result<Arrived, ArriveFault>
         requires there { IsSome (value_at self.old.open_groups place) }
         requires ready { IsReady setting.now.strategy (message_in (value_at self.old.open_groups place)) }
         requires fits { count_in (value_at self.old.open_groups place) < 18446744073709551615 }
         ensures same { self.new.begun ≡ self.old.begun }
-        ensures ok { IfOk result (λ r. GoesOn setting.now part.now hops tick place self.old.open_groups self.new.open_groups r) }
+        ensures ok { IfOk result (λ r. GoesOn setting.now (record { number = number; route = route.now; hops = hops; at = tick; message = part.now }) place self.old.open_groups self.new.open_groups r) }
         ensures fault { IfErr result (λ e. IsRefused setting.now part.now hops tick (value_at self.old.open_groups place) e) }
         ensures err { OnErr result (self.new ≡ self.old) }
     {
-        let count = self
-            .places
-            .grow(self.alloc, setting, place, part, hops, tick)?;
-        match size_cause(setting.size, count) {
+        let places = &mut self.places;
+        match places.grow(self.alloc, setting, place, part, hops, number, route, tick)? {
             Some(cause) => match self.places.close(place) {
                 Some(group) => Ok(closed_at(place, group, cause)),
                 None => unreachable!(),

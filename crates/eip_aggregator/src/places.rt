@@ -3,18 +3,20 @@ ghost use Rattle.std.specs.Ordering.{nat_cmp};
 ghost use Rattle.std.specs.BTreeMap.{get};
 ghost use Rattle.std.specs.List.{All};
 ghost use Rattle.std.specs.List.Sorted.{IsStrictlySortedBy};
-ghost use Rattle.std.specs.Option.{option_copied};
 ghost use Rattle.indexmap.specs.IndexMap.{spare};
 ghost use Rattle.eip_strategy.specs.Adding.{IsReady};
+ghost use Rattle.eip_ordered.specs.Numbered.{value_at, Puts};
 ghost use Rattle.eip_aggregator.specs.Arrivals.{Group, is_at_most};
-ghost use Rattle.eip_aggregator.specs.Tables.{value_at, Puts, IsFree, IsOf, IsLeastDue, Times, Forgets, Indexes, count_in, message_in, GrowsAt, IsRefused, IsDueOf, IsBeyond, IsNext, ArePicked, is_by, due_number, is_forced, group_number, ArePassing};
+ghost use Rattle.eip_aggregator.specs.Tables.{IsFree, IsOf, IsLeastDue, Times, Forgets, Indexes, count_in, message_in, GrowsAt, IsRefused, IsDueOf, IsBeyond, IsNext, ArePicked, is_by, due_number, is_forced, group_number, ArePassing};
 
 use crate::closed::ArriveFault;
 use crate::group::{KeptGroup, due_behind};
 use crate::key::GroupKey;
 use eip_exchange::Message;
+use eip_frames::Completion;
+use eip_ordered::{put, take};
 use eip_route::Aggregate;
-use eip_text::NoMemory;
+use eip_text::{NoMemory, Text};
 use indexmap::IndexMap;
 use std::alloc::Global;
 use std::collections::{BTreeMap, BTreeSet};
@@ -70,13 +72,6 @@ impl Places {
         Some(*number)
     }
 
-    /// The group of this number.
-    pub fn get(&self, number: u64) -> Option<&KeptGroup>
-        ensures { option_copied result ≡ value_at self.now number }
-    {
-        self.groups.get(&number)
-    }
-
     /// The first moment at which a group is due.
     pub fn due(&self) -> Option<u64>
         ensures { IsLeastDue self.now result }
@@ -96,7 +91,7 @@ impl Places {
         let due = group.due();
         make_room(&mut self.numbers)?;
         add_due(&mut self.dues, due, number)?;
-        if let Err(refused) = insert_group(&mut self.groups, number, group) {
+        if let Err(refused) = put(&mut self.groups, number, group) {
             remove_due(&mut self.dues, due, number);
             return Err(refused);
         }
@@ -104,21 +99,8 @@ impl Places {
         Ok(())
     }
 
-    /// The open group of this number becomes another of the same key.
-    pub fn replace(&mut self, number: u64, group: KeptGroup) -> Result<(), NoMemory>
-        requires { IsOf self.old group.key number }
-        ensures ok { OnOk result (Puts self.old self.new number (Some group)) }
-        ensures err { OnErr result (self.new ≡ self.old) }
-    {
-        let due = group.due();
-        add_due(&mut self.dues, due, number)?;
-        let old = replace_group(&mut self.groups, number, group);
-        forget_due(&mut self.dues, old.due(), due, number);
-        Ok(())
-    }
-
-    /// The open group of this number takes one more part in, which came with so many hops at this moment. It is answered how
-    /// many parts the group has then. On a fault all stays as it was.
+    /// The open group of this number takes one more part in, which came from the exchange `from` in this route, with so many
+    /// hops and at this moment. It is answered what closes the group with it. On a fault all stays as it was.
     pub fn grow(
         &mut self,
         alloc: Global,
@@ -126,22 +108,27 @@ impl Places {
         number: u64,
         part: &Message,
         hops: u32,
+        from: u64,
+        route: &Text,
         tick: u64,
-    ) -> Result<u64, ArriveFault>
+    ) -> Result<Option<Completion>, ArriveFault>
         requires there { IsSome (value_at self.old number) }
         requires ready { IsReady setting.now.strategy (message_in (value_at self.old number)) }
         requires fits { count_in (value_at self.old number) < 18446744073709551615 }
-        ensures ok { IfOk result (λ count. GrowsAt setting.now part.now hops tick number self.old self.new count) }
+        ensures ok { IfOk result (λ cause. GrowsAt setting.now (record { number = from; route = route.now; hops = hops; at = tick; message = part.now }) number self.old self.new cause) }
         ensures fault { IfErr result (λ e. IsRefused setting.now part.now hops tick (value_at self.old number) e) }
         ensures err { OnErr result (self.new ≡ self.old) }
     {
         let due = due_behind(tick, setting.timeout);
         let old = due_of(&self.groups, number);
         add_due(&mut self.dues, due, number)?;
-        match grow_group(&mut self.groups, alloc, setting, number, part, hops, tick) {
-            Ok(count) => {
+        let groups = &mut self.groups;
+        match grow_group(
+            groups, alloc, setting, number, part, hops, from, route, tick,
+        ) {
+            Ok(cause) => {
                 forget_due(&mut self.dues, old, due, number);
-                Ok(count)
+                Ok(cause)
             }
             Err(fault) => {
                 forget_due(&mut self.dues, due, old, number);
@@ -155,7 +142,7 @@ impl Places {
         ensures group { result ≡ value_at self.old number }
         ensures rest { Puts self.old self.new number None }
     {
-        let group = remove_group(&mut self.groups, number)?;
+        let group = take(&mut self.groups, number)?;
         remove_number(&mut self.numbers, group.key());
         remove_due(&mut self.dues, group.due(), number);
         Some(group)
@@ -229,18 +216,6 @@ fn numbers_forced(
     Ok(numbers)
 }
 
-fn insert_group(
-    groups: &mut BTreeMap<u64, KeptGroup>,
-    number: u64,
-    group: KeptGroup,
-) -> Result<(), NoMemory>
-    ensures ok { OnOk result (Puts groups.old.entries groups.new.entries number (Some group)) }
-    ensures err { OnErr result (groups.new.entries ≡ groups.old.entries) }
-{
-    drop(groups.insert(number, group)?);
-    Ok(())
-}
-
 /// When the group of this number is due.
 fn due_of(groups: &BTreeMap<u64, KeptGroup>, number: u64) -> Option<u64>
     requires { IsSome (value_at groups.now.entries number) }
@@ -260,42 +235,21 @@ fn grow_group(
     number: u64,
     part: &Message,
     hops: u32,
+    from: u64,
+    route: &Text,
     tick: u64,
-) -> Result<u64, ArriveFault>
+) -> Result<Option<Completion>, ArriveFault>
     requires there { IsSome (value_at groups.old.entries number) }
     requires ready { IsReady setting.now.strategy (message_in (value_at groups.old.entries number)) }
     requires fits { count_in (value_at groups.old.entries number) < 18446744073709551615 }
-    ensures ok { IfOk result (λ count. GrowsAt setting.now part.now hops tick number groups.old.entries groups.new.entries count) }
+    ensures ok { IfOk result (λ cause. GrowsAt setting.now (record { number = from; route = route.now; hops = hops; at = tick; message = part.now }) number groups.old.entries groups.new.entries cause) }
     ensures fault { IfErr result (λ e. IsRefused setting.now part.now hops tick (value_at groups.old.entries number) e) }
     ensures err { OnErr result (groups.new.entries ≡ groups.old.entries) }
 {
     match groups.get_mut(&number) {
-        Some(group) => {
-            group.grow(alloc, setting, part, hops, tick)?;
-            Ok(group.count())
-        }
+        Some(group) => group.grow(alloc, setting, part, hops, from, route, tick),
         None => unreachable!(),
     }
-}
-
-/// Puts a group in the place of the one that is there, without memory.
-fn replace_group(groups: &mut BTreeMap<u64, KeptGroup>, number: u64, group: KeptGroup) -> KeptGroup
-    requires { IsSome (value_at groups.old.entries number) }
-    ensures old { Some result ≡ value_at groups.old.entries number }
-    ensures new { Puts groups.old.entries groups.new.entries number (Some group) }
-{
-    match groups.insert(number, group) {
-        Ok(Some(old)) => old,
-        _ => unreachable!(),
-    }
-}
-
-fn remove_group(groups: &mut BTreeMap<u64, KeptGroup>, number: u64) -> Option<KeptGroup>
-    ensures group { result ≡ value_at groups.old.entries number }
-    ensures rest { Puts groups.old.entries groups.new.entries number None }
-    ensures none { IfNone result (groups.new.entries ≡ groups.old.entries) }
-{
-    groups.remove(&number)
 }
 
 fn make_room(numbers: &mut IndexMap<GroupKey, u64>) -> Result<(), NoMemory>

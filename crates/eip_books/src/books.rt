@@ -6,6 +6,7 @@ ghost use Rattle.eip_ledger.specs.declared.place.Place.TheVariants.{Ready, InHan
 ghost use Rattle.eip_history.specs.Place.{ready_numbers, place};
 ghost use Rattle.eip_history.specs.Rules.{May, first, IsBelow, outside_asked};
 ghost use Rattle.eip_history.specs.Stop.{stop_of, is_over};
+ghost use Rattle.eip_plan.specs.Simple.{AnswersSimply};
 ghost use Rattle.eip_tables.specs.declared.asking.Asked.TheVariants.{Unknown};
 ghost use Rattle.eip_history.specs.Texts.{notes};
 ghost use Rattle.eip_history.specs.Tables.{without};
@@ -125,6 +126,7 @@ impl Books {
     pub fn journal(&self) -> &Journal
         ensures journal { result.now ≡ self.now.journal }
         ensures legal { IsLegalRun self.now }
+        ensures simple { AnswersSimply self.now.journal.past }
     {
         &self.journal
     }
@@ -408,7 +410,9 @@ impl Books {
                 self.finish(worker, number)?;
                 Ok(Inner::Did)
             }
-            Asked::Outside | Asked::Unknown => Ok(Inner::Outside),
+            Asked::Outside => Ok(Inner::Outside),
+            Asked::Other => Err(NoMemory),
+            Asked::Unknown => unreachable!(),
         }
     }
 
@@ -585,6 +589,7 @@ impl Books {
     pub fn stop(&self) -> Option<Stop>
         ensures stop { result ≡ stop_of (plan self.now) self.now.journal.turns self.now.journal.past }
         ensures legal { IsLegalRun self.now }
+        ensures simple { AnswersSimply self.now.journal.past }
     {
         let over = self.is_over();
         let limit = u64::from(self.journal.turns());

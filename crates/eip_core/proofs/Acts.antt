@@ -1,5 +1,5 @@
 -- One act of the plain schedule, by the entries that it makes.
-use Rattle.std.proofs.Common.{◌≡◌, ◌≢◌, ℕ, ◌<◌, ◌≤◌, Bool, true, false, IsTrue, List, [], ◌∷◌, ◌++◌, Option, Some, None, map, refl, sym, ap, subst, ◌∙◌, eq-eqb}
+use Rattle.std.proofs.Common.{◌≡◌, ◌≢◌, ℕ, ◌<◌, ◌≤◌, Bool, true, false, IsTrue, List, [], ◌∷◌, ◌++◌, Option, Some, None, refl, sym, ap, subst, ◌∙◌, eq-eqb}
 use Rattle.std.specs.List.{slice_get}
 use Rattle.std.proofs.lemmas.List.{append-nil}
 use Rattle.eip_exchange.specs.declared.birth.Origin.{Origin}
@@ -30,7 +30,8 @@ use Rattle.eip_history.specs.Stop.{stop_of, is_of, actor, TheSource, TheExchange
 use Rattle.eip_history.proofs.Limit.{source-after, not-same}
 use Rattle.eip_history.proofs.Allowed.{waits-below}
 use Rattle.eip_plan.specs.Plan.{plan_of}
-use Rattle.eip_plan.proofs.Laws.{plan-laws, plan-simple}
+use Rattle.eip_plan.specs.Simple.{AnswersSimply}
+use Rattle.eip_plan.proofs.Laws.{plan-laws}
 use Rattle.eip_books.specs.View.{BooksView, plan, IsLegalRun, Adds, AddsNone}
 use Rattle.eip_tables.specs.declared.asking.Inner.TheVariants.{Did}
 use Rattle.eip_tables.specs.Places.{inner_of}
@@ -50,6 +51,7 @@ along P a h = rw (a.same.set, a.same.workers, a.same.turns, a.past) h
 pub rests-none : {u v : BooksView} → AddsNone u v → Rests u → Rests v
 rests-none a r = record {
   legal = along (λ s w l p. IsLegal (plan_of s) w l p) a r.legal;
+  simple = along (λ s w l p. AnswersSimply p) a r.simple;
   home = along (λ s w l p. hands (plan_of s) p ≡ 0) a r.home;
   waits = along (λ s w l p. stop_of (plan_of s) l p ≡ None) a r.waits;
 }
@@ -62,7 +64,7 @@ rests-below v r = (waits-below (plan v) v.journal.workers v.journal.turns v.jour
 -- with nobody Ready some source may be pulled
 pub pullable : (v : BooksView) → Rests v → first (ready_numbers (plan v) v.journal.past) ≡ None → (t : ℕ) × May (plan v) v.journal.turns v.journal.past 0 (Pull t)
 pullable v r nobody =
-    let n = next-source (plan v) (plan-laws v.set) (plan-simple v.set) v.journal.workers v.journal.turns v.journal.past r.legal.entries r.home r.waits nobody in
+    let n = next-source (plan v) v.journal.workers v.journal.turns v.journal.past r.legal.entries r.simple (plan-laws v.set) r.home r.waits nobody in
     (n.0, first-pullable (plan v) v.journal.turns 0 v.journal.past n.0 r.home (rests-below v r) n.1)
 
 -- the source that was pulled
@@ -102,7 +104,8 @@ pulled-out {u} {v} {t} p =
 
 first-actor : {u v : BooksView} {t : ℕ} → Pulled u v t → actor (plan u) u.journal.past ≡ TheSource t
 first-actor {u} {v} {t} p =
-    actor-source (plan u) u.journal.past t p.rests.home p.nobody (none-startable (plan u) (plan-simple u.set) u.journal.past)
+    actor-source (plan u) u.journal.past t p.rests.home p.nobody
+    (none-startable (plan u) u.journal.workers u.journal.turns u.journal.past p.rests.legal.entries p.rests.simple)
     (unfinished-first (plan u) u.journal.turns 0 u.journal.past t p.rests.home p.may p.least)
 
 pulled-legal : {u v : BooksView} {t : ℕ} → Pulled u v t → KeepsRules (plan u) u.journal.workers u.journal.turns ((record { worker = 0; kind = Pull t }) ∷ u.journal.past)

@@ -1,4 +1,5 @@
 pub mod Actors
+pub mod Handed
 pub mod Progress
 pub mod Quiet
 pub mod Compose

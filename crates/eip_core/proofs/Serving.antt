@@ -38,8 +38,8 @@ use Rattle.eip_plan.proofs.Laws.{plan-laws}
 use Rattle.eip_books.specs.View.{BooksView, plan, IsLegalRun, Adds}
 use Rattle.eip_tables.specs.Outside.{is_among, with_number, IsAsked}
 use Rattle.eip_core.specs.Doors.{doors_of, HasLanes, TellsNone}
-use Rattle.eip_core.specs.Outside.{seen_answers, calls_sent, IsSendable}
-use Rattle.eip_core.specs.Drain.{Acts, Chosen, Drains, Progresses, Rests, doors}
+use Rattle.eip_core.specs.Outside.{seen_answers, calls_sent, is_of_registry, IsSendable}
+use Rattle.eip_core.specs.Drain.{Acts, Chosen, Drains, Progresses, doors}
 use Rattle.eip_core.proofs.Actors.{actor-taken}
 use Rattle.eip_core.proofs.Progress.{progress-one, progress-trans}
 use Rattle.eip_core.proofs.Home.{hand-take, back-answer, back-starve}
@@ -198,13 +198,15 @@ acts-given_up {u} {v} {w} {n} t adds legal =
 
 -- ---- the call
 
--- what is asked behind the Take is a send to one of the lanes
-pub taken-sendable : {u v : BooksView} {n : ℕ} {q : Request} (lanes : List (List ℕ)) → Taken u v n q → HasLanes u.set lanes → TellsNone u.set → is_outside q ≡ true → IsSendable lanes q
-taken-sendable {u} {v} {n} {q} lanes t has none outside =
+-- what is asked behind the Take, of the outside and not of the registry, is a send to one of the lanes
+pub taken-sendable : {u v : BooksView} {n : ℕ} {q : Request} (lanes : List (List ℕ)) → Taken u v n q → HasLanes u.set lanes → TellsNone u.set → is_outside q ≡ true
+    → is_of_registry q ≡ false → IsSendable lanes q
+taken-sendable {u} {v} {n} {q} lanes t has none outside other =
     let k = t.asks.0 in
     let o : is_outside k.request ≡ true = ap is_outside t.asks.1.1 ∙ outside in
+    let r : is_of_registry k.request ≡ false = ap is_of_registry t.asks.1.1 ∙ other in
     subst (IsSendable lanes) t.asks.1.1
-    (asked-sendable lanes v.set (subst (λ (s : RouteSet). HasLanes s lanes) (sym t.adds.same.set) has) (subst TellsNone (sym t.adds.same.set) none) v.journal.past n k t.asks.1.0 o)
+    (asked-sendable lanes v.set (subst (λ (s : RouteSet). HasLanes s lanes) (sym t.adds.same.set) has) (subst TellsNone (sym t.adds.same.set) none) v.journal.past n k t.asks.1.0 o r)
 
 -- the answer that is entered for what a call came to
 abbrev pub answer_of : Result Unit SendFault → Reply

@@ -1,15 +1,13 @@
 -- By which inlet the source of a route is read, and by which lane a target is sent to.
-use Rattle.std.specs.Prelude.{ℕ, ◌≡◌, false, List, [], ◌∷◌, ◌++◌, Option, Some, None, IsSome, codes, slice_get}
+use Rattle.std.specs.Prelude.{ℕ, ◌≡◌, true, false, List, [], Option, Some, None, IsSome, slice_get}
 use Rattle.eip_uri.specs.Inlets.{inlet_of}
 use Rattle.eip_uri.specs.Printed.{printed}
-use Rattle.eip_uri.specs.declared.uri.Uri.TheVariants as uri
-use Rattle.eip_route.specs.declared.step.Step.{Step}
-use Rattle.eip_route.specs.declared.step.Step.TheVariants as step
+use Rattle.eip_route.specs.Goals.{is_among}
 use Rattle.eip_route.specs.declared.route.Route.{Route}
 use Rattle.eip_route.specs.declared.route.RouteSet.{RouteSet}
 use Rattle.eip_endpoint.specs.Lanes.{first_named}
 use Rattle.eip_endpoint.specs.Outside.{Doors, lane_of}
-use Rattle.eip_meaning.specs.Meaning.{steps_of, is_told_route}
+use Rattle.eip_meaning.specs.Meaning.{is_told_route}
 use Rattle.eip_history.specs.Rules.{IsSource}
 use Rattle.eip_plan.specs.Plan.{plan_of}
 
@@ -39,15 +37,9 @@ doors_of set lanes inlets = record {
 abbrev pub HasInlets : RouteSet → List (List ℕ) → Type 0
 HasInlets set inlets = (t : ℕ) → IsSource (plan_of set) t → IsSome (inlet_at inlets (slice_get set.routes t))
 
--- each lane that one of these steps sends to is among lanes of these names
-abbrev pub SendsWithin : List (List ℕ) → List Step → Type 0
-SendsWithin lanes [] = Unit {0}
-SendsWithin lanes (step.To (uri.Lane name) ∷ ss) = IsSome (first_named (codes "lane:" ++ name) lanes) × SendsWithin lanes ss
-SendsWithin lanes (s ∷ ss) = SendsWithin lanes ss
-
--- each lane that the set sends to is handed in
+-- each lane that the set names is handed in
 abbrev pub HasLanes : RouteSet → List (List ℕ) → Type 0
-HasLanes set lanes = (block : ℕ) → SendsWithin lanes (steps_of set block)
+HasLanes set lanes = (name : List ℕ) → is_among name set.names.lanes ≡ true → IsSome (first_named name lanes)
 
 -- no source of the set is to be told how its exchanges end: none reads files that are moved or deleted
 abbrev pub TellsNone : RouteSet → Type 0

@@ -11,6 +11,7 @@ use Rattle.eip_history.specs.Place.{hands, ready_numbers}
 use Rattle.eip_history.specs.Rules.{Served, served, first}
 use Rattle.eip_history.specs.Stop.{stop_of, actor, is_of}
 use Rattle.eip_history.specs.Work.{work}
+use Rattle.eip_plan.specs.Simple.{AnswersSimply}
 use Rattle.eip_books.specs.View.{BooksView, plan, IsLegalRun, IsSameRun}
 use Rattle.eip_core.specs.Doors.{CanRun, doors_of}
 use Rattle.eip_core.specs.Outside.{seen_answers, inlet_acts}
@@ -30,6 +31,7 @@ CanDrain v ls is = CanRun v.set (lane_names ls) (inlet_names is)
 -- a run that goes on, with no hand out
 pub record Rests (v : BooksView) : Type 0 where
   pub legal : IsLegalRun v
+  pub simple : AnswersSimply v.journal.past
   pub home : hands (plan v) v.journal.past ≡ 0
   pub waits : stop_of (plan v) v.journal.turns v.journal.past ≡ None
 

@@ -1,5 +1,5 @@
 -- What lanes and inlets see of a small history, computed.
-use Rattle.std.specs.Prelude.{◌≡◌, ℕ, true, false, List, [], ◌∷◌, Some, map, codes, refl}
+use Rattle.std.specs.Prelude.{◌≡◌, true, false, [], ◌∷◌, Some, map, codes, refl}
 use Rattle.eip_exchange.specs.declared.birth.Origin.TheVariants as from
 use Rattle.eip_exchange.specs.declared.end.End.TheVariants as end
 use Rattle.eip_frames.specs.declared.request.Request.TheVariants as request

@@ -1,7 +1,7 @@
 -- What the entries of a journal say that inlets and lanes did.
-use Rattle.std.specs.Prelude.{ℕ, List, [], ◌∷◌, ◌++◌, Option, Some, None, IsSome, Result, Bool, false, bytes_eq, map}
+use Rattle.std.specs.Prelude.{ℕ, List, [], ◌∷◌, ◌++◌, Option, Some, None, IsSome, Result, Bool, true, false, bytes_eq, map}
 use Rattle.eip_frames.specs.declared.request.Request.{Request}
-use Rattle.eip_frames.specs.declared.request.Request.TheVariants.{Send}
+use Rattle.eip_frames.specs.declared.request.Request.TheVariants.{Send, Process, Test}
 use Rattle.eip_ledger.specs.declared.entry.Kind.{Kind}
 use Rattle.eip_ledger.specs.declared.entry.Kind.TheVariants.{Accept, Refuse, SourceEnd, SourceFault}
 use Rattle.eip_ledger.specs.declared.entry.Refused.{Refused as Cause}
@@ -48,6 +48,12 @@ abbrev pub inlet_acts : Doors → Past → List Served → List InletAct
 inlet_acts d behind vs = pulls d behind ++ commits d (seen_answers vs)
 
 -- ---- one call
+
+-- a processor or a predicate of the registry is asked
+abbrev pub is_of_registry : Request → Bool
+is_of_registry (Process name m) = true
+is_of_registry (Test name m) = true
+is_of_registry _ = false
 
 -- a send to a lane that is among lanes of these names
 abbrev pub IsSendable : List (List ℕ) → Request → Type 0

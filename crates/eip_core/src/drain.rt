@@ -7,7 +7,7 @@ ghost use Rattle.eip_books.specs.View.{plan, IsLegalRun};
 ghost use Rattle.eip_tables.specs.Outside.{is_among};
 ghost use Rattle.eip_core.specs.Drain.{Acts, CanDrain, Chosen, Drains, IsStop, Rests};
 
-use crate::outside::{pull_source, refused, send};
+use crate::outside::{is_of_registry, pull_source, refused, send};
 use crate::registry::Registry;
 use eip_endpoint::{Inlets, Lanes, PullFault, Pulled, SendFault};
 use eip_frames::Answer;
@@ -43,8 +43,9 @@ fn pull_once<L: Lanes, I: Inlets>(
     Ok(())
 }
 
-/// Has the request of the least Ready exchange, which is one of the outside, answered by its lane. The exchange is in hand for
-/// the time of the call, which takes no memory from the hub, so the answer of a call that was made is always entered.
+/// Has the request of the least Ready exchange, which is one of the outside, answered by its lane, or gives the exchange up where
+/// the registry is asked. The exchange is in hand for the time of the call, which takes no memory from the hub, so the answer of a
+/// call that was made is always entered.
 fn serve<L: Lanes, I: Inlets>(hub: &mut Hub, lanes: &mut L, inlets: &mut I, number: u64)
     requires chosen { Chosen hub.old number }
     requires known { is_among number hub.old.outside ≡ true }
@@ -58,6 +59,11 @@ fn serve<L: Lanes, I: Inlets>(hub: &mut Hub, lanes: &mut L, inlets: &mut I, numb
     let Some(ticket) = hub.take(0) else {
         unreachable!()
     };
+    if is_of_registry(&ticket.request) {
+        // The registry has no processors and predicates yet, so nobody can answer.
+        hub.give_up(ticket);
+        return;
+    }
     match send(lanes, &ticket.request) {
         Ok(()) => hub.settle(ticket, Answer::Done),
         Err(SendFault::Failed) => hub.settle(ticket, Answer::SendFailed),

@@ -6,7 +6,7 @@ ghost use Rattle.eip_endpoint.specs.Lanes.{LanesGrew, first_named, lane_names};
 ghost use Rattle.eip_endpoint.specs.Inlets.{InletsGrew, acts_of_pull, inlet_names};
 ghost use Rattle.eip_endpoint.specs.Outside.{acts_by, lane_of};
 ghost use Rattle.eip_core.specs.Doors.{inlet_at, uri_at};
-ghost use Rattle.eip_core.specs.Outside.{refusal_of, IsSendable, calls_sent, is_rest};
+ghost use Rattle.eip_core.specs.Outside.{refusal_of, is_of_registry, IsSendable, calls_sent, is_rest};
 
 use eip_endpoint::{Inlets, Lanes, PullFault, Pulled, Refusal, SendFault, find_inlet};
 use eip_frames::{Request, Target};
@@ -51,7 +51,7 @@ fn serves(name: &Text, target: &Target) -> bool
 }
 
 /// Whether what stands behind the word is this name.
-pub fn is_rest(rest: Option<&str>, name: &str) -> bool
+fn is_rest(rest: Option<&str>, name: &str) -> bool
     ensures { result ≡ is_rest (option_map (λ r. r.now) rest.entry) name.now }
 {
     match rest {
@@ -71,6 +71,16 @@ fn find_lane_of<L: Lanes>(lanes: &L, target: &Target) -> Option<usize>
         }
     }
     None
+}
+
+/// Whether a processor or a predicate of the registry is asked.
+pub fn is_of_registry(request: &Request) -> bool
+    ensures { result ≡ is_of_registry request.now }
+{
+    match request {
+        Request::Process { .. } | Request::Test { .. } => true,
+        _ => false,
+    }
 }
 
 /// Makes the call that a Send asks for, on the first lane of the target's name.

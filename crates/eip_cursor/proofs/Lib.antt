@@ -1,1 +1,9 @@
-pub mod Fitting
+mod Falling
+mod Faulting
+mod Fitting
+mod Following
+mod Keeping
+mod Staying
+mod Trying
+mod Turning
+mod Weighing

@@ -1,20 +1,31 @@
-ghost use Rattle.std.specs.Prelude.{◌≡◌, ◌++◌, List, [], ◌∷◌, IfOk, OnOk, OnErr, MatchOption};
+ghost use Rattle.std.specs.Prelude.{◌≡◌, ◌≢◌, ◌++◌, false, List, [], ◌∷◌, IfOk, OnOk, OnErr, MatchOption};
+ghost use Rattle.eip_uri.specs.declared.fault.UriFault.TheVariants.{NoMemory as NoMemoryLeft};
 ghost use Rattle.eip_route.specs.declared.route.RouteSet.{RouteSet as ARouteSet};
 ghost use Rattle.eip_frames.specs.Fate.{Fate as AFate};
 ghost use Rattle.eip_frames.specs.declared.answer.Answer.{Answer as AnAnswer};
 ghost use Rattle.eip_frames.specs.declared.request.At.{At as APlace};
-ghost use Rattle.eip_meaning.specs.Meaning.{mean, scene_of, id_of, is_told, is_told_origin, item_of};
-ghost use Rattle.eip_progress.specs.Rest.{rest, IsFirst, asked_at, pause_mean, next_fate, answers_of, AnswerFits};
+ghost use Rattle.eip_uri.specs.Reading.{read};
+ghost use Rattle.eip_cursor.specs.Follows.{Follows};
+ghost use Rattle.std.specs.Option.{option_map};
+ghost use Rattle.eip_meaning.specs.Meaning.{mean, item_of, work_mean, send_to};
+ghost use Rattle.eip_progress.specs.Rest.{rest, rest_of, now_mean, IsFirst, IsStarting, asked_at, state_place, next_fate, answers_of, AnswerFits};
 
-use crate::run::{end_answered, finishing, run, step_answered};
-use eip_exchange::{Birth, End, Origin, Work};
-use eip_frames::{Answer, At};
-use eip_meaning::Scene;
-use eip_progress::{Cursor, Next, Pause, State};
+use crate::answers::on_answer;
+use crate::asked::asked;
+use crate::attempts::begin_whole;
+use crate::copies::copy_frames;
+use crate::ends::{end_answered, is_told_origin};
+use crate::parts::{between_parts, is_between};
+use crate::turns::run;
+use eip_exchange::{Birth, End, Message, Work};
+use eip_frames::{Answer, Request};
+use eip_meaning::Context;
+use eip_progress::{Cursor, Frame, Next, Now, State};
 use eip_route::RouteSet;
 use eip_text::{NoMemory, Text};
-use eip_uri::{After, Uri};
+use eip_uri::{Uri, UriFault};
 use std::alloc::Global;
+use std::mem;
 
 /// What runs an exchange: it is made of a birth, and goes from one request of its route to the next.
 pub trait Advance: Sized {
@@ -43,6 +54,14 @@ pub trait Advance: Sized {
         ensures err { OnErr result (self.new ≡ self.old) };
 }
 
+/// Where a cursor comes to: the endpoint of a send that is its whole work, the frames, and the state.
+#[derive(Drop)]
+struct Reached {
+    whole: Option<Uri>,
+    stack: Vec<Frame>,
+    state: State,
+}
+
 impl Advance for Cursor {
     ghost is_first = { IsFirst };
 
@@ -53,9 +72,11 @@ impl Advance for Cursor {
     #[tactic(auto, unfolding(eip_progress::specs::Rest::IsFirst, eip_progress::specs::Rest::rest, eip_meaning::specs::Meaning::mean))]
     fn start(alloc: Global, birth: Birth, set: &RouteSet) -> Result<Cursor, NoMemory> {
         Ok(Cursor {
-            scene: scene_of(alloc, set, &birth)?,
+            context: Context::of(&birth),
             commit: is_told_origin(set, &birth.origin),
             origin: birth.origin,
+            whole: None,
+            stack: Vec::new(alloc),
             state: State::Starting(birth.work, birth.message),
         })
     }
@@ -67,10 +88,135 @@ impl Advance for Cursor {
         set: &RouteSet,
         answer: Option<&Answer>,
     ) -> Result<Next, NoMemory> {
-        let (pause, next) = following(self, alloc, set, answer)?;
-        self.state = State::Paused(pause);
-        Ok(next)
+        match in_turn(self, alloc, set, answer)? {
+            Some(next) => Ok(next),
+            None => by_turns(self, alloc, set, answer),
+        }
     }
+}
+
+/// From one part of a sequential fan-out to the next, where no more has to be done. The cost is that of the two parts.
+fn in_turn(
+    cursor: &mut Cursor,
+    alloc: Global,
+    set: &RouteSet,
+    answer: Option<&Answer>,
+) -> Result<Option<Next>, NoMemory>
+    requires { MatchOption answer (IsFirst cursor.old) (λ a. (IsFirst cursor.old → ⊥) × AnswerFits (rest set.now cursor.old []) a.now) }
+    ensures ok { IfOk result (λ o. MatchOption o (cursor.new ≡ cursor.old) (λ n. Follows set.now cursor.old (answers_of answer.entry) cursor.new n)) }
+    ensures err { OnErr result (cursor.new ≡ cursor.old) }
+{
+    match answer {
+        Some(answer) => {
+            if is_in_turn(&cursor.state) {
+                answered_in_turn(cursor, alloc, set, answer)
+            } else {
+                Ok(None)
+            }
+        }
+        None => Ok(None),
+    }
+}
+
+fn is_in_turn(state: &State) -> bool {
+    match state {
+        State::Runs(wait) => is_between(wait),
+        State::Starting(..) | State::Finishing(..) | State::Over(..) => false,
+    }
+}
+
+fn answered_in_turn(
+    cursor: &mut Cursor,
+    alloc: Global,
+    set: &RouteSet,
+    answer: &Answer,
+) -> Result<Option<Next>, NoMemory>
+    requires { AnswerFits (rest set.now cursor.old []) answer.now }
+    ensures ok { IfOk result (λ o. MatchOption o (cursor.new ≡ cursor.old) (λ n. Follows set.now cursor.old (answer.now ∷ []) cursor.new n)) }
+    ensures err { OnErr result (cursor.new ≡ cursor.old) }
+{
+    let state = mem::replace(&mut cursor.state, nothing(alloc));
+    match state {
+        State::Runs(wait) => match between_parts(alloc, set, wait, answer) {
+            Ok(moved) => {
+                drop(mem::replace(&mut cursor.state, State::Runs(moved.wait)));
+                Ok(next_of(moved.asked))
+            }
+            Err(wait) => {
+                drop(mem::replace(&mut cursor.state, State::Runs(wait)));
+                Err(NoMemory)
+            }
+        },
+        state => {
+            drop(mem::replace(&mut cursor.state, state));
+            Ok(None)
+        }
+    }
+}
+
+fn next_of(asked: Option<Request>) -> Option<Next>
+    ensures { result ≡ option_map (λ q. Next.Asks q) asked }
+{
+    match asked {
+        Some(request) => Some(Next::Asks(request)),
+        None => None,
+    }
+}
+
+/// The state of no exchange. It takes no memory.
+fn nothing(alloc: Global) -> State {
+    State::Over(
+        End::Completed,
+        Message::of_body(alloc, Text::of(String::new(alloc))),
+    )
+}
+
+/// By turns of the steps up to the next request; what they take is a copy.
+#[tactic(auto, unfolding(eip_progress::specs::Rest::rest, eip_progress::specs::Rest::IsFirst, eip_progress::specs::Rest::asked_at))]
+fn by_turns(
+    cursor: &mut Cursor,
+    alloc: Global,
+    set: &RouteSet,
+    answer: Option<&Answer>,
+) -> Result<Next, NoMemory>
+    requires { MatchOption answer (IsFirst cursor.old) (λ a. (IsFirst cursor.old → ⊥) × AnswerFits (rest set.now cursor.old []) a.now) }
+    ensures ok { IfOk result (λ n. Follows set.now cursor.old (answers_of answer.entry) cursor.new n) }
+    ensures err { OnErr result (cursor.new ≡ cursor.old) }
+{
+    let (reached, next) = coming(cursor, alloc, set, answer)?;
+    put(cursor, reached);
+    Ok(next)
+}
+
+/// Where a cursor comes to, and what it asks there.
+fn coming(
+    cursor: &Cursor,
+    alloc: Global,
+    set: &RouteSet,
+    answer: Option<&Answer>,
+) -> Result<(Reached, Next), NoMemory>
+    requires { MatchOption answer (IsFirst cursor.now) (λ a. (IsFirst cursor.now → ⊥) × AnswerFits (rest set.now cursor.now []) a.now) }
+    ensures rest { IfOk result (λ r. (A : List AnAnswer) → rest_of set.now cursor.now.commit (item_of cursor.now.origin) cursor.now.context r.0.whole r.0.stack.items r.0.state A ≡ rest set.now cursor.now (answers_of answer.entry ++ A)) }
+    ensures asks { IfOk result (λ r. rest_of set.now cursor.now.commit (item_of cursor.now.origin) cursor.now.context r.0.whole r.0.stack.items r.0.state [] ≡ next_fate (state_place cursor.now.context r.0.state) r.1) }
+    ensures later { IfOk result (λ r. IsStarting r.0.state → ⊥) }
+{
+    let reached = following(cursor, alloc, set, answer)?;
+    match asked(alloc, cursor.commit, &reached.state) {
+        Ok(next) => Ok((reached, next)),
+        Err(NoMemory) => {
+            drop(reached);
+            Err(NoMemory)
+        }
+    }
+}
+
+/// The cursor stands there.
+fn put(cursor: &mut Cursor, reached: Reached)
+    ensures { cursor.new ≡ record cursor.old { whole = reached.whole; stack = reached.stack; state = reached.state } }
+{
+    drop(mem::replace(&mut cursor.whole, reached.whole));
+    drop(mem::replace(&mut cursor.stack, reached.stack));
+    drop(mem::replace(&mut cursor.state, reached.state));
 }
 
 /// What comes next.
@@ -79,37 +225,99 @@ fn following(
     alloc: Global,
     set: &RouteSet,
     answer: Option<&Answer>,
-) -> Result<(Pause, Next), NoMemory>
+) -> Result<Reached, NoMemory>
     requires { MatchOption answer (IsFirst cursor.now) (λ a. (IsFirst cursor.now → ⊥) × AnswerFits (rest set.now cursor.now []) a.now) }
-    ensures rest { IfOk result (λ r. (A : List AnAnswer) → pause_mean set.now cursor.now.commit (item_of cursor.now.origin) cursor.now.scene r.0 A ≡ rest set.now cursor.now (answers_of answer.entry ++ A)) }
-    ensures asks { IfOk result (λ r. pause_mean set.now cursor.now.commit (item_of cursor.now.origin) cursor.now.scene r.0 [] ≡ next_fate cursor.now.scene.place r.1) }
+    ensures rest { IfOk result (λ r. (A : List AnAnswer) → rest_of set.now cursor.now.commit (item_of cursor.now.origin) cursor.now.context r.whole r.stack.items r.state A ≡ rest set.now cursor.now (answers_of answer.entry ++ A)) }
+    ensures later { IfOk result (λ r. IsStarting r.state → ⊥) }
 {
     match answer {
-        None => first(cursor, alloc, set),
+        None => opened(cursor, alloc, set),
         Some(answer) => answered(cursor, alloc, set, answer),
     }
 }
 
-/// The first request.
+/// Up to the first request.
 #[tactic(auto, unfolding(eip_progress::specs::Rest::rest, eip_progress::specs::Rest::IsFirst))]
-fn first(cursor: &Cursor, alloc: Global, set: &RouteSet) -> Result<(Pause, Next), NoMemory>
+fn opened(cursor: &Cursor, alloc: Global, set: &RouteSet) -> Result<Reached, NoMemory>
     requires { IsFirst cursor.now }
-    ensures rest { IfOk result (λ r. (A : List AnAnswer) → pause_mean set.now cursor.now.commit (item_of cursor.now.origin) cursor.now.scene r.0 A ≡ rest set.now cursor.now A) }
-    ensures asks { IfOk result (λ r. pause_mean set.now cursor.now.commit (item_of cursor.now.origin) cursor.now.scene r.0 [] ≡ next_fate cursor.now.scene.place r.1) }
+    ensures rest { IfOk result (λ r. (A : List AnAnswer) → rest_of set.now cursor.now.commit (item_of cursor.now.origin) cursor.now.context r.whole r.stack.items r.state A ≡ rest set.now cursor.now A) }
+    ensures later { IfOk result (λ r. IsStarting r.state → ⊥) }
 {
     let State::Starting(work, message) = &cursor.state else {
         unreachable!()
     };
+    let frames = copy_frames(alloc, &cursor.stack)?;
     let message = message.copy(alloc)?;
+    let first = begun(alloc, set, cursor.context, work, message)?;
+    let last = run(alloc, set, frames, first.1)?;
+    Ok(Reached {
+        whole: first.0,
+        stack: last.0,
+        state: last.1,
+    })
+}
+
+/// The work of a birth begins.
+fn begun(
+    alloc: Global,
+    set: &RouteSet,
+    context: Context,
+    work: &Work,
+    message: Message,
+) -> Result<(Option<Uri>, Now), NoMemory>
+    ensures { IfOk result (λ r. (A : List AnAnswer) → now_mean set.now r.0 r.1 A ≡ work_mean set.now context work.now message A) }
+{
     match work {
-        Work::Block(block) => {
-            let reached = run(alloc, set, &cursor.scene, cursor.commit, *block, 0, message)?;
-            Ok(reached)
+        Work::Block(block) => Ok((
+            None,
+            Now::Enters {
+                context,
+                block: *block,
+                message,
+            },
+        )),
+        Work::To(text) => {
+            let begun = sent(alloc, set, context, text, message)?;
+            Ok(begun)
         }
-        Work::To(_) => {
-            let reached = finishing(alloc, cursor.commit, End::Completed, message)?;
-            Ok(reached)
+    }
+}
+
+/// One send to the endpoint that a text names; a text that names none is no send.
+fn sent(
+    alloc: Global,
+    set: &RouteSet,
+    context: Context,
+    text: &Text,
+    message: Message,
+) -> Result<(Option<Uri>, Now), NoMemory>
+    ensures { IfOk result (λ r. (A : List AnAnswer) → now_mean set.now r.0 r.1 A ≡ send_to set.now context (read text.now []) message A) }
+{
+    match Uri::read(alloc, text, &[]) {
+        Ok(uri) => {
+            let whole = Some(uri);
+            let now = begin_whole(alloc, set, &whole, context, 1000, message)?;
+            Ok((whole, now))
         }
+        Err(fault) => {
+            if is_want_of_memory(&fault) {
+                return Err(NoMemory);
+            }
+            Ok((None, Now::Goes(message)))
+        }
+    }
+}
+
+fn is_want_of_memory(fault: &UriFault) -> bool
+    ensures { result ≡ false → fault.now ≢ NoMemoryLeft }
+{
+    match fault {
+        UriFault::NoMemory => true,
+        UriFault::UnknownScheme
+        | UriFault::BadUri(_)
+        | UriFault::UnknownOption(_)
+        | UriFault::BadOption(_)
+        | UriFault::DoubleOption(_) => false,
     }
 }
 
@@ -120,89 +328,50 @@ fn answered(
     alloc: Global,
     set: &RouteSet,
     answer: &Answer,
-) -> Result<(Pause, Next), NoMemory>
+) -> Result<Reached, NoMemory>
     requires later { IsFirst cursor.now → ⊥ }
     requires fits { AnswerFits (rest set.now cursor.now []) answer.now }
-    ensures rest { IfOk result (λ r. (A : List AnAnswer) → pause_mean set.now cursor.now.commit (item_of cursor.now.origin) cursor.now.scene r.0 A ≡ rest set.now cursor.now (answer.now ∷ A)) }
-    ensures asks { IfOk result (λ r. pause_mean set.now cursor.now.commit (item_of cursor.now.origin) cursor.now.scene r.0 [] ≡ next_fate cursor.now.scene.place r.1) }
+    ensures rest { IfOk result (λ r. (A : List AnAnswer) → rest_of set.now cursor.now.commit (item_of cursor.now.origin) cursor.now.context r.whole r.stack.items r.state A ≡ rest set.now cursor.now (answer.now ∷ A)) }
+    ensures later { IfOk result (λ r. IsStarting r.state → ⊥) }
 {
-    let State::Paused(pause) = &cursor.state else {
-        unreachable!()
-    };
-    match pause {
-        Pause::Asked {
-            block,
-            index,
-            message,
-        } => {
-            let message = message.copy(alloc)?;
-            let reached = step_answered(
+    let frames = copy_frames(alloc, &cursor.stack)?;
+    let whole = copy_whole(alloc, &cursor.whole)?;
+    match &cursor.state {
+        State::Runs(wait) => {
+            let now = on_answer(alloc, set, &whole, wait, answer)?;
+            let last = run(alloc, set, frames, now)?;
+            Ok(Reached {
+                whole,
+                stack: last.0,
+                state: last.1,
+            })
+        }
+        State::Finishing(end, message) => {
+            let origin = &cursor.origin;
+            let state = end_answered(
                 alloc,
-                set,
-                &cursor.scene,
                 cursor.commit,
-                *block,
-                *index,
+                origin,
+                cursor.context,
+                end,
                 message,
                 answer,
             )?;
-            Ok(reached)
+            Ok(Reached {
+                whole,
+                stack: frames,
+                state,
+            })
         }
-        Pause::Finishing(end, message) => {
-            let reached = end_answered(alloc, cursor.commit, &cursor.origin, end, message, answer)?;
-            Ok(reached)
-        }
-        Pause::Over(_, _) => unreachable!(),
+        State::Starting(_, _) | State::Over(_, _) => unreachable!(),
     }
 }
 
-/// For whom and where the steps of a birth run.
-fn scene_of(alloc: Global, set: &RouteSet, birth: &Birth) -> Result<Scene, NoMemory>
-    ensures { IfOk result (λ s. s ≡ scene_of set.now birth.now) }
+fn copy_whole(alloc: Global, whole: &Option<Uri>) -> Result<Option<Uri>, NoMemory>
+    ensures { IfOk result (λ u. u ≡ whole.now) }
 {
-    Ok(Scene {
-        place: At {
-            route: birth.route,
-            depth: birth.depth,
-            index: 0,
-        },
-        number: birth.number,
-        route: id_of(alloc, set, birth.route)?,
-    })
-}
-
-/// The id of the route with this index.
-fn id_of(alloc: Global, set: &RouteSet, route: u32) -> Result<Text, NoMemory>
-    ensures { IfOk result (λ t. t ≡ id_of set.now route) }
-{
-    match set.routes.items().get(route as usize) {
-        Some(found) => found.id.copy(),
-        None => Text::of_str(alloc, ""),
+    match whole {
+        Some(uri) => Ok(Some(uri.copy(alloc)?)),
+        None => Ok(None),
     }
-}
-
-/// Whether the source of an exchange is told of its end.
-fn is_told_origin(set: &RouteSet, origin: &Origin) -> bool
-    ensures { result ≡ is_told_origin set.now origin.now }
-{
-    match origin {
-        Origin::Source { route, .. } => match set.routes.items().get(*route as usize) {
-            Some(found) => is_told(&found.from),
-            None => false,
-        },
-        _ => false,
-    }
-}
-
-/// Whether an endpoint's items are told of the end of their exchange: files that are deleted or moved (Camel manual, *File*).
-fn is_told(from: &Uri) -> bool
-    ensures { result ≡ is_told from.now }
-{
-    matches!(
-        from,
-        Uri::File {
-            after: After::Delete | After::Move(_),
-            ..
-        }
-    )
 }

@@ -8,6 +8,7 @@ use Rattle.eip_history.specs.Stop.{open_groups}
 use Rattle.eip_history.specs.BookText.{line_of_group, groups_text}
 use Rattle.eip_history.proofs.TextSteps.{groups-all}
 use Rattle.eip_plan.specs.Plan.{plan_of}
+use Rattle.eip_plan.specs.Simple.{AnswersSimply}
 use Rattle.eip_plan.proofs.OpenGroups.{no-open-groups}
 
 -- one more line behind what was there
@@ -21,6 +22,7 @@ pub six-joined : (old a b c d e f r1 r2 r3 r4 r5 r6 : List ℕ) → r1 ≡ old +
     → r6 ≡ old ++ (a ++ (b ++ (c ++ (d ++ (e ++ f)))))
 six-joined old a b c d e f r1 r2 r3 r4 r5 r6 e1 e2 e3 e4 e5 e6 = rw (e6, e5, e4, e3, e2, e1) (simp append_assoc)
 
--- a run of a route set has no lines of groups
-pub no-group-lines : (set : RouteSet) (workers limit : ℕ) (past : Past) → KeepsRules (plan_of set) workers limit past → groups_text (plan_of set) past (length (open_groups (plan_of set) past)) ≡ []
-no-group-lines set workers limit past legal = groups-all (plan_of set) past ∙ ap (flat_map line_of_group) (no-open-groups set workers limit past legal)
+-- where nothing but simple requests is answered, there are no lines of groups
+pub no-group-lines : (set : RouteSet) (workers limit : ℕ) (past : Past) → KeepsRules (plan_of set) workers limit past → AnswersSimply past
+    → groups_text (plan_of set) past (length (open_groups (plan_of set) past)) ≡ []
+no-group-lines set workers limit past legal simple = groups-all (plan_of set) past ∙ ap (flat_map line_of_group) (no-open-groups set workers limit past legal simple)

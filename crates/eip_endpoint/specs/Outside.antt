@@ -1,12 +1,12 @@
 -- What the answers to the requests of exchanges say that lanes and inlets did.
-use Rattle.std.specs.Prelude.{ℕ, true, ◌++◌, codes, List, [], ◌∷◌, Option, Some, None}
+use Rattle.std.specs.Prelude.{ℕ, true, List, [], ◌∷◌, Option, Some, None}
 use Rattle.std.specs.List.{flat_map}
 use Rattle.eip_exchange.specs.declared.birth.Origin.{Origin}
 use Rattle.eip_exchange.specs.declared.birth.Origin.TheVariants as from
 use Rattle.eip_exchange.specs.declared.end.End.{End}
 use Rattle.eip_exchange.specs.declared.message.Message.{Message}
+pub use Rattle.eip_frames.specs.Targets.{lane_of}
 use Rattle.eip_frames.specs.declared.request.Target.{Target}
-use Rattle.eip_frames.specs.declared.request.Target.TheVariants as target
 use Rattle.eip_frames.specs.declared.request.Request.{Request}
 use Rattle.eip_frames.specs.declared.request.Request.TheVariants.{Send, Finish}
 use Rattle.eip_frames.specs.declared.answer.Answer.{Answer as Reply}
@@ -31,12 +31,6 @@ pub record Doors : Type 0 where
   pub inlet : ℕ → Option ℕ
   pub uri : ℕ → List ℕ
   pub lane : Target → Option ℕ
-
--- the name of the lane that a target is sent on
-abbrev pub lane_of : Target → List ℕ
-lane_of (target.File folder name exist) = codes "file"
-lane_of (target.Line host port) = codes "line"
-lane_of (target.Lane name) = codes "lane:" ++ name
 
 -- ---- lanes
 

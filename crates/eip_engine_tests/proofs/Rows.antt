@@ -10,8 +10,7 @@ has-inlets zero source = refl
 has-inlets (suc t) source = absurd (let g = source.1 in cc g)
 
 has-lanes : HasLanes logging []
-has-lanes zero = tt
-has-lanes (suc block) = tt
+has-lanes name h = absurd (cc h)
 
 tells-none : TellsNone logging
 tells-none zero = refl

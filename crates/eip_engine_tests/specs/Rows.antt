@@ -3,7 +3,7 @@ use Rattle.std.specs.Prelude.{[], ◌∷◌, codes}
 use Rattle.eip_uri.specs.declared.uri.Uri.TheVariants as uri
 use Rattle.eip_route.specs.declared.step.Step.TheVariants as step
 use Rattle.eip_route.specs.declared.route.RouteSet.{RouteSet}
-use Rattle.eip_route.specs.Built.{no_names, plain_handler}
+use Rattle.eip_route.specs.Plain.{no_names, plain_handler}
 
 abbrev pub logging : RouteSet
 logging = record {

@@ -34,8 +34,8 @@ fn names_kind(clause: &Clause, kind: &str) -> bool
         .any(|name| last_segment(name.as_str()) == kind)
 }
 
-/// What stands behind the last dot.
-fn last_segment(name: &str) -> &str
+/// What stands behind the last dot of a name.
+pub fn last_segment(name: &str) -> &str
     ensures { result.now ≡ spec.last_segment name.now }
 {
     let mut rest = name;

@@ -4,5 +4,5 @@
 mod choice;
 mod redelivery;
 
-pub use choice::choose;
+pub use choice::{choose, last_segment};
 pub use redelivery::{delay, may_retry, merged};

@@ -9,6 +9,7 @@ ghost use Rattle.eip_history.specs.Stop.{stop_of};
 ghost use Rattle.eip_history.specs.Texts.{notes};
 ghost use Rattle.eip_history.specs.Tables.{without};
 ghost use Rattle.eip_frames.specs.Fits.{fits, is_outside};
+ghost use Rattle.eip_plan.specs.Simple.{AnswersSimply};
 ghost use Rattle.eip_tables.specs.declared.asking.Inner.TheVariants.{Did, Outside};
 ghost use Rattle.eip_books.specs.View.{plan, IsLegalRun, Adds, AddsNone, AddsAnswer};
 ghost use Rattle.eip_tables.specs.Places.{inner_of};
@@ -69,6 +70,7 @@ impl Hub {
     pub fn journal(&self) -> &Journal
         ensures journal { result.now ≡ self.now.journal }
         ensures legal { IsLegalRun self.now }
+        ensures simple { AnswersSimply self.now.journal.past }
     {
         self.books.journal()
     }
@@ -127,6 +129,7 @@ impl Hub {
     pub fn stop(&self) -> Option<Stop>
         ensures stop { result ≡ stop_of (plan self.now) self.now.journal.turns self.now.journal.past }
         ensures legal { IsLegalRun self.now }
+        ensures simple { AnswersSimply self.now.journal.past }
     {
         self.books.stop()
     }

@@ -1,23 +1,9 @@
 -- Look-ups in the tables of keys and of claims.
-use Rattle.std.proofs.Common.{◌≡◌, ℕ, zero, suc, ◌+◌, ◌==◌, Bool, true, false, cond, List, [], ◌∷◌, ◌++◌, take, slice_get, Option, Some, None, option_map, Result, Ok, Err, OnErr, refl, sym, ap, ◌∙◌, arith}
-use Rattle.std.specs.Map.{lookup, set_value}
+use Rattle.std.proofs.Common.{◌≡◌, ℕ, zero, suc, ◌+◌, ◌==◌, Bool, true, false, cond, List, [], ◌∷◌, ◌++◌, take, slice_get, Option, Some, None, option_map, refl, sym, ap, ◌∙◌, arith}
 use Rattle.std.proofs.lemmas.Option.{none-some, same_Some}
 use Rattle.eip_exchange.specs.declared.end.End.{End}
 use Rattle.eip_idempotent.proofs.Standing.{same}
 use Rattle.eip_idempotent.specs.Keys.{Key, same_key, ClaimView, is_held, HoldersView, settled, settled_claim, settled_claims, Keys, Claims, row_at, PutsKey, value_at, claims_at, PutsClaims}
-
-pub err_always : {A E : Type 0} (r : Result A E) (P : Type 0) → P → OnErr r P
-err_always (Ok a) P p = tt
-err_always (Err e) P p = p
-
-set_by : {K X : Type 0} (t : Bool) (e : K × X) (w : X) (rest same : List (K × X)) (o : Option X) → cond t (Some e.1) o ≡ Some w → (t ≡ false → same ≡ rest) → cond t ((e.0, w) ∷ rest) (e ∷ same) ≡ e ∷ rest
-set_by {K} {X} true e w rest same o at h = ap (λ (x : X). (e.0, x) ∷ rest) (sym (same_Some e.1 w at))
-set_by {K} {X} false e w rest same o at h = ap (λ (es : List (K × X)). e ∷ es) (h refl)
-
--- a value put where it is changes nothing
-pub set_again : {K X : Type 0} (test : K → Bool) (entries : List (K × X)) (w : X) → lookup test entries ≡ Some w → set_value test entries w ≡ entries
-set_again test [] w at = absurd (none-some w at)
-set_again test (e ∷ entries) w at = set_by (test e.0) e w entries (set_value test entries w) (lookup test entries) at (λ t. set_again test entries w (sym (ap (λ (b : Bool). cond b (Some e.1) (lookup test entries)) t) ∙ at))
 
 take_none : {X : Type 0} (xs : List X) → take zero xs ≡ []
 take_none [] = refl

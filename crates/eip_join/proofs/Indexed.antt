@@ -6,7 +6,8 @@ use Rattle.std.proofs.lemmas.Option.{none-some, same_Some}
 use Rattle.eip_text.proofs.Cutting.{none_since}
 use Rattle.eip_exchange.specs.declared.end.Ended.{Ended}
 use Rattle.eip_join.proofs.Standing.{stands_ended}
-use Rattle.eip_join.specs.Parts.{Call, PartEnded, Stands, IsUnended, Open, value_at, Puts, IsFree, IsPart, AreNew, IsOpenPart, no_ends, new_join, with_end, is_beginning, Indexes, Unindexes, IsLastUpTo, BeginsAt, AreIndexed}
+use Rattle.eip_ordered.specs.Numbered.{value_at, Puts}
+use Rattle.eip_join.specs.Parts.{Call, PartEnded, Stands, IsUnended, Open, IsFree, IsPart, AreNew, IsOpenPart, no_ends, new_join, with_end, is_beginning, Indexes, Unindexes, IsLastUpTo, BeginsAt, AreIndexed}
 
 -- ---- cases
 

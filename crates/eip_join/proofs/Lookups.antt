@@ -1,41 +1,15 @@
--- Look-ups by number, as ordered maps make them.
-use Rattle.std.proofs.Common.{◌≡◌, ℕ, ◌<◌, ◌≤◌, Bool, true, false, cond, ◌==◌, ◌&&◌, eqb, ltb, List, [], ◌∷◌, ◌++◌, Option, Some, None, is_some, Ordering, Less, Equal, Greater, nat_cmp, is_eq, is_gt, BTreeMap, refl, sym, ap, ◌∙◌, arith, eqb-true, le-ltb, lt-ltb}
+-- Look-ups by number, as the maps of joins make them.
+use Rattle.std.proofs.Common.{◌≡◌, ℕ, ◌<◌, ◌≤◌, cond, ◌==◌, ◌&&◌, false, Bool, List, [], ◌∷◌, ◌++◌, Option, Some, None, is_some, Ordering, Less, Equal, Greater, nat_cmp, is_gt, BTreeMap, refl, sym, ap, ◌∙◌, arith, lt-ltb}
 use Rattle.std.specs.declared.ops.Bound.TheVariants.{Included, Unbounded}
-use Rattle.std.specs.Map.{lookup}
 use Rattle.std.specs.Ordering.{MatchOrdering}
-use Rattle.std.specs.BTreeMap.{get}
 use Rattle.std.specs.BTreeMap.Range.{IsRangeOf}
 use Rattle.std.proofs.lemmas.Cmp.{ranked}
 use Rattle.std.proofs.lemmas.Map.Keys.{le_from_not_gt, ge_from_not_lt}
-use Rattle.eip_join.specs.Parts.{value_at, Puts, is_beginning, IsLastUpTo}
+use Rattle.eip_ordered.specs.Numbered.{value_at, Puts}
+use Rattle.eip_ordered.proofs.Lookups.{found}
+use Rattle.eip_join.specs.Parts.{is_beginning, IsLastUpTo}
 
-one_tied : (less same : Bool) → (same ≡ true → less ≡ false) → is_eq (cond less Less (cond same Equal Greater)) ≡ same
-one_tied true true h = sym (h refl)
-one_tied true false h = refl
-one_tied false true h = refl
-one_tied false false h = refl
-
-pub tied : (a b : ℕ) → is_eq (nat_cmp a b) ≡ (a == b)
-tied a b = one_tied (ltb a b) (eqb a b) (λ e. le-ltb a b (let same : a ≡ b = eqb-true a b e in omega arith))
-
-alike : {X : Type 0} (f g : ℕ → Bool) → ((k : ℕ) → f k ≡ g k) → (entries : List (ℕ × X)) → lookup f entries ≡ lookup g entries
-alike f g h [] = refl
-alike {X} f g h (e ∷ entries) =
-    ap (λ (b : Bool). cond b (Some e.1) (lookup f entries)) (h e.0)
-    ∙ ap (λ (o : Option X). cond (g e.0) (Some e.1) o) (alike f g h entries)
-
--- what a map has at a number
-pub found : {X : Type 0} (map : BTreeMap ℕ X) (x : ℕ) → get nat_cmp map x ≡ value_at map.entries x
-found map x = alike (λ k. is_eq (nat_cmp x k)) (λ k. x == k) (tied x) map.entries
-
--- a map that has w at a number now
-pub puts : {X : Type 0} (old new : BTreeMap ℕ X) (k : ℕ) (w : Option X) → ((x : ℕ) → get nat_cmp new x ≡ cond (is_eq (nat_cmp k x)) w (get nat_cmp old x)) → Puts old.entries new.entries k w
-puts {X} old new k w h = λ x.
-    sym (found new x) ∙ h x
-    ∙ ap (λ (b : Bool). cond b w (get nat_cmp old x)) (tied k x)
-    ∙ ap (λ (o : Option X). cond (k == x) w o) (found old x)
-
--- the same, where there are parts
+-- a map that has w at a number now, where there are parts
 pub puts_where : {X : Type 0} (old new : List (ℕ × X)) (count k : ℕ) (w : Option X) → 0 < count → Puts old new k w → (x : ℕ) → value_at new x ≡ cond (is_beginning count k x) w (value_at old x)
 puts_where old new count k w some puts x = puts x ∙ ap (λ (b : Bool). cond (b && (k == x)) w (value_at old x)) (sym (lt-ltb 0 count some))
 

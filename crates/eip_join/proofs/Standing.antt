@@ -3,7 +3,8 @@ use Rattle.std.proofs.Common.{◌≡◌, ℕ, zero, suc, ◌+◌, ◌-◌, ◌<�
 use Rattle.std.proofs.lemmas.Bool.{and_from, and_parts, false_from_ne_true, eqb-false}
 use Rattle.std.proofs.lemmas.Option.{none-some, same_Some}
 use Rattle.eip_exchange.specs.declared.end.Ended.{Ended}
-use Rattle.eip_join.specs.Parts.{Call, Began, PartEnded, Took, parts_of, is_between, end_of, ends_from, Open, join_over, join_of, Puts, Stands, IsPart, AreNew, IsOpenPart, no_ends, new_join, with_end, AreIndexed}
+use Rattle.eip_ordered.specs.Numbered.{Puts}
+use Rattle.eip_join.specs.Parts.{Call, Began, PartEnded, Took, parts_of, is_between, end_of, ends_from, Open, join_over, join_of, Stands, IsPart, AreNew, IsOpenPart, no_ends, new_join, with_end, AreIndexed}
 
 abbrev made : ℕ → List (Option Ended) → Open
 made first ends = record { first = first; ends = ends }

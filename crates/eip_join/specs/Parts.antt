@@ -1,7 +1,7 @@
 -- The parts of open joins and how they ended, by the calls so far, and how a table of joins stands for them.
 use Rattle.std.specs.Prelude.{ℕ, zero, suc, ◌≡◌, ◌+◌, ◌-◌, ◌<◌, ◌≤◌, ◌==◌, ◌&&◌, nat_lt, nat_le, Bool, List, [], ◌∷◌, length, replicate, slice_get, slice_set, Option, Some, None, is_some, option_map, MatchOption, IsTrue, if◌then◌else◌}
-use Rattle.std.specs.Map.{lookup}
 use Rattle.eip_exchange.specs.declared.end.Ended.{Ended}
+use Rattle.eip_ordered.specs.Numbered.{value_at}
 
 -- what happened: a parent's join opened over so many parts from a number on, a part ended, or a parent's join was closed
 pub data Call : Type 0 where
@@ -68,15 +68,6 @@ ends_at calls p = complete (join_of calls p)
 
 abbrev pub is_ready : List Call → ℕ → Bool
 is_ready calls p = is_some (ends_at calls p)
-
--- ---- tables by number
-
-abbrev pub value_at : {X : Type 0} → List (ℕ × X) → ℕ → Option X
-value_at entries x = lookup (λ k. x == k) entries
-
--- the new table has w at a number, and all else as before
-abbrev pub Puts : {X : Type 0} → List (ℕ × X) → List (ℕ × X) → ℕ → Option X → Type 0
-Puts old new k w = (x : ℕ) → value_at new x ≡ (if k == x then w else value_at old x)
 
 -- ---- tables of joins by their parents
 

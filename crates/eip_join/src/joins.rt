@@ -1,9 +1,10 @@
 ghost use Rattle.std.specs.Prelude.{◌≡◌, ◌+◌, ◌<◌, ◌^◌, List, [], ◌∷◌, OnOk, OnErr, Some};
 ghost use Rattle.eip_join.specs.Parts.{Call, Began, PartEnded, Took, Stands, IsFree, AreNew, IsOpenPart, IsComplete, is_ready, ends_at};
 
-use crate::maps::{end_part, index, insert_join, is_complete, last_up_to, remove_join, unindex};
+use crate::maps::{end_part, index, is_complete, last_up_to, unindex};
 use crate::open_join::OpenJoin;
 use eip_exchange::Ended;
+use eip_ordered::{put, take};
 use eip_text::NoMemory;
 use std::alloc::Global;
 use std::collections::BTreeMap;
@@ -52,7 +53,7 @@ impl Joins {
     {
         let join = OpenJoin::new(self.alloc, first, count)?;
         index(&mut self.parents, first, parent, count as usize)?;
-        if let Err(refused) = insert_join(&mut self.joins, parent, join) {
+        if let Err(refused) = put(&mut self.joins, parent, join) {
             unindex(&mut self.parents, first, count as usize);
             return Err(refused);
         }
@@ -84,7 +85,7 @@ impl Joins {
         ensures ends { (calls : List Call) → Stands calls self.old → ends_at calls parent ≡ Some result.items }
         ensures stands { (calls : List Call) → Stands calls self.old → Stands (Took parent ∷ calls) self.new }
     {
-        let Some(join) = remove_join(&mut self.joins, parent) else {
+        let Some(join) = take(&mut self.joins, parent) else {
             unreachable!()
         };
         unindex(&mut self.parents, join.first(), join.count());

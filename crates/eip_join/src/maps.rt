@@ -1,31 +1,12 @@
 ghost use Rattle.std.specs.Prelude.{◌≡◌, ◌≤◌, ℕ, OnOk, OnErr, Some, None, is_some, option_map};
-ghost use Rattle.eip_join.specs.Parts.{value_at, complete, with_end, Puts, Indexes, Unindexes, IsLastUpTo, IsUnended};
+ghost use Rattle.eip_ordered.specs.Numbered.{value_at, Puts};
+ghost use Rattle.eip_join.specs.Parts.{complete, with_end, Indexes, Unindexes, IsLastUpTo, IsUnended};
 
 use crate::open_join::OpenJoin;
 use eip_exchange::Ended;
+use eip_ordered::{put, take};
 use eip_text::NoMemory;
 use std::collections::BTreeMap;
-
-/// The join of a parent opens.
-pub fn insert_join(
-    joins: &mut BTreeMap<u64, OpenJoin>,
-    parent: u64,
-    join: OpenJoin,
-) -> Result<(), NoMemory>
-    ensures ok { OnOk result (Puts joins.old.entries joins.new.entries parent (Some join)) }
-    ensures err { OnErr result (joins.new.entries ≡ joins.old.entries) }
-{
-    drop(joins.insert(parent, join)?);
-    Ok(())
-}
-
-/// The join of a parent is closed and handed out, where it has one.
-pub fn remove_join(joins: &mut BTreeMap<u64, OpenJoin>, parent: u64) -> Option<OpenJoin>
-    ensures join { result ≡ value_at joins.old.entries parent }
-    ensures rest { Puts joins.old.entries joins.new.entries parent None }
-{
-    joins.remove(&parent)
-}
 
 /// Whether a parent has a join whose parts have all ended.
 pub fn is_complete(joins: &BTreeMap<u64, OpenJoin>, parent: u64) -> bool
@@ -59,7 +40,7 @@ pub fn index(
     ensures err { OnErr result (parents.new.entries ≡ parents.old.entries) }
 {
     if count > 0 {
-        parents.insert(first, parent)?;
+        put(parents, first, parent)?;
     }
     Ok(())
 }
@@ -69,7 +50,7 @@ pub fn unindex(parents: &mut BTreeMap<u64, u64>, first: u64, count: usize)
     ensures { Unindexes parents.old.entries parents.new.entries first count }
 {
     if count > 0 {
-        parents.remove(&first);
+        let _ = take(parents, first);
     }
 }
 

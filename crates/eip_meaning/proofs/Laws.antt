@@ -13,9 +13,10 @@ use Rattle.eip_frames.specs.declared.request.Request.{Request}
 use Rattle.eip_frames.specs.declared.request.Request.TheVariants.{Finish}
 use Rattle.eip_frames.specs.declared.answer.Answer.{Answer as Reply}
 use Rattle.eip_frames.specs.declared.answer.Answer.TheVariants as reply
-use Rattle.eip_meaning.specs.Asked.{IsOfStep, Logs, Sends, IsAskable, OfStep, Finishes}
+use Rattle.eip_meaning.specs.Contexts.{place_of}
+use Rattle.eip_meaning.specs.Asked.{IsOfSteps, IsOfExchange, IsAsked}
 use Rattle.eip_meaning.specs.Ending.{IsBehindFinish}
-use Rattle.eip_meaning.specs.Meaning.{mean, finish_by, end_by, ends_or_strays, place_of, is_committed, item_of}
+use Rattle.eip_meaning.specs.Meaning.{mean, finish_by, end_by, ends_or_strays, is_committed, item_of}
 use Rattle.eip_meaning.proofs.Runs.{Run, asks, finishes, Standing, runs, over, strayed, mean-run, mean-standing, end-fits}
 
 not_ends : {q : Request} {at : At} {e : End} {m : Message} → AsksNext q at ≡ Ends e m → ⊥
@@ -27,9 +28,8 @@ strays_not_ends h = cc
 asks_not_strays : {q : Request} {at : At} → AsksNext q at ≡ Strays → ⊥
 asks_not_strays h = cc
 
-of_step_not_finish : {e : End} {m : Message} {c : Bool} {q : Request} → IsOfStep q → q ≡ Finish e m c → ⊥
-of_step_not_finish (Logs name text) h = cc
-of_step_not_finish (Sends name m) h = cc
+of_steps_not_finish : {e : End} {m : Message} {c : Bool} (set : RouteSet) (last : Option Reply) (q : Request) → IsOfSteps set last q → q ≡ Finish e m c → ⊥
+of_steps_not_finish set last q i h = subst (λ (r : Request). IsOfSteps set last r) h i
 
 same_request : {q r : Request} {at here : At} → AsksNext q at ≡ AsksNext r here → q ≡ r
 same_request h = cc
@@ -74,17 +74,26 @@ finish-unfit : (commit : Bool) (item : List ℕ) (p : At) (e : End) (m : Message
 finish-unfit commit item p e m a [] t = unfit_end (end_by commit item e a) m (sym t ∙ end-fits commit item e m a)
 finish-unfit commit item p e m a (a' ∷ A) t = refl
 
-module _ {commit : Bool} {item : List ℕ} {p : At} where
-  run-starts : {F : List Reply → Fate} → Run commit item p F → (e : End) (m : Message) → F [] ≡ Ends e m → ⊥
+module _ (set : RouteSet) (commit : Bool) (p : At) (last : Option Reply) where
+  abbrev IsAskedNext : Fate → Type 0
+  IsAskedNext (AsksNext q at) = IsOfExchange set commit p last q at
+  IsAskedNext _ = Unit {0}
+
+  of_steps-of_exchange : (q : Request) (at : At) → IsOfSteps set last q → IsOfExchange set commit p last q at
+  of_steps-of_exchange (Finish e m c) at i = absurd i
+  of_steps-of_exchange _ at i = i
+
+module _ {set : RouteSet} {commit : Bool} {item : List ℕ} {p : At} where
+  run-starts : {last : Option Reply} {F : List Reply → Fate} → Run set commit item p last F → (e : End) (m : Message) → F [] ≡ Ends e m → ⊥
   run-starts (asks q at i h n k) e m g = not_ends (sym h ∙ g)
   run-starts (finishes e' m' h) e m g = not_ends (sym (h []) ∙ g)
 
-  asks-ends : (F : List Reply → Fate) (q : Request) (a : Reply) (fit : Bool) → fits q a ≡ fit → ((A : List Reply) → fits q a ≡ false → F (a ∷ A) ≡ Strays) → (fits q a ≡ true → Run commit item p (λ A. F (a ∷ A)))
+  asks-ends : (F : List Reply → Fate) (q : Request) (a : Reply) (fit : Bool) → fits q a ≡ fit → ((A : List Reply) → fits q a ≡ false → F (a ∷ A) ≡ Strays) → (fits q a ≡ true → Run set commit item p (Some a) (λ A. F (a ∷ A)))
       → (e : End) (m : Message) → F (a ∷ []) ≡ Ends e m → ⊥
   asks-ends F q a true t n k e m g = run-starts (k t) e m g
   asks-ends F q a false t n k e m g = strays_not_ends (sym (n [] t) ∙ g)
 
-  standing-ends : {F : List Reply → Fate} → Standing commit item p F → (a : Reply) (e : End) (m : Message) → F (a ∷ []) ≡ Ends e m → (asked : End) × (F [] ≡ AsksNext (Finish asked m commit) p) × Makes commit item asked a e
+  standing-ends : {last : Option Reply} {F : List Reply → Fate} → Standing set commit item p last F → (a : Reply) (e : End) (m : Message) → F (a ∷ []) ≡ Ends e m → (asked : End) × (F [] ≡ AsksNext (Finish asked m commit) p) × Makes commit item asked a e
   standing-ends {F} (runs (asks q at i h n k)) a e m g = absurd (asks-ends F q a (fits q a) refl (λ A t. n a A t) (λ t. k a t) e m g)
   standing-ends (runs (finishes asked m' h)) a e m g =
       let y = made commit item asked a e m m' (sym (h (a ∷ [])) ∙ g) in
@@ -93,47 +102,49 @@ module _ {commit : Bool} {item : List ℕ} {p : At} where
   standing-ends (strayed h) a e m g = absurd (strays_not_ends (sym (h (a ∷ [])) ∙ g))
 
   -- where the last request is asked, each answer gives what `finish_by` says
-  standing-finish : {F : List Reply → Fate} → Standing commit item p F → (e : End) (m : Message) (c : Bool) (at : At) → F [] ≡ AsksNext (Finish e m c) at
+  standing-finish : {last : Option Reply} {F : List Reply → Fate} → Standing set commit item p last F → (e : End) (m : Message) (c : Bool) (at : At) → F [] ≡ AsksNext (Finish e m c) at
       → (c ≡ commit) × (at ≡ p) × ((A : List Reply) → F A ≡ finish_by commit item p e m A)
-  standing-finish (runs (asks q here i h n k)) e m c at g = absurd (of_step_not_finish i (same_request (sym h ∙ g)))
+  standing-finish {last} (runs (asks q here i h n k)) e m c at g = absurd (of_steps_not_finish set last q i (same_request (sym h ∙ g)))
   standing-finish (runs (finishes e' m' h)) e m c at g =
       let r = same_request (sym (h []) ∙ g) in
       (sym (finish_commit r), sym (same_place (sym (h []) ∙ g)), λ A. rw (sym (finish_end r), sym (finish_message r)) (h A))
   standing-finish (over e' m' h n) e m c at g = absurd (not_ends (sym g ∙ h))
   standing-finish (strayed h) e m c at g = absurd (asks_not_strays (sym g ∙ h []))
 
-  standing-asked : {F : List Reply → Fate} → Standing commit item p F → (q : Request) (at : At) → F [] ≡ AsksNext q at → IsAskable q
-  standing-asked (runs (asks r here i h n k)) q at g = subst (λ (x : Request). IsAskable x) (same_request (sym h ∙ g)) (OfStep i)
-  standing-asked (runs (finishes e m h)) q at g = subst (λ (x : Request). IsAskable x) (same_request (sym (h []) ∙ g)) (Finishes e m commit)
-  standing-asked (over e m h n) q at g = absurd (not_ends (sym g ∙ h))
-  standing-asked (strayed h) q at g = absurd (asks_not_strays (sym g ∙ h []))
-
-  standing-unfit : {F : List Reply → Fate} → Standing commit item p F → (q : Request) (at : At) (a : Reply) (A : List Reply) → F [] ≡ AsksNext q at → fits q a ≡ false → F (a ∷ A) ≡ Strays
+  standing-unfit : {last : Option Reply} {F : List Reply → Fate} → Standing set commit item p last F → (q : Request) (at : At) (a : Reply) (A : List Reply) → F [] ≡ AsksNext q at → fits q a ≡ false → F (a ∷ A) ≡ Strays
   standing-unfit (runs (asks r here i h n k)) q at a A g t = n a A (ap (λ (x : Request). fits x a) (same_request (sym h ∙ g)) ∙ t)
   standing-unfit (runs (finishes e m h)) q at a A g t = h (a ∷ A) ∙ finish-unfit commit item p e m a A (ap (λ (x : Request). fits x a) (same_request (sym (h []) ∙ g)) ∙ t)
   standing-unfit (over e m h n) q at a A g t = absurd (not_ends (sym g ∙ h))
   standing-unfit (strayed h) q at a A g t = h (a ∷ A)
 
-  run-not-strays : {F : List Reply → Fate} → Run commit item p F → F [] ≡ Strays → ⊥
+  run-not-strays : {last : Option Reply} {F : List Reply → Fate} → Run set commit item p last F → F [] ≡ Strays → ⊥
   run-not-strays (asks q at i h n k) g = asks_not_strays (sym h ∙ g)
   run-not-strays (finishes e m h) g = asks_not_strays (sym (h []) ∙ g)
 
-  standing-fit : {F : List Reply → Fate} → Standing commit item p F → (q : Request) (at : At) (a : Reply) → F [] ≡ AsksNext q at → fits q a ≡ true → F (a ∷ []) ≡ Strays → ⊥
+  standing-fit : {last : Option Reply} {F : List Reply → Fate} → Standing set commit item p last F → (q : Request) (at : At) (a : Reply) → F [] ≡ AsksNext q at → fits q a ≡ true → F (a ∷ []) ≡ Strays → ⊥
   standing-fit (runs (asks r here i h n k)) q at a g t x = run-not-strays (k a (ap (λ (y : Request). fits y a) (same_request (sym h ∙ g)) ∙ t)) x
   standing-fit (runs (finishes e m h)) q at a g t x =
       fit_end (end_by commit item e a) m (sym t ∙ (ap (λ (y : Request). fits y a) (same_request (sym g ∙ h [])) ∙ end-fits commit item e m a)) (sym (h (a ∷ [])) ∙ x)
   standing-fit (over e m h n) q at a g t x = not_ends (sym g ∙ h)
   standing-fit (strayed h) q at a g t x = asks_not_strays (sym g ∙ h [])
 
-  standing-ended : {F : List Reply → Fate} → Standing commit item p F → (e : End) (m : Message) (a : Reply) (A : List Reply) → F [] ≡ Ends e m → F (a ∷ A) ≡ Strays
+  standing-ended : {last : Option Reply} {F : List Reply → Fate} → Standing set commit item p last F → (e : End) (m : Message) (a : Reply) (A : List Reply) → F [] ≡ Ends e m → F (a ∷ A) ≡ Strays
   standing-ended (runs r) e m a A g = absurd (run-starts r e m g)
   standing-ended (over e' m' h n) e m a A g = n a A
   standing-ended (strayed h) e m a A g = h (a ∷ A)
 
-  standing-strayed : {F : List Reply → Fate} → Standing commit item p F → (A : List Reply) → F [] ≡ Strays → F A ≡ Strays
+  standing-strayed : {last : Option Reply} {F : List Reply → Fate} → Standing set commit item p last F → (A : List Reply) → F [] ≡ Strays → F A ≡ Strays
   standing-strayed (runs r) A g = absurd (run-not-strays r g)
   standing-strayed (over e m h n) A g = absurd (strays_not_ends (sym g ∙ h))
   standing-strayed (strayed h) A g = h A
+
+  -- ---- what is asked
+
+  standing-asked : {last : Option Reply} {F : List Reply → Fate} → Standing set commit item p last F → (q : Request) (at : At) → F [] ≡ AsksNext q at → IsOfExchange set commit p last q at
+  standing-asked {last} (runs (asks r here i h n k)) q at g = subst (IsAskedNext set commit p last) (sym h ∙ g) (of_steps-of_exchange set commit p last r here i)
+  standing-asked {last} (runs (finishes e m h)) q at g = subst (IsAskedNext set commit p last) (sym (h []) ∙ g) (refl, refl)
+  standing-asked (over e m h n) q at g = absurd (not_ends (sym g ∙ h))
+  standing-asked (strayed h) q at g = absurd (asks_not_strays (sym g ∙ h []))
 
 module _ (set : RouteSet) (b : Birth) where
   -- no exchange has ended before its first answer
@@ -143,6 +154,10 @@ module _ (set : RouteSet) (b : Birth) where
   module _ (given : List Reply) where
     spent : mean set b (given ++ []) ≡ mean set b given
     spent = ap (mean set b) (append-nil given)
+
+    -- whatever is asked is of the set's steps, or the request for the end
+    pub asked-of-set : (q : Request) (at : At) → mean set b given ≡ AsksNext q at → IsAsked set b given q at
+    asked-of-set q at h = standing-asked (mean-standing set b given) q at (spent ∙ h)
 
     -- an end comes only behind an answered last request
     pub ends : (a : Reply) (e : End) (m : Message) → mean set b (given ++ a ∷ []) ≡ Ends e m → IsBehindFinish set b given a e m
@@ -177,7 +192,3 @@ module _ (set : RouteSet) (b : Birth) where
     -- what has strayed stays so
     pub strayed-strays : (A : List Reply) → mean set b given ≡ Strays → mean set b (given ++ A) ≡ Strays
     strayed-strays A h = standing-strayed (mean-standing set b given) A (spent ∙ h)
-
-    -- what an exchange asks is a line of the log, a send to a lane or its end
-    pub asked : (q : Request) (at : At) → mean set b given ≡ AsksNext q at → IsAskable q
-    asked q at h = standing-asked (mean-standing set b given) q at (spent ∙ h)

@@ -9,7 +9,8 @@ use Rattle.eip_frames.specs.Fate.{AsksNext}
 use Rattle.eip_frames.specs.declared.request.Request.TheVariants as request
 use Rattle.eip_frames.specs.declared.answer.Answer.{Answer as Reply}
 use Rattle.eip_frames.specs.declared.answer.Answer.TheVariants as reply
-use Rattle.eip_meaning.specs.Meaning.{mean, is_committed, item_of, place_of}
+use Rattle.eip_meaning.specs.Contexts.{place_of}
+use Rattle.eip_meaning.specs.Meaning.{mean, is_committed, item_of}
 
 -- an end with this message stands behind a last request: it is the end asked for, or the source did not take its commit
 pub record IsBehindFinish (set : RouteSet) (b : Birth) (given : List Reply) (a : Reply) (e : End) (m : Message) : Type 0 where

@@ -1,125 +1,78 @@
 -- What a route means: a function of a birth and the list of answers.
-use Rattle.std.specs.Prelude.{ℕ, Bool, true, false, cond, ltb, List, [], ◌∷◌, length, codes, Option, Some, None, unwrap_or, slice_get}
-use Rattle.eip_exchange.specs.Ends.{fault, commit_failed}
-use Rattle.eip_exchange.specs.Headers.{get_header, put_header, without_header, is_one_too_many}
-use Rattle.eip_exchange.specs.Pairs.{get_property, put_property}
+use Rattle.std.specs.Prelude.{ℕ, zero, suc, ◌-◌, Bool, true, false, cond, eqb, ltb, ◌||◌, is_some, List, [], ◌∷◌, Option, Some, None, slice_get, Result, Ok, Err}
+use Rattle.eip_exchange.specs.Ends.{commit_failed}
 use Rattle.eip_exchange.specs.declared.message.Message.{Message}
 use Rattle.eip_exchange.specs.declared.end.Fault.{Fault}
 use Rattle.eip_exchange.specs.declared.end.End.{End}
-use Rattle.eip_exchange.specs.declared.end.End.TheVariants.{Completed, Failed}
+use Rattle.eip_exchange.specs.declared.end.End.TheVariants.{Completed, Handled, Failed}
 use Rattle.eip_exchange.specs.declared.birth.Birth.{Birth}
 use Rattle.eip_exchange.specs.declared.birth.Origin.{Origin}
 use Rattle.eip_exchange.specs.declared.birth.Origin.TheVariants as origin
 use Rattle.eip_exchange.specs.declared.birth.Work.{Work}
 use Rattle.eip_exchange.specs.declared.birth.Work.TheVariants as work
+use Rattle.eip_exchange.specs.declared.setting.Clause.{Clause}
+use Rattle.eip_uri.specs.Reading.{read}
+use Rattle.eip_uri.specs.declared.fault.UriFault.{UriFault}
 use Rattle.eip_uri.specs.declared.uri.Uri.{Uri}
 use Rattle.eip_uri.specs.declared.uri.Uri.TheVariants as uri
 use Rattle.eip_uri.specs.declared.uri.After.{After}
 use Rattle.eip_uri.specs.declared.uri.After.TheVariants as after
-use Rattle.eip_simple.specs.Views.{Seen}
-use Rattle.eip_simple.specs.Values.{template_value}
-use Rattle.eip_route.specs.declared.step.Expr.{Expr}
-use Rattle.eip_route.specs.declared.step.Expr.TheVariants as expr
 use Rattle.eip_route.specs.declared.step.Step.{Step}
-use Rattle.eip_route.specs.declared.step.Step.TheVariants as step
 use Rattle.eip_route.specs.declared.route.Block.{Block}
 use Rattle.eip_route.specs.declared.route.Route.{Route}
 use Rattle.eip_route.specs.declared.route.RouteSet.{RouteSet}
 use Rattle.eip_frames.specs.Fate.{Fate, AsksNext, Ends, Strays}
 use Rattle.eip_frames.specs.declared.request.At.{At}
-use Rattle.eip_frames.specs.declared.request.Target.TheVariants as target
 use Rattle.eip_frames.specs.declared.request.Request.TheVariants as request
 use Rattle.eip_frames.specs.declared.answer.Answer.{Answer as Reply}
 use Rattle.eip_frames.specs.declared.answer.Answer.TheVariants as reply
-use Rattle.eip_meaning.specs.declared.scene.Scene.{Scene}
-use Rattle.eip_meaning.specs.Outcomes.{Outcome, Asks, Goes, Stops, Faults, Stray, Runner, followed, caught, ask}
+use Rattle.eip_meaning.specs.declared.context.Context.{Context}
+use Rattle.eip_meaning.specs.Contexts.{place_of, context_of, called, in_handler, has_handlers}
+use Rattle.eip_meaning.specs.Values.{caught_message}
+use Rattle.eip_meaning.specs.Checks.{block_or_goes}
+use Rattle.eip_meaning.specs.Sends.{to_mean}
+use Rattle.eip_meaning.specs.Steps.{one_try}
+use Rattle.eip_meaning.specs.Attempts.{Handle, clause_for, tries}
+use Rattle.eip_meaning.specs.Outcomes.{Outcome, Asks, Goes, Stops, Faults, Stray, Runner, followed}
 
--- what Simple sees of an exchange, of which this is the message
-abbrev pub seen_in : Scene → Message → Seen
-seen_in s m = record { message = m; number = s.number; route = s.route }
+-- ---- steps and blocks
 
--- the value of an expression on a message; an absent header or property gives the empty text
-abbrev pub value_of : Scene → Expr → Message → List ℕ
-value_of s (expr.Simple template) m = template_value template (seen_in s m)
-value_of s (expr.Constant text) m = text
-value_of s (expr.Header name) m = unwrap_or (get_header name m.headers) []
-value_of s (expr.Property name) m = unwrap_or (get_property name m.properties) []
-
--- a value of more than 65,536 bytes
-abbrev pub is_too_long : List ℕ → Bool
-is_too_long value = ltb 65536 (length value)
-
--- a value, unless it is too long
-abbrev pub short : List ℕ → Option (List ℕ)
-short value = cond (is_too_long value) None (Some value)
-
-abbrev pub too_long : Fault
-too_long = fault (codes "TooLong") []
-
--- what is done with a value; one that is too long is a fault
-abbrev pub with_short : Option (List ℕ) → (List ℕ → List Reply → Outcome) → List Reply → Outcome
-with_short None k A = Faults too_long A
-with_short (Some value) k A = k value A
-
-abbrev pub with_body : Message → List ℕ → Message
-with_body m value = record m { body = value }
-
-abbrev pub with_header : Message → List ℕ → List ℕ → Message
-with_header m name value = record m { headers = put_header name value m.headers }
-
-abbrev pub without_the_header : Message → List ℕ → Message
-without_the_header m name = record m { headers = without_header name m.headers }
-
-abbrev pub with_property : Message → List ℕ → List ℕ → Message
-with_property m name value = record m { properties = put_property name value m.properties }
-
--- a header is set, unless it is one too many
-abbrev pub sets_header : List ℕ → List ℕ → Runner
-sets_header name value m A = cond (is_one_too_many name m.headers) (Faults (fault (codes "TooManyHeaders") name) A) (Goes (with_header m name value) A)
-
--- the send of a message to an endpoint; one that is no producer is passed by
-abbrev pub to_mean : At → Uri → Runner
-to_mean p (uri.Log name) m A = ask (request.Log name m.body) p (λ a A'. Goes m A') A
-to_mean p (uri.Lane name) m A = ask (request.Send (target.Lane name) m) p (λ a A'. Goes m A') A
-to_mean p _ m A = Goes m A
-
--- the name of a step's log: its own, or the route's
-abbrev pub log_name : Scene → Option (List ℕ) → List ℕ
-log_name s name = unwrap_or name s.route
-
--- the fault that is thrown; one with a text that is too long is `TooLong`
-abbrev pub thrown : (kind : List ℕ) → Option (List ℕ) → Fault
-thrown kind None = too_long
-thrown kind (Some text) = fault kind text
-
--- one try of one step; a kind that isn't run is passed by
-abbrev pub one_try : Scene → Step → Runner
-one_try s (step.SetBody e) m A = with_short (short (value_of s e m)) (λ value A'. Goes (with_body m value) A') A
-one_try s (step.SetHeader name e) m A = with_short (short (value_of s e m)) (λ value A'. sets_header name value m A') A
-one_try s (step.SetProperty name e) m A = with_short (short (value_of s e m)) (λ value A'. Goes (with_property m name value) A') A
-one_try s (step.RemoveHeader name) m A = Goes (without_the_header m name) A
-one_try s (step.To u) m A = to_mean s.place u m A
-one_try s (step.Log name template) m A =
-    with_short (short (template_value template (seen_in s m))) (λ text A'. ask (request.Log (log_name s name) text) s.place (λ a A''. Goes m A'') A') A
-one_try s (step.Throw kind template) m A = Faults (thrown kind (short (template_value template (seen_in s m)))) A
-one_try s _ m A = Goes m A
-
--- the message of an exchange whose fault has no attempt left
-abbrev pub caught_message : Message → Fault → Message
-caught_message m f = with_property m (codes "CamelExceptionCaught") f.text
-
--- a fault that nobody handles
-abbrev pub ends_failed : Fault → Runner
-ends_failed f m A = Stops (Failed f) (caught_message m f) A
-
--- a step with what follows its fault
-abbrev pub step_mean : Scene → Step → Runner
-step_mean s x m A = caught (one_try s x m A) (λ f A'. ends_failed f m A')
+abbrev pub step_mean : RouteSet → Handle → (nested call : ℕ → Runner) → Context → Step → Runner
+step_mean set handle nested call c s m A = tries set handle (one_try set nested call c s) c 1000 m A
 
 -- steps in order
-abbrev pub steps_mean : Scene → List Step → Runner
-steps_mean s [] m A = Goes m A
-steps_mean s (x ∷ xs) m A = followed (step_mean s x m A) (λ m' A'. steps_mean s xs m' A')
+abbrev pub steps_mean : RouteSet → Handle → (nested call : ℕ → Runner) → Context → List Step → Runner
+steps_mean set handle nested call c [] m A = Goes m A
+steps_mean set handle nested call c (s ∷ ss) m A =
+    followed (step_mean set handle nested call c s m A) (λ m' A'. steps_mean set handle nested call c ss m' A')
+
+-- the block with the number j among these, the first of which has the number `here`; the steps of a block reach those behind it alone
+unfoldable pub blocks_mean : RouteSet → Handle → (call : ℕ → Runner) → Context → (here : ℕ) → List Block → ℕ → Runner
+blocks_mean set handle call c here [] j m A = Goes m A
+blocks_mean set handle call c here (b ∷ bs) j m A =
+    cond (eqb j here)
+    (steps_mean set handle (λ i m' A'. blocks_mean set handle call c (suc here) bs i m' A') call c b.steps m A)
+    (blocks_mean set handle call c (suc here) bs j m A)
+
+abbrev pub block_in : Option Route → ℕ
+block_in None = 4294967295
+block_in (Some r) = r.block
+
+-- the number of a route's block; a route that isn't there has none
+abbrev pub block_of_route : RouteSet → ℕ → ℕ
+block_of_route set r = block_in (slice_get set.routes r)
+
+-- a block, with room for k direct calls
+unfoldable pub level_mean : RouteSet → Handle → (k : ℕ) → Context → ℕ → Runner
+level_mean set handle zero c b m A = blocks_mean set handle (λ r m' A'. Goes m' A') c 0 set.blocks b m A
+level_mean set handle (suc k) c b m A =
+    blocks_mean set handle (λ r m' A'. level_mean set handle k (called c r) (block_of_route set r) m' A') c 0 set.blocks b m A
+
+-- a block; one that isn't there has no steps
+unfoldable pub block_mean : RouteSet → Handle → Context → ℕ → Runner
+block_mean set handle c b m A = level_mean set handle (32 - c.depth) c b m A
+
+-- ---- what a block's steps run: its equation says that a block is its steps, with these
 
 abbrev pub steps_in : Option Block → List Step
 steps_in None = []
@@ -129,21 +82,57 @@ steps_in (Some b) = b.steps
 abbrev pub steps_of : RouteSet → ℕ → List Step
 steps_of set b = steps_in (slice_get set.blocks b)
 
--- where the requests of a birth are asked
-abbrev pub place_of : Birth → At
-place_of b = record { route = b.route; depth = b.depth; index = 0 }
+-- the blocks that block b may run: those with greater numbers
+abbrev pub nested_in : RouteSet → Handle → Context → ℕ → ℕ → Runner
+nested_in set handle c b j m A = cond (ltb b j) (block_mean set handle c j m A) (Goes m A)
 
-abbrev pub id_in : Option Route → List ℕ
-id_in None = []
-id_in (Some r) = r.id
+-- the routes that a direct call may run
+abbrev pub call_in : RouteSet → Handle → Context → ℕ → Runner
+call_in set handle c r m A = cond (ltb c.depth 32) (block_mean set handle (called c r) (block_of_route set r) m A) (Goes m A)
 
--- the id of the route with this index; a route that isn't there has none
-abbrev pub id_of : RouteSet → ℕ → List ℕ
-id_of set r = id_in (slice_get set.routes r)
+-- one send with its attempts
+abbrev pub send_mean : RouteSet → Handle → Context → Uri → Runner
+send_mean set handle c u m A = tries set handle (to_mean set (call_in set handle c) c u) c 1000 m A
 
--- for whom and where the steps of a birth run
-abbrev pub scene_of : RouteSet → Birth → Scene
-scene_of set b = record { place = place_of b; number = b.number; route = id_of set b.route }
+-- ---- faults that have no attempt left
+
+-- where nobody handles them: a bare or shared exchange, or a fault while one is handled
+abbrev pub ends_failed : Handle
+ends_failed c f m A = Stops (Failed f) (caught_message m f) A
+
+-- a clause's steps are through: the exchange ends as handled, or goes on behind the failed step, or fails with the first fault
+abbrev pub behind_clause : Clause → Fault → Runner
+behind_clause k f m A = cond k.handled (Stops Handled m A) (cond k.continued (Goes m A) (Stops (Failed f) m A))
+
+-- one send to the dead letter endpoint, where there is one, and the exchange is handled
+abbrev pub dead_letter : RouteSet → Option Uri → Context → Fault → Runner
+dead_letter set None c f m A = Stops (Failed f) m A
+dead_letter set (Some u) c f m A = followed (send_mean set ends_failed c u m A) (λ m' A'. Stops Handled m' A')
+
+-- a clause says what is done about a fault where it has steps, is handled or is continued
+abbrev pub decides : Clause → Bool
+decides k = is_some k.block || (k.handled || k.continued)
+
+abbrev pub by_clause : RouteSet → Option Clause → Context → Fault → Runner
+by_clause set None c f m A = dead_letter set set.handler.dead c f m A
+by_clause set (Some k) c f m A =
+    cond (decides k)
+    (followed (block_or_goes (block_mean set ends_failed c) k.block m A) (behind_clause k f))
+    (dead_letter set set.handler.dead c f m A)
+
+-- the clause of the fault, else the dead letter endpoint, else the exchange fails
+abbrev pub handles : RouteSet → Handle
+handles set c f m A = by_clause set (clause_for set f) (in_handler c) f (caught_message m f) A
+
+abbrev pub handle_with : RouteSet → (handlers : Bool) → Handle
+handle_with set true = handles set
+handle_with set false = ends_failed
+
+-- the handling in a context
+abbrev pub handle_in : RouteSet → Context → Handle
+handle_in set c = handle_with set (has_handlers c)
+
+-- ---- the end
 
 abbrev pub moves_files : After → Bool
 moves_files after.Noop = false
@@ -193,14 +182,21 @@ abbrev pub finished : (commit : Bool) (item : List ℕ) → At → Outcome → F
 finished commit item p (Asks q at) = AsksNext q at
 finished commit item p (Goes m A) = finish_by commit item p Completed m A
 finished commit item p (Stops e m A) = finish_by commit item p e m A
-finished commit item p (Faults f A) = Strays
+finished commit item p (Faults f again A) = Strays
 finished commit item p Stray = Strays
 
--- a birth's work; a part's single send isn't made yet and goes on
-abbrev pub work_mean : RouteSet → Scene → Work → Runner
-work_mean set s (work.Block b) m A = steps_mean s (steps_of set b) m A
-work_mean set s (work.To text) m A = Goes m A
+-- ---- a birth
+
+-- a send to the endpoint that a text names; a text that names none is no send
+abbrev pub send_to : RouteSet → Context → Result Uri UriFault → Runner
+send_to set c (Ok u) m A = send_mean set (handle_in set c) c u m A
+send_to set c (Err f) m A = Goes m A
+
+-- a birth's work
+abbrev pub work_mean : RouteSet → Context → Work → Runner
+work_mean set c (work.Block b) m A = block_mean set (handle_in set c) c b m A
+work_mean set c (work.To text) m A = send_to set c (read text []) m A
 
 -- what a birth and its answers so far give
 unfoldable pub mean : RouteSet → Birth → List Reply → Fate
-mean set b A = finished (is_committed set b) (item_of b.origin) (place_of b) (work_mean set (scene_of set b) b.work b.message A)
+mean set b A = finished (is_committed set b) (item_of b.origin) (place_of b) (work_mean set (context_of b) b.work b.message A)

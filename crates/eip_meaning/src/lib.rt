@@ -1,6 +1,8 @@
-// What a route means: definitions and their laws, which the crates above cite, and the type that they speak of. There is no code.
+// What a route means: definitions and their laws, which the crates above cite, and for whom and where its steps run.
 #![tactic(auto)]
 
-pub mod scene;
+pub mod context;
+mod redelivery;
 
-pub use scene::Scene;
+pub use context::Context;
+pub use redelivery::{handling_law, once_law, redelivery_law};

@@ -215,7 +215,10 @@ fn joined_in_place(
 ) -> Result<(bool, Result<(), StrategyFault>), NoMemory> {
     let comma = Strategy::Joined(Text::of_str(alloc, ",")?);
     let mut so_far = message_of(alloc, "a", "x")?;
-    let done = add_in_place(alloc, &comma, &mut so_far, new);
+    let done = match add_in_place(alloc, &comma, &mut so_far, new) {
+        Ok(_) => Ok(()),
+        Err(fault) => Err(fault),
+    };
     Ok((so_far.body.as_str() == want, done))
 }
 
@@ -225,5 +228,32 @@ fn a_body_grows_in_place_and_stays_on_a_fault(rt: HostRuntime) -> Result<(), Fai
     assert!(rt; joined_in_place(rt.alloc(), &short, "a,b")? == (true, Ok(())));
     let long = message_of_length(rt.alloc(), 65_535)?;
     assert!(rt; joined_in_place(rt.alloc(), &long, "a")? == (true, Err(StrategyFault::TooLong)));
+    Ok(())
+}
+
+/// Whether a message is as before where another was added to it in place and taken back.
+fn is_taken_back(alloc: Global, strategy: &Strategy) -> Result<bool, StrategyFault> {
+    let new = message_of(alloc, "2", "b")?;
+    let first = message_of(alloc, "1", "a")?;
+    let mut so_far = add(alloc, strategy, None, &first)?;
+    let before = message_said(alloc, &so_far)?;
+    let undo = add_in_place(alloc, strategy, &mut so_far, &new)?;
+    undo.apply(alloc, &mut so_far);
+    Ok(message_said(alloc, &so_far)?.as_str() == before.as_str())
+}
+
+#[test]
+fn what_was_added_in_place_is_taken_back(rt: HostRuntime) -> Result<(), Fail> {
+    let comma = Strategy::Joined(Text::of_str(rt.alloc(), ",")?);
+    for strategy in [
+        &Strategy::Original,
+        &Strategy::Latest,
+        &comma,
+        &Strategy::Grouped,
+        &Strategy::Sum,
+        &Strategy::Batch,
+    ] {
+        assert!(rt; is_taken_back(rt.alloc(), strategy)?);
+    }
     Ok(())
 }

@@ -1,4 +1,4 @@
--- A legal run of a route set has no open group.
+-- A legal run in which nothing but simple requests is answered has no open group.
 use Rattle.std.proofs.Common.{◌≡◌, ℕ, [], filter, ap}
 use Rattle.eip_route.specs.declared.route.RouteSet.{RouteSet}
 use Rattle.eip_history.specs.Own.{Past}
@@ -6,8 +6,8 @@ use Rattle.eip_history.specs.Groups.{is_open}
 use Rattle.eip_history.specs.Rules.{KeepsRules}
 use Rattle.eip_history.specs.Stop.{open_groups}
 use Rattle.eip_plan.specs.Plan.{plan_of}
+use Rattle.eip_plan.specs.Simple.{AnswersSimply}
 use Rattle.eip_plan.proofs.Items.{no-groups}
-use Rattle.eip_plan.proofs.Laws.{plan-simple}
 
-pub no-open-groups : (set : RouteSet) (w limit : ℕ) (past : Past) → KeepsRules (plan_of set) w limit past → open_groups (plan_of set) past ≡ []
-no-open-groups set w limit past legal = ap (filter is_open) (no-groups (plan_of set) (plan-simple set) w limit past legal)
+pub no-open-groups : (set : RouteSet) (w limit : ℕ) (past : Past) → KeepsRules (plan_of set) w limit past → AnswersSimply past → open_groups (plan_of set) past ≡ []
+no-open-groups set w limit past legal simple = ap (filter is_open) (no-groups (plan_of set) w limit past legal simple)

@@ -1,2 +1,3 @@
 pub mod Simple
 pub mod Plan
+pub mod Rows

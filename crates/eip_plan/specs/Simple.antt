@@ -1,19 +1,20 @@
--- Plans whose exchanges ask for nothing but sends, log lines and their end.
-use Rattle.std.specs.Prelude.{ℕ, Bool, true, false, ◌≡◌, List}
-use Rattle.eip_exchange.specs.declared.birth.Birth.{Birth}
+-- Journals in which nothing is answered but requests that make no exchange and wait for none.
+use Rattle.std.specs.Prelude.{Bool, true, false, [], ◌∷◌}
 use Rattle.eip_exchange.specs.declared.birth.Origin.{Origin}
 use Rattle.eip_exchange.specs.declared.birth.Origin.TheVariants as from
-use Rattle.eip_frames.specs.declared.request.At.{At}
 use Rattle.eip_frames.specs.declared.request.Request.{Request}
 use Rattle.eip_frames.specs.declared.request.Request.TheVariants as request
 use Rattle.eip_frames.specs.declared.answer.Answer.{Answer as Reply}
 use Rattle.eip_frames.specs.declared.answer.Answer.TheVariants as reply
-use Rattle.eip_frames.specs.Fate.{AsksNext}
-use Rattle.eip_history.specs.Plan.{Plan}
+use Rattle.eip_ledger.specs.declared.entry.Kind.{Kind}
+use Rattle.eip_ledger.specs.declared.entry.Kind.TheVariants.{Answer}
+use Rattle.eip_history.specs.Own.{Past}
 
--- a request that makes no exchange and waits for none
+-- a request that makes no exchange, waits for none and takes no key
 abbrev pub IsSimple : Request → Type 0
 IsSimple (request.Send t m) = Unit {0}
+IsSimple (request.Process n m) = Unit {0}
+IsSimple (request.Test n m) = Unit {0}
 IsSimple (request.Log n t) = Unit {0}
 IsSimple (request.Finish e m commit) = Unit {0}
 IsSimple _ = ⊥
@@ -23,17 +24,25 @@ abbrev pub IsSimpleAnswer : Reply → Type 0
 IsSimpleAnswer reply.Done = Unit {0}
 IsSimpleAnswer reply.SendFailed = Unit {0}
 IsSimpleAnswer reply.Exists = Unit {0}
+IsSimpleAnswer (reply.Became m) = Unit {0}
+IsSimpleAnswer (reply.Raised f) = Unit {0}
+IsSimpleAnswer (reply.Holds b) = Unit {0}
 IsSimpleAnswer reply.Noted = Unit {0}
 IsSimpleAnswer reply.Finished = Unit {0}
 IsSimpleAnswer reply.CommitFailed = Unit {0}
 IsSimpleAnswer _ = ⊥
 
+-- an entry that answers such a request, or none
+abbrev pub IsSimpleEntry : Kind → Type 0
+IsSimpleEntry (Answer x a) = IsSimpleAnswer a
+IsSimpleEntry _ = Unit {0}
+
+-- each answer of a past is one to such a request
+abbrev pub AnswersSimply : Past → Type 0
+AnswersSimply [] = Unit {0}
+AnswersSimply (e ∷ past) = AnswersSimply past × IsSimpleEntry e.kind
+
 -- an exchange that a source's item made
 abbrev pub is_item : Origin → Bool
 is_item (from.Source r item) = true
 is_item _ = false
-
--- every request is simple, and no route is a queue
-pub record AsksSimply (s : Plan) : Type 0 where
-  pub asks : (b : Birth) (given : List Reply) (q : Request) (p : At) → s.mean b given ≡ AsksNext q p → IsSimple q
-  pub no_queue : (q : ℕ) → s.is_queue q ≡ false

@@ -1,2 +1,3 @@
-pub mod Steps
+pub mod FirstTry
+pub mod Answered
 pub mod Rest

@@ -1,9 +1,11 @@
 ghost use Rattle.std.specs.Prelude.{◌≡◌};
-ghost use Rattle.eip_progress.specs.Rest.{asked_at};
+ghost use Rattle.eip_progress.specs.Rest.{asked_at, state_place, wait_place};
 
+use crate::frame::{Frame, Wait};
 use eip_exchange::{End, Message, Origin, Work};
 use eip_frames::{At, Request};
-use eip_meaning::Scene;
+use eip_meaning::Context;
+use eip_uri::Uri;
 
 /// What comes next of an exchange.
 #[derive(Drop)]
@@ -14,36 +16,30 @@ pub enum Next {
     Ended(End, Message),
 }
 
-/// What an exchange waits for between two calls.
+/// Where a cursor stands between two calls.
 #[derive(Drop)]
-pub enum Pause {
-    /// The step of the block at this index has asked.
-    Asked {
-        block: u32,
-        index: usize,
-        message: Message,
-    },
+pub enum State {
+    /// Nothing has been asked.
+    Starting(Work, Message),
+    /// A step waits for an answer.
+    Runs(Wait),
     /// The end has been asked for.
     Finishing(End, Message),
     /// It has ended.
     Over(End, Message),
 }
 
-/// Where a cursor stands between two calls.
-#[derive(Drop)]
-pub enum State {
-    /// Nothing has been asked.
-    Starting(Work, Message),
-    /// Something has been asked.
-    Paused(Pause),
-}
-
 /// One exchange on its way through a route, from one request to the next.
 #[derive(Drop)]
 pub struct Cursor {
-    pub scene: Scene,
+    /// That of the steps which the exchange was born with.
+    pub context: Context,
     pub commit: bool,
     pub origin: Origin,
+    /// The endpoint of a send that is the whole work, once it has been read.
+    pub whole: Option<Uri>,
+    /// What comes behind the part that runs, the outermost first.
+    pub stack: Vec<Frame>,
     pub state: State,
 }
 
@@ -53,6 +49,24 @@ impl Cursor {
     pub fn at(&self) -> At
         ensures { result ≡ asked_at self.now }
     {
-        self.scene.place
+        place_in(self.context, &self.state)
+    }
+}
+
+fn place_in(context: Context, state: &State) -> At
+    ensures { result ≡ state_place context state.now }
+{
+    match state {
+        State::Runs(wait) => wait_place(wait),
+        State::Starting(..) | State::Finishing(..) | State::Over(..) => context.place(0),
+    }
+}
+
+fn wait_place(wait: &Wait) -> At
+    ensures { result ≡ wait_place wait.now }
+{
+    match wait {
+        Wait::Trying { context, index, .. } => context.place(*index),
+        Wait::Sleeping { context, .. } => context.place(0),
     }
 }

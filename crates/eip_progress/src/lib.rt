@@ -2,7 +2,11 @@
 #![tactic(auto)]
 
 mod cursor;
+mod frame;
+mod queue;
 mod tried;
 
-pub use cursor::{Cursor, Next, Pause, State};
-pub use tried::Tried;
+pub use cursor::{Cursor, Next, State};
+pub use frame::{Frame, Now, Task, Turn, Wait};
+pub use queue::Queue;
+pub use tried::{Progress, Tried};

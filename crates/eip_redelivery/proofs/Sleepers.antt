@@ -1,45 +1,15 @@
 -- What an ordered set of moments and numbers says of those who sleep.
-use Rattle.std.proofs.Common.{◌≡◌, ℕ, ◌<◌, ◌≤◌, ◌⊎◌, Bool, true, false, cond, ◌&&◌, ◌||◌, ◌==◌, eqb, ltb, List, [], ◌∷◌, length, slice_get, Option, Some, None, Ordering, Less, Equal, Greater, nat_cmp, is_eq, is_gt, BTreeSet, refl, sym, ap, subst, ◌∙◌, inl, inr, arith, eqb-true, eq-eqb, le-ltb, true≢false}
-use Rattle.std.specs.List.{list_any}
-use Rattle.std.specs.Ordering.{ordering_then, MatchOrdering}
+use Rattle.std.proofs.Common.{◌≡◌, ℕ, ◌<◌, ◌≤◌, ◌⊎◌, Bool, true, false, cond, ◌&&◌, ◌==◌, eqb, List, [], ◌∷◌, length, slice_get, Option, Some, None, Ordering, Less, Equal, Greater, nat_cmp, is_eq, is_gt, BTreeSet, refl, sym, ap, subst, ◌∙◌, inl, inr, arith, eqb-true, eq-eqb, true≢false}
+use Rattle.std.specs.Ordering.{MatchOrdering, ordering_then}
 use Rattle.std.specs.BTreeSet.{contains, IsLowerBound}
 use Rattle.std.proofs.lemmas.Cmp.{ranked}
 use Rattle.std.proofs.lemmas.Option.{none-some, same_Some}
+use Rattle.eip_ordered.proofs.Pairs.{by_first, pairs_tied, pair_found}
 use Rattle.eip_redelivery.specs.Sleep.{Call, Slept, Woke, sleeps, has_sleeper, is_until, IsAwake, Stands, IsFirstMoment, IsBeforeAll, IsFirstSleeper}
 
--- the order of the set: by the moment, then by the number
-abbrev pub by_moment : ℕ × ℕ → ℕ × ℕ → Ordering
-by_moment s t = ordering_then (nat_cmp s.0 t.0) (nat_cmp s.1 t.1)
-
--- ---- the same pair
-
-one_tied : (less same : Bool) → (same ≡ true → less ≡ false) → is_eq (cond less Less (cond same Equal Greater)) ≡ same
-one_tied true true h = sym (h refl)
-one_tied true false h = refl
-one_tied false true h = refl
-one_tied false false h = refl
-
-numbers_tied : (a b : ℕ) → is_eq (nat_cmp a b) ≡ (a == b)
-numbers_tied a b = one_tied (ltb a b) (eqb a b) (λ e. le-ltb a b (let same : a ≡ b = eqb-true a b e in omega arith))
-
-then_tied : (o p : Ordering) → is_eq (ordering_then o p) ≡ (is_eq o && is_eq p)
-then_tied Less p = refl
-then_tied Equal p = refl
-then_tied Greater p = refl
-
-tied : (s t : ℕ × ℕ) → is_eq (by_moment s t) ≡ ((s.0 == t.0) && (s.1 == t.1))
-tied s t =
-    then_tied (nat_cmp s.0 t.0) (nat_cmp s.1 t.1)
-    ∙ ap (λ (b : Bool). b && is_eq (nat_cmp s.1 t.1)) (numbers_tied s.0 t.0)
-    ∙ ap (λ (b : Bool). (s.0 == t.0) && b) (numbers_tied s.1 t.1)
-
-any_alike : {X : Type 0} (p q : X → Bool) → ((x : X) → p x ≡ q x) → (xs : List X) → list_any p xs ≡ list_any q xs
-any_alike p q h [] = refl
-any_alike p q h (x ∷ xs) = ap (λ (b : Bool). b || list_any p xs) (h x) ∙ ap (λ (b : Bool). q x || b) (any_alike p q h xs)
-
 -- the table has what the set contains
-holds : (set : BTreeSet (ℕ × ℕ)) (x due : ℕ) → has_sleeper set.keys x due ≡ contains by_moment set (due, x)
-holds set x due = sym (any_alike (λ (k : ℕ × ℕ). is_eq (by_moment (due, x) k)) (λ (k : ℕ × ℕ). (due == k.0) && (x == k.1)) (λ k. tied (due, x) k) set.keys)
+holds : (set : BTreeSet (ℕ × ℕ)) (x due : ℕ) → has_sleeper set.keys x due ≡ contains by_first set (due, x)
+holds set x due = pair_found set due x
 
 -- ---- one falls asleep
 
@@ -50,13 +20,13 @@ slept_by false true was e due o a awake h = h
 slept_by false false was e due o a awake h = h
 
 pub stands_slept : (calls : List Call) (old new : BTreeSet (ℕ × ℕ)) (number due : ℕ)
-    → ((q : ℕ × ℕ) → contains by_moment new q ≡ cond (is_eq (by_moment (due, number) q)) true (contains by_moment old q))
+    → ((q : ℕ × ℕ) → contains by_first new q ≡ cond (is_eq (by_first (due, number) q)) true (contains by_first old q))
     → IsAwake number old.keys → Stands calls old.keys → Stands (Slept number due ∷ calls) new.keys
 stands_slept calls old new number due grew awake stands = λ x e.
     holds new x e
     ∙ grew (e, x)
-    ∙ ap (λ (b : Bool). cond b true (contains by_moment old (e, x))) (tied (due, number) (e, x))
-    ∙ slept_by (number == x) (due == e) (contains by_moment old (e, x)) e due (sleeps calls x) refl
+    ∙ ap (λ (b : Bool). cond b true (contains by_first old (e, x))) (pairs_tied (due, number) (e, x))
+    ∙ slept_by (number == x) (due == e) (contains by_first old (e, x)) e due (sleeps calls x) refl
     (λ s. sym (holds old x e) ∙ subst (λ (y : ℕ). has_sleeper old.keys y e ≡ false) (eqb-true number x s) (awake e))
     (sym (holds old x e) ∙ stands x e)
 
@@ -72,17 +42,17 @@ woke_by true false was e due o a known h = h ∙ other_moment o e due a (known r
 woke_by false true was e due o a known h = h
 woke_by false false was e due o a known h = h
 
-sleeps_until : (calls : List Call) (set : BTreeSet (ℕ × ℕ)) (x due : ℕ) → contains by_moment set (due, x) ≡ true → Stands calls set.keys → is_until due (sleeps calls x) ≡ true
+sleeps_until : (calls : List Call) (set : BTreeSet (ℕ × ℕ)) (x due : ℕ) → contains by_first set (due, x) ≡ true → Stands calls set.keys → is_until due (sleeps calls x) ≡ true
 sleeps_until calls set x due had stands = sym (stands x due) ∙ holds set x due ∙ had
 
 pub stands_woke : (calls : List Call) (old new : BTreeSet (ℕ × ℕ)) (k : ℕ × ℕ)
-    → ((q : ℕ × ℕ) → contains by_moment new q ≡ cond (is_eq (by_moment k q)) false (contains by_moment old q))
-    → contains by_moment old k ≡ true → Stands calls old.keys → Stands (Woke k.1 ∷ calls) new.keys
+    → ((q : ℕ × ℕ) → contains by_first new q ≡ cond (is_eq (by_first k q)) false (contains by_first old q))
+    → contains by_first old k ≡ true → Stands calls old.keys → Stands (Woke k.1 ∷ calls) new.keys
 stands_woke calls old new k shrank had stands = λ x e.
     holds new x e
     ∙ shrank (e, x)
-    ∙ ap (λ (b : Bool). cond b false (contains by_moment old (e, x))) (tied k (e, x))
-    ∙ woke_by (k.1 == x) (k.0 == e) (contains by_moment old (e, x)) e k.0 (sleeps calls x) refl
+    ∙ ap (λ (b : Bool). cond b false (contains by_first old (e, x))) (pairs_tied k (e, x))
+    ∙ woke_by (k.1 == x) (k.0 == e) (contains by_first old (e, x)) e k.0 (sleeps calls x) refl
     (λ s. subst (λ (y : ℕ). is_until k.0 (sleeps calls y) ≡ true) (eqb-true k.1 x s) (sleeps_until calls old k.1 k.0 had stands))
     (sym (holds old x e) ∙ stands x e)
 
@@ -103,7 +73,7 @@ before_by Equal Greater a b c d m n g = absurd (true≢false g)
 before_by Greater p a b c d m n g = absurd (true≢false g)
 
 -- what comes first in the set wakes before everybody else
-before_all : (calls : List Call) (set : BTreeSet (ℕ × ℕ)) (k : ℕ × ℕ) → IsLowerBound by_moment set k → Stands calls set.keys → IsBeforeAll calls k.1 k.0
+before_all : (calls : List Call) (set : BTreeSet (ℕ × ℕ)) (k : ℕ × ℕ) → IsLowerBound by_first set k → Stands calls set.keys → IsBeforeAll calls k.1 k.0
 before_all calls set k least stands = λ y later e.
     before_by (nat_cmp k.0 later) (nat_cmp k.1 y) k.0 later k.1 y (ranked k.0 later (nat_cmp k.0 later) refl) (ranked k.1 y (nat_cmp k.1 y) refl)
     (least (later, y) (sym (holds set y later) ∙ stands y later ∙ some_until (sleeps calls y) later e))
@@ -112,17 +82,17 @@ at_most : (a b c d : ℕ) → (a < b) ⊎ ((a ≡ b) × (c ≤ d)) → a ≤ b
 at_most a b c d (inl h) = omega arith
 at_most a b c d (inr h) = let same : a ≡ b = h.0 in omega arith
 
-pub first_moment : (calls : List Call) (set : BTreeSet (ℕ × ℕ)) (k : ℕ × ℕ) → contains by_moment set k ≡ true → IsLowerBound by_moment set k → Stands calls set.keys → IsFirstMoment calls (Some k.0)
+pub first_moment : (calls : List Call) (set : BTreeSet (ℕ × ℕ)) (k : ℕ × ℕ) → contains by_first set k ≡ true → IsLowerBound by_first set k → Stands calls set.keys → IsFirstMoment calls (Some k.0)
 first_moment calls set k had least stands = (
   (k.1, until_some (sleeps calls k.1) k.0 (sleeps_until calls set k.1 k.0 had stands)),
   λ x later e. at_most k.0 later k.1 x (before_all calls set k least stands x later e),
 )
 
-pub first_sleeper : (calls : List Call) (set : BTreeSet (ℕ × ℕ)) (k : ℕ × ℕ) (tick : ℕ) → contains by_moment set k ≡ true → IsLowerBound by_moment set k → k.0 ≤ tick → Stands calls set.keys → IsFirstSleeper calls tick (Some k.1)
+pub first_sleeper : (calls : List Call) (set : BTreeSet (ℕ × ℕ)) (k : ℕ × ℕ) (tick : ℕ) → contains by_first set k ≡ true → IsLowerBound by_first set k → k.0 ≤ tick → Stands calls set.keys → IsFirstSleeper calls tick (Some k.1)
 first_sleeper calls set k tick had least come stands =
     (k.0, until_some (sleeps calls k.1) k.0 (sleeps_until calls set k.1 k.0 had stands), come, before_all calls set k least stands)
 
-pub too_early : (calls : List Call) (set : BTreeSet (ℕ × ℕ)) (k : ℕ × ℕ) (tick : ℕ) → IsLowerBound by_moment set k → tick < k.0 → Stands calls set.keys → IsFirstSleeper calls tick None
+pub too_early : (calls : List Call) (set : BTreeSet (ℕ × ℕ)) (k : ℕ × ℕ) (tick : ℕ) → IsLowerBound by_first set k → tick < k.0 → Stands calls set.keys → IsFirstSleeper calls tick None
 too_early calls set k tick least early stands = λ x later e.
     let far : k.0 ≤ later = at_most k.0 later k.1 x (before_all calls set k least stands x later e) in omega arith
 

@@ -1,4 +1,4 @@
-pub mod Built
+pub mod Plain
 pub mod Nest
 pub mod Faults
 pub mod Goals

@@ -1,10 +1,10 @@
 // Routes: their steps, blocks and sets.
 #![tactic(auto)]
 
-mod built;
 pub mod fault;
 pub mod goal;
 mod nesting;
+mod plain;
 pub mod repository;
 pub mod route;
 pub mod step;

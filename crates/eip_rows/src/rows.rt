@@ -1,4 +1,4 @@
-ghost use Rattle.std.specs.Prelude.{◌≡◌, ◌+◌, ◌<◌, ◌≤◌, ◌-◌, ◌++◌, ◌∷◌, [], OnOk, length, slice_set, slice_get, Some, All, filter};
+ghost use Rattle.std.specs.Prelude.{vec_capacity, vec_len, ◌≡◌, ◌+◌, ◌<◌, ◌≤◌, ◌-◌, ◌++◌, ◌∷◌, [], OnOk, length, slice_set, slice_get, Some, All, filter};
 ghost use Rattle.eip_tables.specs.declared.row.Row.{Row as ARow};
 ghost use Rattle.std.specs.Prelude.{OnErr};
 ghost use Rattle.eip_tables.specs.Moves.{begun, answered, held, closed, finished, finished_asked, ended_by};
@@ -34,6 +34,16 @@ impl Model for Rows {
     ghost view = { λ r. record { items = r.rows.items; spare = vec_capacity r.rows - vec_len r.rows } };
 }
 
+/// An item goes behind the others, into room that was reserved. For items of every type, since what a row is would be looked at
+/// here for nothing.
+fn put_behind<T: Drop>(items: &mut Vec<T>, item: T)
+    requires { 0 < vec_capacity items.old - vec_len items.old }
+    ensures items { items.new.items ≡ items.old.items ++ item ∷ [] }
+    ensures spare { vec_capacity items.old - vec_len items.old ≤ vec_capacity items.new - vec_len items.new + 1 }
+{
+    let _ = items.push(item);
+}
+
 impl Rows {
     /// No rows, without memory.
     pub fn new(alloc: Global) -> Rows
@@ -66,7 +76,7 @@ impl Rows {
         ensures items { self.new.items ≡ self.old.items ++ row ∷ [] }
         ensures spare { self.old.spare ≤ self.new.spare + 1 }
     {
-        let _ = self.rows.push(row);
+        put_behind(&mut self.rows, row);
     }
 
     /// The row of an exchange.

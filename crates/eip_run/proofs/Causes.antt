@@ -42,9 +42,8 @@ use Rattle.eip_history.specs.Stop.{first_fault, fault_in, or_else, is_over, open
 use Rattle.eip_history.proofs.Steps.{fault-none, fault-more}
 use Rattle.eip_history.proofs.Unborn.{legal-tail, legal-may}
 use Rattle.eip_plan.specs.Plan.{plan_of}
-use Rattle.eip_plan.specs.Simple.{AsksSimply}
+use Rattle.eip_plan.specs.Simple.{AnswersSimply}
 use Rattle.eip_plan.proofs.Items.{no-groups}
-use Rattle.eip_plan.proofs.Laws.{plan-simple}
 use Rattle.eip_table_laws.proofs.StopCalls.{position-some}
 use Rattle.eip_core.specs.Doors.{doors_of, inlet_named, inlet_at}
 use Rattle.eip_core.specs.Outside.{seen_answers, pulls_in, pulls, inlet_acts}
@@ -84,12 +83,12 @@ says-by false true (Some t) groups taken limit s none full h = let same : stop.S
 says-by false true None groups taken limit s none full h = let same : stop.Spent ≡ s = cc in subst (Says None taken limit) same (full refl)
 says-by false false f groups taken limit s none full h = absurd (cc h)
 
-stop-says : (s : Plan) (a : AsksSimply s) (w limit : ℕ) (past : Past) → KeepsRules s w limit past → (r : Stop) → stop_of s limit past ≡ Some r
+stop-says : (s : Plan) (w limit : ℕ) (past : Past) → KeepsRules s w limit past → AnswersSimply past → (r : Stop) → stop_of s limit past ≡ Some r
     → Says (first_fault past) (turns past) limit r
 unfolding stop_of
-stop-says s a w limit past legal r h =
+stop-says s w limit past legal simple r h =
     says-by (is_over s past) ((turns past == limit) && (hands s past == 0)) (first_fault past) (length (open_groups s past)) (turns past) limit r
-    (ap (λ (gs : List Group). length (filter is_open gs)) (no-groups s a w limit past legal))
+    (ap (λ (gs : List Group). length (filter is_open gs)) (no-groups s w limit past legal simple))
     (λ e. eqb-true (turns past) limit (and_parts (turns past == limit) _ e).0) h
 
 -- ---- the inlet of a source that failed
@@ -194,20 +193,20 @@ stop-caused x p set r (stop.Held groups) has ran h = h
 stop-caused x p set r stop.Spent has ran h = h
 stop-caused x p set r stop.NoMemory has ran h = tt
 
-told-caused : (x : Setting) (told : Outcome) (text : List ℕ) → Comes x told text → CauseOf x told
-told-caused x told text (NoCommand none still calm) = none
-told-caused x told text (NotRead k command still rises calm) = rises-rose 1 _ _ (omega arith) rises
-told-caused x told text (NoRoutes k read f command still was h) =
+told-caused : (x : Setting) (told : Outcome) (text : List ℕ) → AnswersSimply x.journal.past → Comes x told text → CauseOf x told
+told-caused x told text simple (NoCommand none still calm) = none
+told-caused x told text simple (NotRead k command still rises calm) = rises-rose 1 _ _ (omega arith) rises
+told-caused x told text simple (NoRoutes k read f command still was h) =
     record { command = k; read = read; words = command; answer = was; refused = h }
-told-caused x told text (WasChecked p set has still) = (p, has.command)
-told-caused x told text (Stopped p set s has ran ne) = ((p, has.command), by_stop ran.stops)
+told-caused x told text simple (WasChecked p set has still) = (p, has.command)
+told-caused x told text simple (Stopped p set s has ran ne) = ((p, has.command), by_stop ran.stops)
   where
     by_stop : (s ≡ stop.NoMemory) ⊎ (stop_of (plan_of set) turn_limit x.journal.past ≡ Some s) → CauseOfStop x s
     by_stop (inl e) = absurd (ne e)
-    by_stop (inr h) = stop-caused x p set s s has ran (stop-says (plan_of set) (plan-simple set) 0 turn_limit x.journal.past ran.legal.entries s h)
-told-caused x told text (Starved p set has ran) = ((p, has.command), tt)
-told-caused x told text (LacksMemory still count spared) = tt
-told-caused x told text (LacksText p set s has ran ne) = tt
+    by_stop (inr h) = stop-caused x p set s s has ran (stop-says (plan_of set) 0 turn_limit x.journal.past ran.legal.entries simple s h)
+told-caused x told text simple (Starved p set has ran) = ((p, has.command), tt)
+told-caused x told text simple (LacksMemory still count spared) = tt
+told-caused x told text simple (LacksText p set s has ran ne) = tt
 
 -- the sink's fault is the cause where there was none before it
 behind-caused : (x : Setting) (told : Outcome) (w : Result Unit SinkFault) → Rises (sink_failure w) x.before.sink_faults x.after.sink_faults → CauseOf x told
@@ -403,10 +402,10 @@ prints x p held outcome.NoMemory h file right u f = tt
 
 -- ---- the clause
 
-pub causes : (x : Setting) (o : Outcome) → Reports x o → Causes x o
-causes x o r =
+pub causes : (x : Setting) (o : Outcome) → Reports x o → AnswersSimply x.journal.past → Causes x o
+causes x o r simple =
     let is : behind r.told r.tells.write ≡ o = sym r.tells.outcome in
-    let cause : CauseOf x o = subst (CauseOf x) is (behind-caused x r.told r.tells.write r.tells.faults (told-caused x r.told r.text r.comes)) in
+    let cause : CauseOf x o = subst (CauseOf x) is (behind-caused x r.told r.tells.write r.tells.faults (told-caused x r.told r.text simple r.comes)) in
     record {
       cause = cause;
       patterns = subst (PatternsOf x) is (behind-patterns x r.told r.tells.write (told-patterns x r.told r.text r.comes));

@@ -1,30 +1,27 @@
 -- A valid set of the part that is run can be run over the lanes and inlets with whose names it was read.
-use Rattle.std.proofs.Common.{◌≡◌, ℕ, zero, suc, ◌+◌, ◌<◌, ◌≤◌, ◌&&◌, ◌||◌, ◌++◌, Bool, true, false, cond, List, [], ◌∷◌, length, Option, Some, None, codes, refl, sym, ap, subst, arith}
+use Rattle.std.proofs.Common.{◌≡◌, ℕ, zero, suc, ◌+◌, ◌<◌, ◌≤◌, ◌&&◌, ◌||◌, Bool, true, false, cond, List, [], ◌∷◌, length, Option, Some, None, codes, refl, subst, arith}
 use Rattle.std.specs.Prelude.{All, nat_lt, bytes_eq}
-use Rattle.std.specs.Option.{IsSome, is_some}
+use Rattle.std.specs.Option.{IsSome}
 use Rattle.std.specs.List.{list_all, slice_get, position_from}
 use Rattle.std.proofs.lemmas.Bool.{and_parts, ltb-false}
 use Rattle.eip_text.specs.Names.{is_name}
 use Rattle.eip_uri.specs.Inlets.{inlet_of}
 use Rattle.eip_uri.specs.Ranges.{is_uri}
-use Rattle.eip_uri.specs.Sides.{is_consumer, is_producer}
+use Rattle.eip_uri.specs.Sides.{is_consumer}
 use Rattle.eip_uri.specs.declared.uri.Uri.{Uri}
 use Rattle.eip_uri.specs.declared.uri.Uri.TheVariants as uri
-use Rattle.eip_route.specs.Built.{is_built, is_stream, is_built_route, are_built_routes, are_built_blocks, is_empty, is_plain_handler}
+use Rattle.eip_run.specs.Built.{is_built, is_stream, is_built_route, are_built_routes, are_built_blocks, is_empty, is_plain_handler}
 use Rattle.eip_route.specs.Faults.{or_else, set_fault}
 use Rattle.eip_route.specs.Goals.{is_among}
-use Rattle.eip_route.specs.Valid.{IsValid, has_lane, is_given_among, is_source, is_route, is_step, are_steps}
+use Rattle.eip_route.specs.Valid.{IsValid, is_given_among, is_source, is_route}
 use Rattle.eip_route.specs.declared.fault.SetFault.{SetFault}
 use Rattle.eip_route.specs.declared.fault.SetFault.TheVariants.{TooManyRoutes}
-use Rattle.eip_route.specs.declared.step.Step.{Step}
-use Rattle.eip_route.specs.declared.step.Step.TheVariants as step
-use Rattle.eip_route.specs.declared.route.Block.{Block}
 use Rattle.eip_route.specs.declared.route.Names.{Names}
 use Rattle.eip_route.specs.declared.route.Route.{Route}
 use Rattle.eip_route.specs.declared.route.RouteSet.{RouteSet}
-use Rattle.eip_meaning.specs.Meaning.{steps_in, is_told, is_told_route}
+use Rattle.eip_meaning.specs.Meaning.{is_told, is_told_route}
 use Rattle.eip_plan.specs.Plan.{plan_of}
-use Rattle.eip_core.specs.Doors.{inlet_named, inlet_at, HasInlets, SendsWithin, HasLanes, TellsNone, CanRun}
+use Rattle.eip_core.specs.Doors.{inlet_named, inlet_at, HasInlets, HasLanes, CanRun}
 
 -- ---- what is handed in is found
 
@@ -79,28 +76,8 @@ none-told (r ∷ rs) (suc t) h = none-told rs t (and_parts (is_built_route r) (l
 
 -- ---- lanes
 
-sends-within : (n : Names) (ss : List Step) → are_steps n ss ≡ true → SendsWithin n.lanes ss
-sends-within n [] h = tt
-sends-within n (s ∷ ss) h =
-    by_step s (and_parts (is_step n s) (are_steps n ss) h).0 (sends-within n ss (and_parts (is_step n s) (are_steps n ss) h).1)
-  where
-    by_step : (s : Step) → is_step n s ≡ true → SendsWithin n.lanes ss → SendsWithin n.lanes (s ∷ ss)
-    by_step (step.To (uri.Lane name)) h rest =
-        (among-named (codes "lane:" ++ name) n.lanes 0 (and_parts (is_uri (uri.Lane name) && is_producer (uri.Lane name)) (has_lane n (uri.Lane name)) h).1, rest)
-    by_step (step.To (uri.Direct name)) h rest = rest
-    by_step (step.To (uri.Seda name size consumers discard)) h rest = rest
-    by_step (step.To (uri.File folder after failed exist)) h rest = rest
-    by_step (step.To uri.StreamIn) h rest = rest
-    by_step (step.To (uri.Log name)) h rest = rest
-    by_step (step.To (uri.Line host port)) h rest = rest
-    by_step (step.To (uri.Listen port)) h rest = rest
-    by_step (step.To (uri.Load n)) h rest = rest
-    by_step _ h rest = rest
-
-lanes-of : (n : Names) (bs : List Block) (b : ℕ) → All (λ (x : Block). are_steps n x.steps ≡ true) bs → SendsWithin n.lanes (steps_in (slice_get bs b))
-lanes-of n [] b h = tt
-lanes-of n (x ∷ xs) zero h = sends-within n x.steps (h 0 x (omega arith))
-lanes-of n (x ∷ xs) (suc b) h = lanes-of n xs b (λ k d inside. h (suc k) d (omega (arith, inside)))
+has-lanes : (set : RouteSet) → HasLanes set set.names.lanes
+has-lanes set name h = among-named name set.names.lanes 0 h
 
 -- ---- the set
 
@@ -126,7 +103,7 @@ valid-runs n set valid same built =
     subst (λ (m : Names). Runs set m.lanes m.inlets) same (record {
       can_run = record {
         has_inlets = has-inlets set.names set valid.routes (streams set built);
-        has_lanes = λ b. lanes-of set.names set.blocks b valid.blocks;
+        has_lanes = has-lanes set;
         tells_none = λ t. none-told set.routes t (streams set built);
       };
       few = few-routes set valid.checked;

@@ -15,7 +15,7 @@ use Rattle.eip_command.specs.declared.words.Command.{Command}
 use Rattle.eip_command.specs.declared.words.Command.TheVariants.{Drain, Check}
 use Rattle.eip_endpoint.specs.declared.files.FileRead.{FileRead}
 use Rattle.eip_endpoint.specs.declared.files.FileRead.TheVariants.{Missing, TooLong}
-use Rattle.eip_route.specs.Built.{is_built}
+use Rattle.eip_run.specs.Built.{is_built}
 use Rattle.eip_core.specs.Served.{names_of}
 use Rattle.eip_run.specs.Routes.{whole_file, unless_built, sites_in, set_in, asked_sites, sites_for, set_for}
 use Rattle.eip_run.specs.Prepared.{Answers, Refuses}

@@ -1,4 +1,5 @@
 pub mod Given
+pub mod Built
 pub mod Routes
 pub mod Prepared
 pub mod Outcomes

@@ -1,6 +1,6 @@
 -- Which routes a command takes from its file, and what is wrong with the file, by what reading it answered.
 use Rattle.std.specs.Prelude.{ℕ, Bool, true, false, List, [], ◌∷◌, ◌++◌, codes}
-use Rattle.eip_route.specs.Built.{is_built}
+use Rattle.eip_run.specs.Built.{is_built}
 use Rattle.eip_route.specs.declared.route.Names.{Names}
 use Rattle.eip_route.specs.declared.route.RouteSet.{RouteSet}
 use Rattle.eip_route_faults.specs.Sites.{Site, wrong}

@@ -3,9 +3,10 @@ ghost use Rattle.eip_endpoint.specs.Lanes.{lane_names};
 ghost use Rattle.eip_endpoint.specs.Inlets.{inlet_names};
 ghost use Rattle.eip_run.specs.Given.{materials};
 ghost use Rattle.eip_run.specs.Routes.{sites_in, set_in, asked_sites, sites_for, set_for, unless_built};
-ghost use Rattle.eip_route.specs.Built.{is_built};
+ghost use Rattle.eip_run.specs.Built.{is_built};
 ghost use Rattle.eip_run.specs.Prepared.{job_of, Answers, Refuses, Prepares};
 
+use crate::built::is_built;
 use eip_command::{Command, WordsFault, read_words};
 use eip_core::{Registry, names_of};
 use eip_endpoint::{FileRead, Files, FilesFault, Inlets, Lanes};
@@ -142,7 +143,7 @@ fn routes_of<P: Patterns>(
 fn built(alloc: Global, set: RouteSet) -> Result<RouteSet, Refusal>
     ensures { (n : ℕ) → Answers (unless_built (is_built set)) set n n result }
 {
-    if set.is_built() {
+    if is_built(&set) {
         Ok(set)
     } else {
         Err(refused(alloc, Cause::NotBuilt))

@@ -1,6 +1,7 @@
 ghost use Rattle.std.specs.Prelude.{◌≡◌, ◌≤◌, length};
 ghost use Rattle.eip_endpoint.specs.Lanes.{lane_names};
 ghost use Rattle.eip_endpoint.specs.Inlets.{inlet_names};
+ghost use Rattle.eip_plan.specs.Simple.{AnswersSimply};
 ghost use Rattle.eip_core.specs.Doors.{CanRun};
 ghost use Rattle.eip_run.specs.Given.{outside};
 ghost use Rattle.eip_run.specs.Reports.{Reports};
@@ -33,8 +34,9 @@ fn drain<L: Lanes, I: Inlets, O: Sink>(
 ) -> (Outcome, Journal)
     requires few { length set.routes ≤ 256 }
     requires can_run { CanRun set (lane_names (L.views lanes.old)) (inlet_names (I.views inlets.old)) }
-    ensures { Drained set result.1 (L.views lanes.old) (L.views lanes.new) (I.views inlets.old) (I.views inlets.new)
+    ensures drained { Drained set result.1 (L.views lanes.old) (L.views lanes.new) (I.views inlets.old) (I.views inlets.new)
         (O.bytes out.old) (O.bytes out.new) (O.sink_faults out.old) (O.sink_faults out.new) result.0 }
+    ensures simple { AnswersSimply result.1.past }
 {
     let Ok(mut hub) = Hub::new(alloc, set, 0, TURN_LIMIT) else {
         let outcome = tell_memory(out, Outcome::NoMemory);
@@ -42,6 +44,7 @@ fn drain<L: Lanes, I: Inlets, O: Sink>(
     };
     let stop = drain_alone(&mut hub, lanes, inlets, registry);
     let outcome = tell_run(alloc, &hub, stop, out);
+    let _ = hub.journal();
     (outcome, hub.into_journal())
 }
 
@@ -62,6 +65,7 @@ fn carry_out<F: Files, P: Patterns, L: Lanes, I: Inlets, O: Sink>(
       after = outside F.Files O.Sink files.new (P.pattern_faults patterns.new) (L.views lanes.new) (I.views inlets.new) out.new;
       journal = result.1;
     }) result.0 }
+    ensures simple { AnswersSimply result.1.past }
     ensures files { F.files files.new ≡ F.files files.old }
 {
     match prepare(alloc, words, files, patterns, lanes, inlets, registry) {

@@ -1,1 +1,1 @@
-pub mod Trying
+mod Keys

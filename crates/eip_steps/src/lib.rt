@@ -1,7 +1,10 @@
-// One try of each kind of step, on a message, and the fault that an answer is.
+// One try of each kind of step, and what an answer gives there, as data.
 #![tactic(auto)]
 
+mod answers;
+mod sends;
 mod steps;
-mod values;
 
-pub use steps::{fault_of, steps_of, try_step};
+pub use answers::{fault_of, goes_on, is_tried_again, to_answered};
+pub use sends::try_to;
+pub use steps::{steps_of, try_step};

@@ -1,16 +1,23 @@
-ghost use Rattle.std.specs.Prelude.{◌≡◌, ◌++◌, [], codes, IfOk};
-ghost use Rattle.eip_exchange.specs.Ends.{fault};
-ghost use Rattle.eip_meaning.specs.Meaning.{steps_of, log_name, thrown, without_the_header};
-ghost use Rattle.eip_progress.specs.Steps.{try_of, body_set, header_set, property_set, logged, send_of, fault_at};
+ghost use Rattle.std.specs.Prelude.{◌≡◌, IfOk};
+ghost use Rattle.eip_meaning.specs.Values.{with_body, with_property, without_the_header};
+ghost use Rattle.eip_meaning.specs.Meaning.{steps_of};
+ghost use Rattle.eip_meaning.specs.Steps.{log_name, thrown, no_key, no_message_id};
+ghost use Rattle.eip_progress.specs.FirstTry.{asks, value_tried, not_empty, key_tried, header_tried, listed_tried, first_tried};
+ghost use Rattle.eip_meaning.specs.FanOuts.{listed};
 
-use crate::values::{evaluated, value_of};
+use crate::sends::{asks, try_to};
 use eip_exchange::{Fault, HeaderFault, Message};
-use eip_frames::{Answer, Request, Target};
-use eip_meaning::Scene;
+use eip_frames::Request;
+use eip_meaning::Context;
+use eip_parts::checks::{choose, filter};
+use eip_parts::fans::{multicast, recipient_list, split};
+use eip_parts::faults::{bare_fault, too_long};
+use eip_parts::messages::with_body;
+use eip_parts::part;
+use eip_parts::values::{empty, evaluated, route_id, value_of};
 use eip_progress::Tried;
-use eip_route::{RouteSet, Step};
+use eip_route::{Fan, RouteSet, Step};
 use eip_text::{NoMemory, Text};
-use eip_uri::Uri;
 use std::alloc::Global;
 
 /// The steps of a block; a block that isn't there has none.
@@ -23,89 +30,120 @@ pub fn steps_of(set: &RouteSet, block: u32) -> &[Step]
     }
 }
 
-/// One try of a step on a message. A kind of step that isn't run yet is passed by.
+/// One try of a step on a message.
 pub fn try_step(
     alloc: Global,
-    scene: &Scene,
+    set: &RouteSet,
+    context: Context,
     step: &Step,
     message: Message,
 ) -> Result<Tried, NoMemory>
-    ensures { IfOk result (λ t. t ≡ try_of scene.now step.now message) }
+    ensures { IfOk result (λ t. t ≡ first_tried set.now context step.now message) }
 {
     match step {
         Step::SetBody(value) => {
-            let value = value_of(alloc, scene, value, &message)?;
+            let value = value_of(alloc, set, context, value, &message)?;
             set_body(alloc, value, message)
         }
         Step::SetHeader { name, value } => {
-            let value = value_of(alloc, scene, value, &message)?;
+            let value = value_of(alloc, set, context, value, &message)?;
             set_header(alloc, name, value, message)
         }
         Step::SetProperty { name, value } => {
-            let value = value_of(alloc, scene, value, &message)?;
+            let value = value_of(alloc, set, context, value, &message)?;
             set_property(alloc, name, value, message)
         }
         Step::RemoveHeader(name) => Ok(remove_header(name, message)),
-        Step::To(uri) => send(alloc, uri, message),
+        Step::To(uri) => try_to(alloc, set, context, uri, message),
         Step::Log {
             name,
             message: template,
         } => {
-            let text = evaluated(alloc, scene, template, &message)?;
-            log(alloc, log_name(scene, name)?, text, message)
+            let text = evaluated(alloc, set, context, template, &message)?;
+            log(alloc, log_name(alloc, set, context, name)?, text, message)
         }
         Step::Throw {
             kind,
             message: template,
         } => {
-            let text = evaluated(alloc, scene, template, &message)?;
-            Ok(Tried::Faults(thrown(alloc, kind, text)?, message))
+            let text = evaluated(alloc, set, context, template, &message)?;
+            Ok(Tried::Faults(thrown(alloc, kind, text)?, false, message))
         }
-        Step::Process(_)
-        | Step::Choice { .. }
-        | Step::Filter { .. }
-        | Step::Split { .. }
-        | Step::Multicast { .. }
-        | Step::Recipients { .. }
-        | Step::Aggregate(_)
-        | Step::Idempotent { .. }
-        | Step::Try { .. } => Ok(Tried::Goes(message)),
+        Step::Process(name) => process(alloc, name, message),
+        Step::Choice { cases, otherwise } => {
+            choose(alloc, set, context, cases.items(), *otherwise, 0, message)
+        }
+        Step::Filter { check, block } => filter(alloc, set, context, check, *block, message),
+        Step::Split { how, fan, block } => split(alloc, context, how, fan, *block, message),
+        Step::Multicast { fan, blocks } => multicast(alloc, context, fan, blocks.items(), message),
+        Step::Recipients {
+            list,
+            delimiter,
+            fan,
+        } => {
+            let value = value_of(alloc, set, context, list, &message)?;
+            recipients(alloc, context, fan, delimiter, value, message)
+        }
+        Step::Aggregate(aggregate) => {
+            let key = value_of(alloc, set, context, &aggregate.key, &message)?;
+            arrive(alloc, aggregate.block, key, message)
+        }
+        Step::Idempotent {
+            key,
+            repository,
+            eager,
+            remove,
+            ..
+        } => {
+            let key = value_of(alloc, set, context, key, &message)?;
+            offer_key(alloc, repository, *eager, *remove, key, message)
+        }
+        Step::Try { block, .. } => {
+            let latest = message.copy(alloc)?;
+            part(alloc, 0, None, *block, latest, message)
+        }
     }
 }
 
 fn set_body(alloc: Global, value: Option<Text>, message: Message) -> Result<Tried, NoMemory>
-    ensures { IfOk result (λ t. t ≡ body_set message value) }
+    ensures { IfOk result (λ t. t ≡ value_tried value message (λ v. Tried.Goes (with_body message v))) }
 {
-    let Some(value) = value else {
-        return Ok(Tried::Faults(too_long(alloc)?, message));
-    };
-    let Message {
-        headers,
-        properties,
-        ..
-    } = message;
-    Ok(Tried::Goes(Message {
-        body: value,
-        headers,
-        properties,
-    }))
+    match value {
+        Some(value) => Ok(Tried::Goes(with_body(message, value))),
+        None => Ok(Tried::Faults(too_long(alloc)?, false, message)),
+    }
 }
 
 fn set_header(
     alloc: Global,
     name: &Text,
     value: Option<Text>,
+    message: Message,
+) -> Result<Tried, NoMemory>
+    ensures { IfOk result (λ t. t ≡ value_tried value message (λ v. header_tried name.now v message)) }
+{
+    match value {
+        Some(value) => put_header(alloc, name, value, message),
+        None => Ok(Tried::Faults(too_long(alloc)?, false, message)),
+    }
+}
+
+fn put_header(
+    alloc: Global,
+    name: &Text,
+    value: Text,
     mut message: Message,
 ) -> Result<Tried, NoMemory>
-    ensures { IfOk result (λ t. t ≡ header_set message name.now value) }
+    ensures { IfOk result (λ t. t ≡ header_tried name.now value message) }
 {
-    let Some(value) = value else {
-        return Ok(Tried::Faults(too_long(alloc)?, message));
-    };
     match message.headers.set(name.copy()?, value) {
         Ok(()) => Ok(Tried::Goes(message)),
         Err(HeaderFault::TooManyHeaders) => {
-            Ok(Tried::Faults(too_many_headers(alloc, name)?, message))
+            let fault = Fault {
+                kind: Text::of_str(alloc, "TooManyHeaders")?,
+                text: name.copy()?,
+            };
+            Ok(Tried::Faults(fault, false, message))
         }
         Err(HeaderFault::NoMemory) => Err(NoMemory),
     }
@@ -117,10 +155,10 @@ fn set_property(
     value: Option<Text>,
     mut message: Message,
 ) -> Result<Tried, NoMemory>
-    ensures { IfOk result (λ t. t ≡ property_set message name.now value) }
+    ensures { IfOk result (λ t. t ≡ value_tried value message (λ v. Tried.Goes (with_property message name.now v))) }
 {
     let Some(value) = value else {
-        return Ok(Tried::Faults(too_long(alloc)?, message));
+        return Ok(Tried::Faults(too_long(alloc)?, false, message));
     };
     message.properties.set(name.copy()?, value)?;
     Ok(Tried::Goes(message))
@@ -133,23 +171,28 @@ fn remove_header(name: &Text, mut message: Message) -> Tried
     Tried::Goes(message)
 }
 
-/// A line of the log is asked for.
+/// A line of the log is asked for (Camel manual, *Log EIP*).
 fn log(alloc: Global, name: Text, text: Option<Text>, message: Message) -> Result<Tried, NoMemory>
-    ensures { IfOk result (λ t. t ≡ logged message name text) }
+    ensures { IfOk result (λ t. t ≡ value_tried text message (λ v. asks (Request.Log name v) message)) }
 {
     match text {
-        Some(text) => Ok(Tried::Asks(Request::Log { name, text }, message)),
-        None => Ok(Tried::Faults(too_long(alloc)?, message)),
+        Some(text) => Ok(asks(Request::Log { name, text }, message)),
+        None => Ok(Tried::Faults(too_long(alloc)?, false, message)),
     }
 }
 
 /// The name of a step's log: its own, or the route's.
-fn log_name(scene: &Scene, name: &Option<Text>) -> Result<Text, NoMemory>
-    ensures { IfOk result (λ t. t ≡ log_name scene.now name.now) }
+fn log_name(
+    alloc: Global,
+    set: &RouteSet,
+    context: Context,
+    name: &Option<Text>,
+) -> Result<Text, NoMemory>
+    ensures { IfOk result (λ t. t ≡ log_name set.now context name.now) }
 {
     match name {
         Some(name) => name.copy(),
-        None => scene.route.copy(),
+        None => route_id(set, context.route, &empty(alloc)).copy(),
     }
 }
 
@@ -166,63 +209,83 @@ fn thrown(alloc: Global, kind: &Text, text: Option<Text>) -> Result<Fault, NoMem
     }
 }
 
-fn too_many_headers(alloc: Global, name: &Text) -> Result<Fault, NoMemory>
-    ensures { IfOk result (λ f. f ≡ fault (codes "TooManyHeaders") name.now) }
+fn process(alloc: Global, name: &Text, message: Message) -> Result<Tried, NoMemory>
+    ensures { IfOk result (λ t. t ≡ asks (Request.Process name.now message) message) }
 {
-    Ok(Fault {
-        kind: Text::of_str(alloc, "TooManyHeaders")?,
-        text: name.copy()?,
-    })
+    let request = Request::Process {
+        name: name.copy()?,
+        message: message.copy(alloc)?,
+    };
+    Ok(asks(request, message))
 }
 
-fn too_long(alloc: Global) -> Result<Fault, NoMemory>
-    ensures { IfOk result (λ f. f ≡ fault (codes "TooLong") []) }
+fn recipients(
+    alloc: Global,
+    context: Context,
+    fan: &Fan,
+    delimiter: &Text,
+    value: Option<Text>,
+    message: Message,
+) -> Result<Tried, NoMemory>
+    ensures { IfOk result (λ t. t ≡ value_tried value message (λ v. listed_tried (listed delimiter.now v) context fan.now message)) }
 {
-    Ok(Fault {
-        kind: Text::of_str(alloc, "TooLong")?,
-        text: Text::of_str(alloc, "")?,
-    })
-}
-
-fn send(alloc: Global, uri: &Uri, message: Message) -> Result<Tried, NoMemory>
-    ensures { IfOk result (λ t. t ≡ send_of uri.now message) }
-{
-    match uri {
-        Uri::Log(name) => {
-            let request = Request::Log {
-                name: name.copy()?,
-                text: message.body.copy()?,
-            };
-            Ok(Tried::Asks(request, message))
-        }
-        Uri::Lane(name) => {
-            let request = Request::Send {
-                target: Target::Lane(name.copy()?),
-                message: message.copy(alloc)?,
-            };
-            Ok(Tried::Asks(request, message))
-        }
-        _ => Ok(Tried::Goes(message)),
+    match value {
+        Some(value) => recipient_list(alloc, context, fan, delimiter, &value, message),
+        None => Ok(Tried::Faults(too_long(alloc)?, false, message)),
     }
 }
 
-/// The fault that an answer to a step's request is.
-pub fn fault_of(alloc: Global, step: &Step, answer: &Answer) -> Result<Option<Fault>, NoMemory>
-    ensures { IfOk result (λ f. f ≡ fault_at step.now answer.now) }
+/// A copy joins the group of its key (Camel manual, *Aggregate EIP*).
+fn arrive(alloc: Global, block: u32, key: Option<Text>, message: Message) -> Result<Tried, NoMemory>
+    ensures { IfOk result (λ t. t ≡ key_tried no_key key message (λ k. asks (Request.Arrive block k message) message)) }
 {
-    match (step, answer) {
-        (Step::To(Uri::Lane(name)), Answer::SendFailed) => Ok(Some(send_failed(alloc, name)?)),
-        _ => Ok(None),
+    match key {
+        Some(key) => arrive_by(alloc, block, key, message),
+        None => Ok(Tried::Faults(too_long(alloc)?, false, message)),
     }
 }
 
-fn send_failed(alloc: Global, name: &Text) -> Result<Fault, NoMemory>
-    ensures { IfOk result (λ f. f ≡ fault (codes "SendFailed") (codes "lane:" ++ name.now)) }
+#[tactic(auto, using(crate::proofs::Keys::empty_key, crate::proofs::Keys::filled_key))]
+fn arrive_by(alloc: Global, block: u32, key: Text, message: Message) -> Result<Tried, NoMemory>
+    ensures { IfOk result (λ t. t ≡ not_empty no_key key message (λ k. asks (Request.Arrive block k message) message)) }
 {
-    let mut target = String::from_str(alloc, "lane:")?;
-    target.push_str(name.as_str())?;
-    Ok(Fault {
-        kind: Text::of_str(alloc, "SendFailed")?,
-        text: Text::of(target),
-    })
+    if key.bytes().is_empty() {
+        let fault = bare_fault(alloc, "InvalidCorrelationKey")?;
+        return Ok(Tried::Faults(fault, false, message));
+    }
+    let copy = message.copy(alloc)?;
+    let request = Request::Arrive {
+        aggregator: block,
+        key,
+        message: copy,
+    };
+    Ok(asks(request, message))
+}
+
+/// A key is offered to a repository (Camel manual, *Idempotent Consumer EIP*).
+#[tactic(auto, using(crate::proofs::Keys::empty_key, crate::proofs::Keys::filled_key))]
+fn offer_key(
+    alloc: Global,
+    repository: &Text,
+    eager: bool,
+    remove: bool,
+    key: Option<Text>,
+    message: Message,
+) -> Result<Tried, NoMemory>
+    ensures { IfOk result (λ t. t ≡ key_tried no_message_id key message (λ k. asks (Request.Idem repository.now k eager remove) message)) }
+{
+    let Some(key) = key else {
+        return Ok(Tried::Faults(too_long(alloc)?, false, message));
+    };
+    if key.bytes().is_empty() {
+        let fault = bare_fault(alloc, "NoMessageId")?;
+        return Ok(Tried::Faults(fault, false, message));
+    }
+    let request = Request::Idem {
+        repository: repository.copy()?,
+        key,
+        eager,
+        remove,
+    };
+    Ok(asks(request, message))
 }

@@ -39,3 +39,11 @@ bounded_as limit body n r e h = filled_by (nat_le (length body) limit) (length b
 pub says_bodied : {X : Type 0} (m : Message) (r : Answer (List ℕ)) (res : Result X StrategyFault) (body : List ℕ) → Says (λ (_ : X). body) res (bounded 65536 r) → Says (λ (_ : X). record m { body = body }) res (with_body m r)
 says_bodied m r (Ok x) body h = grown_as m r (Ok body) h
 says_bodied m r (Err f) body h = λ apart. grown_as m r (Err f) (h apart)
+
+within_by : (b : Bool) (text body : List ℕ) → cond {A = Answer (List ℕ)} b (Ok text) (Err TooLong) ≡ Ok body → text ≡ body
+within_by true text body h = cc
+within_by false text body h = absurd (cc)
+
+-- a body that is within a limit is the one that was asked for
+pub within : (limit : ℕ) (text body : List ℕ) → bounded limit (Ok text) ≡ Ok body → text ≡ body
+within limit text body h = within_by (nat_le (length text) limit) text body h

@@ -4,8 +4,9 @@ use Rattle.std.specs.Prelude.{nat_le, Result, OnOk}
 use Rattle.eip_exchange.specs.declared.message.Message.{Message}
 use Rattle.eip_exchange.specs.declared.setting.Strategy.{Strategy}
 use Rattle.eip_exchange.specs.declared.setting.Strategy.TheVariants.{Original, Latest, Joined, Grouped, Sum, Batch}
+use Rattle.eip_text.specs.Numbers.{whole_of}
 use Rattle.eip_strategy.specs.declared.fault.StrategyFault.{StrategyFault}
-use Rattle.eip_strategy.specs.Adding.{with_body, kept, next_body, taken_in, added, IsReadyBody}
+use Rattle.eip_strategy.specs.Adding.{sum_of, in_decimal, with_body, kept, next_body, taken_in, added, IsReadyBody}
 use Rattle.eip_strategy.specs.Answers.{Answer, Says}
 use Rattle.eip_strategy.specs.Batches.{packed_behind, added_packed}
 use Rattle.eip_strategy.proofs.Checked.{checked_is}
@@ -43,6 +44,10 @@ added_batch s o new e = ap (λ (t : Strategy). added t o new) e
 pub added_latest : (s : Strategy) (old new : Message) → s ≡ Latest → added s (Some old) new ≡ with_body new (Ok new.body)
 unfolding added
 added_latest s old new e = ap (λ (t : Strategy). added t (Some old) new) e
+
+pub added_sum : (s : Strategy) (old new : Message) → s ≡ Sum → added s (Some old) new ≡ with_body old (in_decimal (sum_of (whole_of old.body) (whole_of new.body)))
+unfolding added
+added_sum s old new e = ap (λ (t : Strategy). added t (Some old) new) e
 
 with_body_properties : (m n : Message) (r : Answer (List ℕ)) → with_body m r ≡ Ok n → n.properties ≡ m.properties
 with_body_properties m n (Ok body) h =

@@ -8,3 +8,4 @@ pub mod Packed
 pub mod Pairs
 pub mod Rows
 pub mod Says
+mod Undone

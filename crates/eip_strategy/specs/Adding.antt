@@ -1,5 +1,5 @@
 -- How a message is taken in with those before it, by the aggregation strategies.
-use Rattle.std.specs.Prelude.{ℕ, List, [], ◌∷◌, ◌++◌, ℤ, ◌+ℤ◌, Option, Some, None, Ok, Err, if◌then◌else◌}
+use Rattle.std.specs.Prelude.{◌≢◌, ℕ, List, [], ◌∷◌, ◌++◌, ℤ, ◌+ℤ◌, Option, Some, None, Ok, Err, if◌then◌else◌}
 use Rattle.std.specs.Fmt.{signed_decimal}
 use Rattle.eip_text.specs.Numbers.{whole_of, is_small}
 use Rattle.eip_exchange.specs.declared.message.Message.{Message}
@@ -76,6 +76,10 @@ taken_in s (Some old) new = with_body (kept s old new) (next_body s old.body new
 unfoldable pub added : Strategy → Option Message → Message → Answer Message
 added Batch o new = added_packed o new
 added s o new = taken_in s o new
+
+-- by all strategies but these two, the messages before stay with another body
+abbrev pub KeepsMessage : Strategy → Type 0
+KeepsMessage s = (s ≢ Latest) × (s ≢ Batch)
 
 -- ---- what the messages before are
 

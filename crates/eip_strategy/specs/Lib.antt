@@ -4,3 +4,4 @@ pub mod Batches
 pub mod Folding
 pub mod Groups
 pub mod Growing
+pub mod Undoing

@@ -1,17 +1,21 @@
-ghost use Rattle.std.specs.Prelude.{◌≡◌, ◌↔◌, [], Some, Ok, IfOk, OnOk, OnErr, IsNone};
+ghost use Rattle.std.specs.Prelude.{◌≡◌, ◌≢◌, ◌↔◌, ◌<◌, ◌-◌, [], length, Some, Ok, IfOk, OnOk, OnErr, IsNone};
 ghost use Rattle.std.specs.Option.{option_map};
+ghost use Rattle.eip_exchange.specs.declared.setting.Strategy.TheVariants.{Sum};
 ghost use Rattle.eip_resequence.specs.Packing.{IsPacked};
-ghost use Rattle.eip_strategy.specs.Adding.{added, next_body, with_body, IsReadyBody, IsReady};
+ghost use Rattle.eip_text.specs.Numbers.{whole_of};
+ghost use Rattle.eip_strategy.specs.Adding.{added, sum_of, in_decimal, next_body, with_body, IsReadyBody, IsReady, KeepsMessage};
 ghost use Rattle.eip_strategy.specs.Answers.{Says};
 ghost use Rattle.eip_strategy.specs.Batches.{added_packed};
 ghost use Rattle.eip_strategy.specs.Folding.{folded};
 ghost use Rattle.eip_strategy.specs.Growing.{grown};
+ghost use Rattle.eip_strategy.specs.Undoing.{Undoes, undo_of};
 
 use crate::batch::push_message;
-use crate::bodies::grow;
+use crate::bodies::{grow, sum_text};
 use crate::fault::StrategyFault;
 use crate::growing::{Growing, LIMIT};
 use crate::steps::step;
+use crate::undo::Undo;
 use eip_exchange::{Message, Strategy};
 use eip_text::Text;
 use std::alloc::Global;
@@ -48,64 +52,104 @@ pub fn add(
     Ok(step(alloc, strategy, so_far, new)?.into_message())
 }
 
-/// Takes a new message in with the messages so far, as `add` does, where those stand: the body grows where it is. On a fault
-/// they stay as they were.
+/// Takes a new message in with the messages so far, as `add` does, where those stand: the body grows where it is. It is
+/// answered how they are made as they were, without memory. On a fault they stay as they were.
 pub fn add_in_place(
     alloc: Global,
     strategy: &Strategy,
     so_far: &mut Message,
     new: &Message,
-) -> Result<(), StrategyFault>
+) -> Result<Undo, StrategyFault>
     requires { IsReadyBody strategy.now so_far.old.body }
     ensures says { Says (λ _. so_far.new) result
         (added strategy.now (Some so_far.old) new.now) }
     ensures err { OnErr result (so_far.new ≡ so_far.old) }
     ensures ready { OnOk result (IsReadyBody strategy.now so_far.new.body) }
+    ensures undo { IfOk result (λ u. Undoes u so_far.old so_far.new) }
 {
     match strategy {
         Strategy::Batch => pack_in_place(alloc, so_far, new),
         Strategy::Latest => become_latest(alloc, so_far, new),
+        Strategy::Sum => become_sum(alloc, so_far, new),
         _ => grow_body(alloc, strategy, so_far, new),
     }
 }
 
-fn pack_in_place(alloc: Global, so_far: &mut Message, new: &Message) -> Result<(), StrategyFault>
+fn pack_in_place(alloc: Global, so_far: &mut Message, new: &Message) -> Result<Undo, StrategyFault>
     requires { IsPacked so_far.old.body }
     ensures says { Says (λ _. so_far.new) result (added_packed (Some so_far.old) new.now) }
     ensures err { OnErr result (so_far.new ≡ so_far.old) }
+    ensures undo { IfOk result (λ u. Undoes u so_far.old so_far.new) }
 {
     let taken = replace(&mut so_far.body, Text::of(String::new(alloc)));
     let mut body = taken.into_string();
+    let front = front_len(body.as_str());
     let done = push_message(alloc, &mut body, new);
     so_far.body = Text::of(body);
-    done
+    done?;
+    Ok(Undo::Reclose(front))
 }
 
-fn become_latest(alloc: Global, so_far: &mut Message, new: &Message) -> Result<(), StrategyFault>
+/// How many bytes of a JSON list stand in front of its closing bracket.
+fn front_len(list: &str) -> usize
+    requires { 0 < length list.now }
+    ensures { result ≡ length list.now - 1 }
+{
+    list.len() - 1
+}
+
+fn become_latest(alloc: Global, so_far: &mut Message, new: &Message) -> Result<Undo, StrategyFault>
     ensures says { Says (λ _. so_far.new) result (with_body new.now (Ok new.now.body)) }
     ensures err { OnErr result (so_far.new ≡ so_far.old) }
+    ensures undo { IfOk result (λ u. Undoes u so_far.old so_far.new) }
 {
     let latest = Growing::copy_of(alloc, new)?.within(LIMIT)?;
-    *so_far = latest.into_message();
-    Ok(())
+    Ok(Undo::Whole(replace(so_far, latest.into_message())))
 }
 
+fn become_sum(alloc: Global, so_far: &mut Message, new: &Message) -> Result<Undo, StrategyFault>
+    ensures says { Says (λ _. so_far.new) result
+        (with_body so_far.old (in_decimal (sum_of (whole_of so_far.old.body) (whole_of new.now.body)))) }
+    ensures err { OnErr result (so_far.new ≡ so_far.old) }
+    ensures undo { IfOk result (λ u. Undoes u so_far.old so_far.new) }
+{
+    let sum = sum_text(alloc, so_far.body.bytes(), &new.body)?;
+    Ok(Undo::Body(replace(&mut so_far.body, sum)))
+}
+
+/// Takes the body alone in, behind that of the messages so far or not at all.
 fn grow_body(
     alloc: Global,
     strategy: &Strategy,
     so_far: &mut Message,
     new: &Message,
-) -> Result<(), StrategyFault>
-    requires { IsReadyBody strategy.now so_far.old.body }
+) -> Result<Undo, StrategyFault>
+    requires ready { IsReadyBody strategy.now so_far.old.body }
+    requires keeps { KeepsMessage strategy.now }
+    requires grows { strategy.now ≢ Sum }
     ensures says { Says (λ _. so_far.new) result
         (with_body so_far.old (next_body strategy.now so_far.old.body new.now.body)) }
     ensures err { OnErr result (so_far.new ≡ so_far.old) }
+    ensures undo { IfOk result (λ u. Undoes u so_far.old so_far.new) }
 {
     let taken = replace(&mut so_far.body, Text::of(String::new(alloc)));
     let mut body = taken.into_string();
+    let undo = undo_of(strategy, body.as_str());
     let done = grow(alloc, strategy, &mut body, &new.body);
     so_far.body = Text::of(body);
-    done
+    done?;
+    Ok(undo)
+}
+
+/// How a body that grows is made as it was.
+fn undo_of(strategy: &Strategy, body: &str) -> Undo
+    requires { IsReadyBody strategy.now body.now }
+    ensures { result ≡ undo_of strategy.now body.now }
+{
+    match strategy {
+        Strategy::Grouped => Undo::Reclose(front_len(body)),
+        _ => Undo::Cut(body.len()),
+    }
 }
 
 fn growing_of(old: Option<Message>) -> Option<Growing>

@@ -1,7 +1,7 @@
 // How the body of the messages so far grows where it stands.
 ghost use Rattle.std.specs.Prelude.{◌≡◌, ◌+◌, ◌<◌, ◌≤◌, ◌++◌, ◌∷◌, [], length, Ok, OnOk, OnErr, string_bytes, string_len, string_capacity};
 ghost use Rattle.eip_text.specs.Numbers.{whole_of};
-ghost use Rattle.eip_strategy.specs.Adding.{sum_of, in_decimal, next_body, IsReadyBody};
+ghost use Rattle.eip_strategy.specs.Adding.{sum_of, in_decimal, next_body, IsReadyBody, KeepsMessage};
 ghost use Rattle.eip_strategy.specs.Answers.{Says, bounded, fitting};
 ghost use Rattle.eip_strategy.specs.Groups.{group_text, texts_read, IsGroup};
 
@@ -20,17 +20,18 @@ pub fn grow(
     body: &mut String,
     new: &Text,
 ) -> Result<(), StrategyFault>
-    requires { IsReadyBody strategy.now (string_bytes body.old) }
+    requires ready { IsReadyBody strategy.now (string_bytes body.old) }
+    requires keeps { KeepsMessage strategy.now }
     ensures says { Says (λ _. string_bytes body.new) result
         (bounded 65536 (next_body strategy.now (string_bytes body.old) new.now)) }
     ensures err { OnErr result (string_bytes body.new ≡ string_bytes body.old) }
 {
     match strategy {
-        Strategy::Original | Strategy::Batch => stay(body),
-        Strategy::Latest => replace(body, new.copy()?),
+        Strategy::Original => stay(body),
         Strategy::Joined(delimiter) => push_joined(body, delimiter, new),
         Strategy::Grouped => push_grouped(alloc, body, new),
         Strategy::Sum => replace_by_sum(alloc, body, new),
+        Strategy::Latest | Strategy::Batch => unreachable!(),
     }
 }
 
@@ -38,20 +39,6 @@ fn stay(body: &String) -> Result<(), StrategyFault>
     ensures { Says (λ _. string_bytes body.now) result (bounded 65536 (Ok (string_bytes body.now))) }
 {
     if body.len() <= LIMIT {
-        Ok(())
-    } else {
-        Err(StrategyFault::TooLong)
-    }
-}
-
-/// Puts a text in the place of the body.
-fn replace(body: &mut String, text: Text) -> Result<(), StrategyFault>
-    ensures says { Says (λ _. string_bytes body.new) result (bounded 65536 (Ok text)) }
-    ensures err { OnErr result (string_bytes body.new ≡ string_bytes body.old) }
-{
-    let text = text.into_string();
-    if text.len() <= LIMIT {
-        *body = text;
         Ok(())
     } else {
         Err(StrategyFault::TooLong)
@@ -92,8 +79,27 @@ fn replace_by_sum(alloc: Global, body: &mut String, new: &Text) -> Result<(), St
         (bounded 65536 (in_decimal (sum_of (whole_of (string_bytes body.old)) (whole_of new.now)))) }
     ensures err { OnErr result (string_bytes body.new ≡ string_bytes body.old) }
 {
-    let sum = sum_of(body.as_bytes(), new.bytes())?;
-    replace(body, signed_decimal(alloc, sum)?)
+    *body = sum_text(alloc, body.as_bytes(), new)?.into_string();
+    Ok(())
+}
+
+/// The sum of two bodies, in decimal.
+pub fn sum_text(alloc: Global, old: &[u8], new: &Text) -> Result<Text, StrategyFault>
+    ensures { Says (λ t. t) result
+        (bounded 65536 (in_decimal (sum_of (whole_of old.now) (whole_of new.now)))) }
+{
+    let sum = sum_of(old, new.bytes())?;
+    within_limit(signed_decimal(alloc, sum)?)
+}
+
+fn within_limit(text: Text) -> Result<Text, StrategyFault>
+    ensures { Says (λ t. t) result (bounded 65536 (Ok text)) }
+{
+    if text.bytes().len() <= LIMIT {
+        Ok(text)
+    } else {
+        Err(StrategyFault::TooLong)
+    }
 }
 
 /// Makes room for two texts of so many bytes behind a body, where it has at most `limit` bytes with them.

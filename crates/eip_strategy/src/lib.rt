@@ -8,7 +8,9 @@ pub mod fault;
 mod growing;
 mod laws;
 mod steps;
+mod undo;
 
 pub use adding::{add, add_in_place, fold};
 pub use fault::StrategyFault;
 pub use laws::batch_law;
+pub use undo::Undo;

@@ -1,10 +1,11 @@
 // One message more, by each strategy.
-ghost use Rattle.std.specs.Prelude.{◌≡◌, ◌∷◌, ◌+ℤ◌, [], IfOk, OnOk, string_bytes};
+ghost use Rattle.std.specs.Prelude.{◌≡◌, ◌≢◌, ◌∷◌, ◌+ℤ◌, [], IfOk, OnOk, string_bytes};
 ghost use Rattle.std.specs.Fmt.{signed_decimal};
 ghost use Rattle.std.specs.Option.{option_map};
 ghost use Rattle.json.specs.Print.{quoted};
 ghost use Rattle.eip_text.specs.Numbers.{whole_of};
-ghost use Rattle.eip_strategy.specs.Adding.{number_in, small_sum, sum_of, in_decimal, first_body, next_body, with_body, taken_in, added, IsReadyBody, IsReady};
+ghost use Rattle.eip_exchange.specs.declared.setting.Strategy.TheVariants.{Batch};
+ghost use Rattle.eip_strategy.specs.Adding.{number_in, small_sum, sum_of, in_decimal, first_body, next_body, with_body, taken_in, added, IsReadyBody, IsReady, KeepsMessage};
 ghost use Rattle.eip_strategy.specs.Answers.{Says};
 ghost use Rattle.eip_strategy.specs.Groups.{group_text};
 ghost use Rattle.eip_strategy.specs.Growing.{grown};
@@ -32,11 +33,7 @@ pub fn step(
 {
     match strategy {
         Strategy::Batch => packed_in(alloc, so_far, new),
-        Strategy::Original
-        | Strategy::Latest
-        | Strategy::Joined(_)
-        | Strategy::Grouped
-        | Strategy::Sum => taken_in(alloc, strategy, so_far, new),
+        _ => taken_in(alloc, strategy, so_far, new),
     }
 }
 
@@ -47,7 +44,8 @@ fn taken_in(
     so_far: Option<Growing>,
     new: &Message,
 ) -> Result<Growing, StrategyFault>
-    requires { IsReady strategy.now (option_map grown so_far) }
+    requires ready { IsReady strategy.now (option_map grown so_far) }
+    requires alone { strategy.now ≢ Batch }
     ensures { Says grown result (taken_in strategy.now (option_map grown so_far) new.now) }
 {
     match so_far {
@@ -57,6 +55,7 @@ fn taken_in(
 }
 
 fn first(alloc: Global, strategy: &Strategy, new: &Message) -> Result<Growing, StrategyFault>
+    requires { strategy.now ≢ Batch }
     ensures { Says grown result (taken_in strategy.now None new.now) }
 {
     let mut message = Growing::copy_of(alloc, new)?;
@@ -66,6 +65,7 @@ fn first(alloc: Global, strategy: &Strategy, new: &Message) -> Result<Growing, S
 
 /// Makes the body of the first message that of the messages so far.
 fn begin(alloc: Global, strategy: &Strategy, body: &mut String) -> Result<(), StrategyFault>
+    requires { strategy.now ≢ Batch }
     ensures { Says (λ _. string_bytes body.new) result
         (first_body strategy.now (string_bytes body.old)) }
 {
@@ -75,7 +75,7 @@ fn begin(alloc: Global, strategy: &Strategy, body: &mut String) -> Result<(), St
         Strategy::Joined(_) => Ok(()),
         Strategy::Grouped => Ok(begin_group(alloc, body)?),
         Strategy::Sum => begin_sum(alloc, body),
-        Strategy::Batch => Ok(()),
+        Strategy::Batch => unreachable!(),
     }
 }
 
@@ -104,7 +104,8 @@ fn next(
     so_far: Growing,
     new: &Message,
 ) -> Result<Growing, StrategyFault>
-    requires { IsReadyBody strategy.now (string_bytes so_far.body) }
+    requires ready { IsReadyBody strategy.now (string_bytes so_far.body) }
+    requires alone { strategy.now ≢ Batch }
     ensures { Says grown result (taken_in strategy.now (Some (grown so_far)) new.now) }
 {
     match strategy {
@@ -123,7 +124,8 @@ fn grown(
     mut so_far: Growing,
     new: &Message,
 ) -> Result<Growing, StrategyFault>
-    requires { IsReadyBody strategy.now (string_bytes so_far.body) }
+    requires ready { IsReadyBody strategy.now (string_bytes so_far.body) }
+    requires keeps { KeepsMessage strategy.now }
     ensures { Says grown result (with_body (grown so_far)
         (next_body strategy.now (string_bytes so_far.body) new.now.body)) }
 {

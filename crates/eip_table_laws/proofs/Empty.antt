@@ -24,6 +24,7 @@ pub first-tables : (set : RouteSet) (workers limit : ℕ) (sources : List Source
 unfolding KeepsRules story turns first_fault served pulls_out source_state
 first-tables set workers limit sources few some most h = record {
   legal = record { few_workers = few; some_turns = some; few_turns = most; entries = tt };
+  simple = tt;
   rows = tt;
   ready = refl;
   sources = h;

@@ -29,8 +29,7 @@ use Rattle.eip_history.proofs.Lists.{related-at, slice_get-some}
 use Rattle.eip_history.proofs.Unborn.{birth-stays}
 use Rattle.eip_plan.specs.Plan.{plan_of}
 use Rattle.eip_plan.specs.Simple.{IsSimple}
-use Rattle.eip_plan.proofs.Laws.{plan-simple}
-use Rattle.eip_plan.proofs.Items.{asked-simple, fits-simple}
+use Rattle.eip_plan.proofs.Items.{outside-simple, fits-simple}
 use Rattle.eip_progress.specs.declared.cursor.Cursor.{Cursor}
 use Rattle.eip_tables.specs.declared.row.Stage.{Stage}
 use Rattle.eip_tables.specs.declared.row.Stage.TheVariants as stage
@@ -145,6 +144,8 @@ answered-now i r c w h = let f = held-fields r.stage r.cursor r.request r.fault 
 -- what stands of the answer to a simple request
 content-simple : (s : Plan) (past : Past) (k : Asked) (q : Request) (a : Reply) → IsSimple q → Content s past k q a
 content-simple s past k (request.Send t m) a i = tt
+content-simple s past k (request.Process n m) a i = tt
+content-simple s past k (request.Test n m) a i = tt
 content-simple s past k (request.Log n t) a i = tt
 content-simple s past k (request.Finish e m c) a i = tt
 content-simple s past k _ a i = absurd i
@@ -324,7 +325,7 @@ module _ {routes : RouteSet} {workers limit : ℕ} {past : Past} (t : Tables) (w
         let there : asked (plan_of routes) past x ≡ Some k.0 = k.1.0 in
         let one : d ≡ k.0 = cc in
         let same : s.0 ≡ q = ap (λ (a : Asked). a.request) one ∙ k.1.1 in
-        let all : HeldAsks s.0 = record { asking = s.1; asked_is = is; outside = s.2; simple = asked-simple (plan_of routes) (plan-simple routes) past x d is } in
+        let all : HeldAsks s.0 = record { asking = s.1; asked_is = is; outside = s.2; simple = outside-simple s.0 s.2 } in
         subst HeldAsks same all
 
     may-answer : (q : Request) (a : Reply) → HeldAsks q → fits q a ≡ true → May (plan_of routes) limit past w (Answer x a)
@@ -360,7 +361,7 @@ module _ {routes : RouteSet} {workers limit : ℕ} {past : Past} (t : Tables) (w
         let l : row_live (answered (length past) r) ≡ true = ap state_live now in
         let n = taken-above in
         rw (no-notes q a k, append-nil t.notes) at
-        (stands-one routes workers limit past t w x (x - 1) (Answer x a) r (answered (length past) r) (put_in x t.ready) (t.taken - 1) t.live st lw (may-answer q a k fit) (of-answer w x a) (above (place_is.InHand w) placed) row
+        (stands-one routes workers limit past t w x (x - 1) (Answer x a) r (answered (length past) r) (put_in x t.ready) (t.taken - 1) t.live st lw (may-answer q a k fit) (of-answer w x a (fits-simple q a k.simple fit)) (above (place_is.InHand w) placed) row
         (λ d d_at h. record {
           born = born-stays s (record { worker = w; kind = Answer x a }) past r.born d h.born;
           stands =
@@ -386,7 +387,7 @@ module _ {routes : RouteSet} {workers limit : ℕ} {past : Past} (t : Tables) (w
         let n = taken-above in
         let m = held-live in
         rw (no-notes q a k, append-nil t.notes) at
-        (stands-one routes workers limit past t w x (x - 1) (Answer x a) r (ended_by e a r) t.ready (t.taken - 1) (t.live - 1) st lw (may-answer q a k fit) (of-answer w x a) (above (place_is.InHand w) placed) row
+        (stands-one routes workers limit past t w x (x - 1) (Answer x a) r (ended_by e a r) t.ready (t.taken - 1) (t.live - 1) st lw (may-answer q a k fit) (of-answer w x a (fits-simple q a k.simple fit)) (above (place_is.InHand w) placed) row
         (λ d d_at h. record {
           born = subst (λ (i : ℕ). IsBornAt s ((record { worker = w; kind = Answer x a }) ∷ past) i d) (ended-by-born e a r) (born-stays s (record { worker = w; kind = Answer x a }) past r.born d h.born);
           stands =

@@ -1,5 +1,5 @@
 -- What an exchange that was looked at asks for, and what is made of it.
-use Rattle.std.proofs.Common.{◌≡◌, ◌≢◌, ℕ, ◌-◌, true, false, List, Option, Some, refl, ap, subst, map, arith}
+use Rattle.std.proofs.Common.{◌≡◌, ◌≢◌, ℕ, ◌-◌, true, false, List, Option, Some, refl, ap, map, arith}
 use Rattle.std.specs.List.{slice_get}
 use Rattle.eip_route.specs.declared.route.RouteSet.{RouteSet}
 use Rattle.eip_frames.specs.declared.request.Request.{Request}
@@ -9,9 +9,6 @@ use Rattle.eip_history.specs.Own.{Past}
 use Rattle.eip_history.specs.Births.{asked, Asked as HasAsked}
 use Rattle.eip_history.specs.Rules.{outside_asked}
 use Rattle.eip_plan.specs.Plan.{plan_of}
-use Rattle.eip_plan.specs.Simple.{IsSimple}
-use Rattle.eip_plan.proofs.Laws.{plan-simple}
-use Rattle.eip_plan.proofs.Items.{asked-simple}
 use Rattle.eip_ledger.specs.declared.place.Place.TheVariants as place_is
 use Rattle.eip_history.specs.Place.{place}
 use Rattle.eip_tables.specs.declared.row.Row.{Row}
@@ -22,19 +19,15 @@ use Rattle.eip_table_laws.proofs.OwnCalls.{asked-there}
 use Rattle.eip_tables.specs.declared.asking.Asked.TheVariants as kind
 use Rattle.eip_tables.specs.Asking.{asked_kind, is_outside_kind, AsksLine, AsksEnd}
 
-pub kind-outside : (q : Request) → IsSimple q → is_outside_kind (asked_kind q) ≡ is_outside q
-kind-outside (request.Send t m) i = refl
-kind-outside (request.Log n t) i = refl
-kind-outside (request.Finish e m true) i = refl
-kind-outside (request.Finish e m false) i = refl
-kind-outside _ i = absurd i
+pub kind-outside : (q : Request) → is_outside_kind (asked_kind q) ≡ is_outside q
+kind-outside (request.Finish e m true) = refl
+kind-outside (request.Finish e m false) = refl
+kind-outside _ = refl
 
-pub kind-known : (q : Request) → IsSimple q → asked_kind q ≢ kind.Unknown
-kind-known (request.Send t m) i h = cc h
-kind-known (request.Log n t) i h = cc h
-kind-known (request.Finish e m true) i h = cc h
-kind-known (request.Finish e m false) i h = cc h
-kind-known _ i h = absurd i
+pub kind-known : (q : Request) → asked_kind q ≢ kind.Unknown
+kind-known (request.Finish e m true) h = cc h
+kind-known (request.Finish e m false) h = cc h
+kind-known _ h = cc h
 
 pub kind-line : (known : List (Option Request)) (x : ℕ) (q : Request) → slice_get known (x - 1) ≡ Some (Some q) → asked_kind q ≡ kind.Line → AsksLine known x
 kind-line known x (request.Log n t) at h = record { name = n; text = t; asks = at }
@@ -58,10 +51,9 @@ pub outside-of : (o : Option HasAsked) (k : HasAsked) (q : Request) → o ≡ So
 outside-of o k q h e = rw h (ap is_outside e)
 
 -- what is known of a Ready exchange is what it asks
-pub asks-simply : {set : RouteSet} {workers limit : ℕ} {past : Past} (t : Tables) (x : ℕ) (r : Row) → Stands set workers limit past t → place (plan_of set) past x ≡ Some place_is.Ready → slice_get t.rows (x - 1) ≡ Some r
-    → (q : Request) → slice_get (map known_of t.rows) (x - 1) ≡ Some (Some q) → (outside_asked (asked (plan_of set) past x) ≡ is_outside q) × IsSimple q
-asks-simply {set} {workers} {limit} {past} t x r st ready row q at =
+pub asks-outside : {set : RouteSet} {workers limit : ℕ} {past : Past} (t : Tables) (x : ℕ) (r : Row) → Stands set workers limit past t → place (plan_of set) past x ≡ Some place_is.Ready → slice_get t.rows (x - 1) ≡ Some r
+    → (q : Request) → slice_get (map known_of t.rows) (x - 1) ≡ Some (Some q) → outside_asked (asked (plan_of set) past x) ≡ is_outside q
+asks-outside {set} {workers} {limit} {past} t x r st ready row q at =
     let k = known-state t.rows (x - 1) r q row at in
     let a = asked-there t 0 x st (omega arith) k.0 r ready row q k.1 in
-    let simple : IsSimple a.0.request = asked-simple (plan_of set) (plan-simple set) past x a.0 a.1 in
-    (outside-of (asked (plan_of set) past x) a.0 q a.1 a.2, subst IsSimple a.2 simple)
+    outside-of (asked (plan_of set) past x) a.0 q a.1 a.2

@@ -1,5 +1,5 @@
 -- The numbers of the rows that pass a test: who is among them, the least of them, and those that pass another test.
-use Rattle.std.proofs.Common.{◌≡◌, ℕ, zero, suc, ◌+◌, ◌-◌, ◌<◌, ◌≤◌, Bool, true, false, ◌==◌, ◌&&◌, cond, List, [], ◌∷◌, ◌++◌, length, set, drop, filter, Option, Some, None, refl, sym, ap, ◌∙◌, arith, eq-eqb, get_or, drop-cons}
+use Rattle.std.proofs.Common.{◌≡◌, ℕ, zero, suc, ◌+◌, ◌-◌, ◌<◌, ◌≤◌, Bool, true, false, ◌==◌, ◌&&◌, cond, List, [], ◌∷◌, ◌++◌, length, set, filter, Option, Some, None, refl, sym, ap, ◌∙◌, arith, eq-eqb, get_or}
 use Rattle.std.specs.List.{slice_get, All}
 use Rattle.std.specs.Prelude.{IfSome, IfNone}
 use Rattle.std.proofs.lemmas.Bool.{ne_eqb, eqb-true}

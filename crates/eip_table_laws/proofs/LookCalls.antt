@@ -14,11 +14,10 @@ use Rattle.eip_ledger.specs.declared.entry.Kind.TheVariants.{Answer}
 use Rattle.eip_ledger.specs.declared.place.Place.TheVariants as place_is
 use Rattle.eip_history.specs.Own.{Past, own}
 use Rattle.eip_history.specs.Births.{births, item_birth}
-use Rattle.eip_history.specs.Place.{place, end_of}
+use Rattle.eip_history.specs.Place.{place}
 use Rattle.eip_history.proofs.Lists.{numbered-at}
 use Rattle.eip_history.proofs.Told.{births-numbered}
 use Rattle.eip_plan.specs.Plan.{plan_of}
-use Rattle.eip_plan.proofs.Laws.{plan-laws}
 use Rattle.eip_meaning.specs.Meaning.{mean}
 use Rattle.eip_progress.specs.declared.cursor.Cursor.{Cursor}
 use Rattle.eip_progress.specs.Rest.{rest}
@@ -63,11 +62,6 @@ answered-row set past b r i g h = answered-fields i r.cursor r.request r.fault s
 -- a row that is new has a birth with no entry
 new-row : (set : RouteSet) (past : Past) (b : Birth) (r : Row) → r.stage ≡ stage.New → RowStands set past b r → own b.number past ≡ []
 new-row set past b r g h = rw g at h.stands
-
--- before its first request no exchange has ended
-pub lives-first : (set : RouteSet) (b : Birth) → end_of (mean set b []) ≡ None
-unfolding plan_of
-lives-first set b = (plan-laws set).starts b
 
 -- a ready row is new, asks, or has an answer to come
 module _ {routes : RouteSet} {workers limit : ℕ} {past : Past} (t : Tables) (x : ℕ) (r : Row) (st : Stands routes workers limit past t)

@@ -25,7 +25,7 @@ use Rattle.eip_tables.specs.Stands.{Tables, Stands}
 use Rattle.eip_table_laws.proofs.SourceEvents.{get-set-same}
 use Rattle.eip_table_laws.proofs.OwnCalls.{row-within}
 use Rattle.eip_table_laws.proofs.LookCalls.{known-now, known-state}
-use Rattle.eip_table_laws.proofs.InnerCalls.{asks-simply}
+use Rattle.eip_table_laws.proofs.InnerCalls.{asks-outside}
 use Rattle.eip_table_laws.proofs.ListedNumbers.{numbers-looked, set-there}
 
 asks-is : (g : Stage) (oc : Option Cursor) (oq : Option Request) (f : Option Fault) (c : Cursor) (q : Request) → state_by g oc oq f ≡ state.Asks c q → asks_outside g oq ≡ is_outside q
@@ -45,9 +45,9 @@ looked-outside {set} {workers} {limit} {past} t x old new c q st ready row st' i
     let number : 1 + (x - 1) ≡ x = omega (arith, above.0) in
     let there : slice_get (put_at t.rows (x - 1) new) (x - 1) ≡ Some new = get-set-same t.rows (x - 1) new within in
     let knows : known_of new ≡ Some q = ap known_of is in
-    let asks = asks-simply (record t { rows = put_at t.rows (x - 1) new }) x new st' ready there q (known-now t.rows (x - 1) old new q row knows) in
+    let asks = asks-outside (record t { rows = put_at t.rows (x - 1) new }) x new st' ready there q (known-now t.rows (x - 1) old new q row knows) in
     let now : row_outside new ≡ is_outside q = ap row_outside is in
-    rw asks.0 (rw number at (numbers-looked row_outside 1 t.rows (x - 1) (new_row 0) old new (is_outside q) row within refl now (λ h. was)))
+    rw asks (rw number at (numbers-looked row_outside 1 t.rows (x - 1) (new_row 0) old new (is_outside q) row within refl now (λ h. was)))
 
 -- a row that was looked at already
 pub known-outside-already : {set : RouteSet} {workers limit : ℕ} {past : Past} (t : Tables) (x : ℕ) (r : Row) (q : Request) → Stands set workers limit past t → place (plan_of set) past x ≡ Some place_is.Ready → slice_get t.rows (x - 1) ≡ Some r
@@ -59,6 +59,6 @@ known-outside-already {set} {workers} {limit} {past} t x r q st ready row known 
     let number : 1 + (x - 1) ≡ x = omega (arith, above.0) in
     let k = known-state t.rows (x - 1) r q row known in
     let now : row_outside r ≡ is_outside q = asks-is r.stage r.cursor r.request r.fault k.0 q k.1 in
-    let asks = asks-simply t x r st ready row q known in
+    let asks = asks-outside t x r st ready row q known in
     let same : put_at t.rows (x - 1) r ≡ t.rows = set-there t.rows (x - 1) r row in
-    rw asks.0 (ap (row_numbers row_outside 1) (sym same) ∙ (rw number at (numbers-looked row_outside 1 t.rows (x - 1) (new_row 0) r r (is_outside q) row within refl now (λ h. now ∙ h))))
+    rw asks (ap (row_numbers row_outside 1) (sym same) ∙ (rw number at (numbers-looked row_outside 1 t.rows (x - 1) (new_row 0) r r (is_outside q) row within refl now (λ h. now ∙ h))))

@@ -3,7 +3,6 @@ use Rattle.std.proofs.Common.{◌≡◌, ℕ, zero, suc, ◌-◌, ◌<◌, ◌�
 use Rattle.std.specs.Prelude.{option_map}
 use Rattle.std.specs.List.{slice_get}
 use Rattle.eip_exchange.specs.declared.birth.Birth.{Birth}
-use Rattle.eip_exchange.specs.declared.birth.Origin.TheVariants as from
 use Rattle.eip_exchange.specs.declared.end.Fault.{Fault}
 use Rattle.eip_route.specs.declared.route.RouteSet.{RouteSet}
 use Rattle.eip_frames.specs.declared.request.Request.{Request}
@@ -18,7 +17,7 @@ use Rattle.eip_plan.specs.Plan.{plan_of}
 use Rattle.eip_tables.specs.declared.row.Stage.{Stage}
 use Rattle.eip_tables.specs.declared.row.Stage.TheVariants as stage
 use Rattle.eip_tables.specs.declared.row.Row.{Row}
-use Rattle.eip_tables.specs.State.{state_of, state_by}
+use Rattle.eip_tables.specs.State.{state_by}
 use Rattle.eip_tables.specs.Rows.{RowStands, entry_at}
 use Rattle.eip_tables.specs.Stands.{Tables, Stands}
 use Rattle.eip_tables.specs.Origin.{origin_in, ending_at, stage_ending}

@@ -174,7 +174,7 @@ module _ {routes : RouteSet} {workers limit : ℕ} {past : Past} (t : Tables) (w
       rw written at
       (stands-one routes workers limit past t w x (x - 1) (Answer x reply.Noted) r (answered (length past) r) t.ready t.taken t.live st lw
       (record { asks = record { birth = here.birth; request = q; at = (asking q asks).at }; asked_is = asked-here q asks; fitting = refl; act = (ready, below); content = tt })
-      (of-answer w x reply.Noted) above row
+      (of-answer w x reply.Noted tt) above row
       (λ d d_at h. record {
         born = born-stays s (record { worker = w; kind = Answer x reply.Noted }) past r.born d h.born;
         stands = rw now (subst (λ (n : ℕ). HasAnswer routes ((record { worker = w; kind = Answer n reply.Noted }) ∷ past) d c (length past)) (number-of d d_at) (has-answer routes past w d c q reply.Noted None tt tt refl (rw asks at h.stands)));
@@ -198,7 +198,7 @@ module _ {routes : RouteSet} {workers limit : ℕ} {past : Past} (t : Tables) (w
       rw (none, append-nil t.notes) at
       (stands-one routes workers limit past t w x (x - 1) (Answer x reply.Finished) r (finished e r) (without x t.ready) t.taken (t.live - 1) st lw
       (record { asks = record { birth = here.birth; request = q; at = (asking q asks).at }; asked_is = asked-here q asks; fitting = refl; act = (ready, below); content = tt })
-      (of-answer w x reply.Finished) above row
+      (of-answer w x reply.Finished tt) above row
       (λ d d_at h. record {
         born = born-stays s (record { worker = w; kind = Answer x reply.Finished }) past r.born d h.born;
         stands = rw now (subst (λ (n : ℕ). HasEnded routes ((record { worker = w; kind = Answer n reply.Finished }) ∷ past) d (closing_of e)) (number-of d d_at) (has-finished routes past w d c e m false None (rw asks at h.stands)));

@@ -20,6 +20,7 @@ use Rattle.eip_history.proofs.Limit.{source-after, pulls-same, turns-more, not-s
 use Rattle.eip_history.proofs.Main.{legal-add}
 use Rattle.eip_history.proofs.Told.{births-numbered}
 use Rattle.eip_plan.specs.Plan.{plan_of}
+use Rattle.eip_plan.specs.Simple.{IsSimpleAnswer, IsSimpleEntry, AnswersSimply}
 use Rattle.eip_plan.proofs.Items.{item_births}
 use Rattle.eip_tables.specs.declared.row.Row.{Row}
 use Rattle.eip_tables.specs.Numbers.{row_numbers}
@@ -29,21 +30,22 @@ use Rattle.eip_table_laws.proofs.RowNumbers.{numbers-stay, count-set}
 use Rattle.eip_table_laws.proofs.RowPlaces.{row-other}
 use Rattle.eip_table_laws.proofs.SourceEvents.{births-same, sources-same, notes-more, fault-none}
 
--- an entry of exchange x: it concerns nobody else, moves no source and makes no exchange
+-- an entry of exchange x: it concerns nobody else, moves no source, answers a simple request or none, and makes no exchange
 pub record IsOfOne (w x : ℕ) (k : Kind) : Type 0 where
   pub only : (y : ℕ) → y ≢ x → concerns y k ≡ false
   pub unmoved : (u : ℕ) (was : SourceState) → moved w u k was ≡ was
   pub no_fault : fault_in k ≡ None
+  pub simple : IsSimpleEntry k
   pub no_birth : (s : Plan) (past : Past) → item_births s past k ≡ []
 
 pub of-take : (w x : ℕ) → IsOfOne w x (Take x)
-of-take w x = record { only = λ y ne. not-same y x ne; unmoved = λ u was. refl; no_fault = refl; no_birth = λ s past. refl }
+of-take w x = record { only = λ y ne. not-same y x ne; unmoved = λ u was. refl; no_fault = refl; simple = tt; no_birth = λ s past. refl }
 
-pub of-answer : (w x : ℕ) (a : Reply) → IsOfOne w x (Answer x a)
-of-answer w x a = record { only = λ y ne. not-same y x ne; unmoved = λ u was. refl; no_fault = refl; no_birth = λ s past. refl }
+pub of-answer : (w x : ℕ) (a : Reply) → IsSimpleAnswer a → IsOfOne w x (Answer x a)
+of-answer w x a i = record { only = λ y ne. not-same y x ne; unmoved = λ u was. refl; no_fault = refl; simple = i; no_birth = λ s past. refl }
 
 pub of-starve : (w x : ℕ) → IsOfOne w x (Starve x)
-of-starve w x = record { only = λ y ne. not-same y x ne; unmoved = λ u was. refl; no_fault = refl; no_birth = λ s past. refl }
+of-starve w x = record { only = λ y ne. not-same y x ne; unmoved = λ u was. refl; no_fault = refl; simple = tt; no_birth = λ s past. refl }
 
 -- the lines of the log that an entry adds
 abbrev pub notes_in : Plan → Past → ℕ → Kind → List Note
@@ -61,10 +63,12 @@ stands-one routes workers limit past t w x i k old new ready taken live st lw ma
     let e : Entry = record { worker = w; kind = k } in
     let s = plan_of routes in
     let legal = legal-add s workers limit e past st.legal lw may in
-    let same = births-same routes workers limit e past legal.entries (of.no_birth s past) in
+    let simple : AnswersSimply (e ∷ past) = (st.simple, of.simple) in
+    let same = births-same routes workers limit e past legal.entries simple (of.no_birth s past) in
     let suc_is : 1 + i ≡ suc i = omega arith in
     record {
       legal = legal;
+      simple = simple;
       rows = rw same (related-set (RowStands routes past) (RowStands routes (e ∷ past)) 1 (births s past) t.rows i new (births-numbered s past)
           (λ b r ne h. row-other routes e past b r (of.only b.number (λ y. ne (y ∙ (sym x_is ∙ sym suc_is)))) h)
           (λ b b_at. here b b_at (related-at (RowStands routes past) (births s past) t.rows i b old st.rows b_at at)) st.rows);
@@ -86,6 +90,7 @@ stands-look routes workers limit past t i old new st at here ready held live =
     let s = plan_of routes in
     record {
       legal = st.legal;
+      simple = st.simple;
       rows = related-set (RowStands routes past) (RowStands routes past) 1 (births s past) t.rows i new (births-numbered s past) (λ b r ne h. h)
           (λ b b_at. here b b_at (related-at (RowStands routes past) (births s past) t.rows i b old st.rows b_at at)) st.rows;
       ready = st.ready ∙ sym (numbers-stay row_ready 1 t.rows i old new at ready);

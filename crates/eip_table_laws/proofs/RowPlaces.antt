@@ -90,9 +90,13 @@ no-end set b (AsksNext q p) h = refl
 no-end set b (Ends e m) h = absurd (starts set b e m h)
 no-end set b Strays h = refl
 
+-- before its first request no exchange has ended
+pub lives-first : (set : RouteSet) (b : Birth) → end_of (mean set b []) ≡ None
+lives-first set b = no-end set b (mean set b []) refl
+
 pub state-place : (set : RouteSet) (past : Past) (i : ℕ) (b : Birth) (st : State) → IsBornAt (plan_of set) past i b → StateStands set past b st → Placed b st (place_of (plan_of set) past b)
 state-place set past i b state.New born o =
-    place-runs (plan_of set) past i b None born (ap end_of (new-fate set past b o) ∙ no-end set b (mean set b []) refl) (rw o refl) (rw o refl)
+    place-runs (plan_of set) past i b None born (ap end_of (new-fate set past b o) ∙ lives-first set b) (rw o refl) (rw o refl)
 state-place set past i b (state.Asks c q) born a =
     place-runs (plan_of set) past i b None born (asks-live _ q a.at (fate-asks set past b c q None a)) a.follows.taken a.follows.runs
 state-place set past i b (state.Held c w) born h =

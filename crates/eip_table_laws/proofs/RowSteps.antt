@@ -55,6 +55,9 @@ runs-simple : (a : Reply) → IsSimpleAnswer a → pause_of (Some a) ≡ Runs
 runs-simple reply.Done i = refl
 runs-simple reply.SendFailed i = refl
 runs-simple reply.Exists i = refl
+runs-simple (reply.Became m) i = refl
+runs-simple (reply.Raised f) i = refl
+runs-simple (reply.Holds b) i = refl
 runs-simple reply.Noted i = refl
 runs-simple reply.Finished i = refl
 runs-simple reply.CommitFailed i = refl

@@ -25,8 +25,8 @@ use Rattle.eip_history.proofs.Limit.{source-after, pulls-change, turns-more, not
 use Rattle.eip_history.proofs.Main.{legal-add}
 use Rattle.eip_history.proofs.Unborn.{newborn-own}
 use Rattle.eip_plan.specs.Plan.{plan_of}
+use Rattle.eip_plan.specs.Simple.{IsSimpleEntry, AnswersSimply}
 use Rattle.eip_plan.proofs.Items.{item_births, births-items}
-use Rattle.eip_plan.proofs.Laws.{plan-simple}
 use Rattle.eip_tables.specs.declared.row.Row.{Row}
 use Rattle.eip_tables.specs.Moves.{new_row}
 use Rattle.eip_tables.specs.declared.row.SourceState.{SourceState as Kept}
@@ -86,14 +86,15 @@ fault-more e past = refl
 pub fault-none : (e : Entry) (past : Past) → fault_in e.kind ≡ None → first_fault (e ∷ past) ≡ first_fault past
 fault-none e past h = fault-more e past ∙ (ap (or_else (first_fault past)) h ∙ or_else-none (first_fault past))
 
-pub births-same : (set : RouteSet) (w limit : ℕ) (e : Entry) (past : Past) → KeepsRules (plan_of set) w limit (e ∷ past) → item_births (plan_of set) past e.kind ≡ [] → births (plan_of set) (e ∷ past) ≡ births (plan_of set) past
-births-same set w limit e past legal none =
-    births-items (plan_of set) (plan-simple set) w limit e past legal ∙ (ap (λ bs. births (plan_of set) past ++ bs) none ∙ append-nil (births (plan_of set) past))
+pub births-same : (set : RouteSet) (w limit : ℕ) (e : Entry) (past : Past) → KeepsRules (plan_of set) w limit (e ∷ past) → AnswersSimply (e ∷ past) → item_births (plan_of set) past e.kind ≡ [] → births (plan_of set) (e ∷ past) ≡ births (plan_of set) past
+births-same set w limit e past legal simple none =
+    births-items (plan_of set) w limit e past legal simple ∙ (ap (λ bs. births (plan_of set) past ++ bs) none ∙ append-nil (births (plan_of set) past))
 
--- an entry of a source: it concerns no exchange, and no other source
+-- an entry of a source: it concerns no exchange, and no other source, and answers no request
 pub record IsOfSource (w t : ℕ) (k : Kind) : Type 0 where
   pub nobody : (x : ℕ) → concerns x k ≡ false
   pub others : (u : ℕ) (was : SourceState) → u ≢ t → moved w u k was ≡ was
+  pub simple : IsSimpleEntry k
 
 rows-quiet : (set : RouteSet) (e : Entry) (past : Past) (bs : List Birth) (rows : List Row) → ((x : ℕ) → concerns x e.kind ≡ false) → Related (RowStands set past) bs rows → Related (RowStands set (e ∷ past)) bs rows
 rows-quiet set e past bs rows nobody rel = related-all (RowStands set past) (RowStands set (e ∷ past)) bs rows (λ b r. row-other set e past b r (nobody b.number)) rel
@@ -124,9 +125,11 @@ stands-source routes workers limit past t w r k was after pulled st lw may withi
     let e : Entry = record { worker = w; kind = k } in
     let s = plan_of routes in
     let legal = legal-add s workers limit e past st.legal lw may in
-    let same = births-same routes workers limit e past legal.entries none in
+    let simple : AnswersSimply (e ∷ past) = (st.simple, of.simple) in
+    let same = births-same routes workers limit e past legal.entries simple none in
     record {
       legal = legal;
+      simple = simple;
       rows = rw same (rows-quiet routes e past (births s past) t.rows of.nobody st.rows);
       ready = st.ready;
       sources = sources-set s e past t.sources r (kept_state after) within (state-others w r k past of) (kept-here s w r k past after is now) st.sources;
@@ -139,19 +142,19 @@ stands-source routes workers limit past t w r k was after pulled st lw may withi
     }
 
 pub of-pull : (w t : ℕ) → IsOfSource w t (Pull t)
-of-pull w t = record { nobody = λ x. refl; others = λ u was ne. rw (not-same u t ne) refl }
+of-pull w t = record { nobody = λ x. refl; others = λ u was ne. rw (not-same u t ne) refl; simple = tt }
 
 pub of-accept : (w t : ℕ) (item : List ℕ) (m : Message) → IsOfSource w t (Accept t item m)
-of-accept w t item m = record { nobody = λ x. refl; others = λ u was ne. rw (not-same u t ne) refl }
+of-accept w t item m = record { nobody = λ x. refl; others = λ u was ne. rw (not-same u t ne) refl; simple = tt }
 
 pub of-refuse : (w t : ℕ) (item : List ℕ) (c : Refused) → IsOfSource w t (Refuse t item c)
-of-refuse w t item c = record { nobody = λ x. refl; others = λ u was ne. rw (not-same u t ne) refl }
+of-refuse w t item c = record { nobody = λ x. refl; others = λ u was ne. rw (not-same u t ne) refl; simple = tt }
 
 pub of-end : (w t : ℕ) → IsOfSource w t (SourceEnd t)
-of-end w t = record { nobody = λ x. refl; others = λ u was ne. rw (not-same u t ne) refl }
+of-end w t = record { nobody = λ x. refl; others = λ u was ne. rw (not-same u t ne) refl; simple = tt }
 
 pub of-fault : (w t : ℕ) → IsOfSource w t (SourceFault t)
-of-fault w t = record { nobody = λ x. refl; others = λ u was ne. rw (not-same u t ne) refl }
+of-fault w t = record { nobody = λ x. refl; others = λ u was ne. rw (not-same u t ne) refl; simple = tt }
 
 -- the row of a newborn stands for it
 newborn-row : (set : RouteSet) (workers limit : ℕ) (past : Past) (w r : ℕ) (item : List ℕ) (m : Message) → KeepsRules (plan_of set) workers limit ((record { worker = w; kind = Accept r item m }) ∷ past)
@@ -180,9 +183,11 @@ stands-accept routes workers limit past t w r item m st lw may =
     let old = rows-quiet routes e past (births s past) t.rows of.nobody st.rows in
     let many : length (births s past) ≡ length t.rows = related-length (RowStands routes past) (births s past) t.rows st.rows in
     let number : 1 + length t.rows ≡ length t.rows + 1 = omega arith in
+    let simple : AnswersSimply (e ∷ past) = (st.simple, tt) in
     record {
       legal = legal;
-      rows = rw (births-items s (plan-simple routes) workers limit e past legal.entries) (related-push (RowStands routes (e ∷ past)) (births s past) t.rows _ row old (newborn-row routes workers limit past w r item m legal.entries));
+      simple = simple;
+      rows = rw (births-items s workers limit e past legal.entries simple) (related-push (RowStands routes (e ∷ past)) (births s past) t.rows _ row old (newborn-row routes workers limit past w r item m legal.entries));
       ready = ap (λ xs. xs ++ (length t.rows + 1) ∷ []) st.ready ∙ sym (numbers-push row_ready 1 t.rows row ∙ ap (λ n. row_numbers row_ready 1 t.rows ++ n ∷ []) number);
       sources = sources-set s e past t.sources r kept.Idle within (state-others w r k past of) (kept-here s w r k past Idle may.0.1 idle) st.sources;
       turns = ap (λ n. n + 1) st.turns ∙ sym (turns-more e past);

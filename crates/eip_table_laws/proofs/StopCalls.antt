@@ -23,7 +23,6 @@ use Rattle.eip_history.specs.Stop.{is_over, stop_of, unended, no_numbers, with_f
 use Rattle.eip_history.proofs.Lists.{related-at, slice_get-some}
 use Rattle.eip_history.proofs.Stuck.{below-none}
 use Rattle.eip_plan.specs.Plan.{plan_of}
-use Rattle.eip_plan.proofs.Laws.{plan-simple}
 use Rattle.eip_plan.proofs.Items.{no-groups}
 use Rattle.eip_tables.specs.declared.row.Stage.{Stage}
 use Rattle.eip_tables.specs.declared.row.Stage.TheVariants as stage
@@ -153,7 +152,7 @@ sources-over s past rows st = by (list_all is_done_row rows) (no_numbers (number
 
 module _ {set : RouteSet} {workers limit : ℕ} {past : Past} (t : Tables) (st : Stands set workers limit past t) where
   groupless : groups (plan_of set) past ≡ []
-  groupless = no-groups (plan_of set) (plan-simple set) workers limit past st.legal.entries
+  groupless = no-groups (plan_of set) workers limit past st.legal.entries st.simple
 
   live-is : unended (plan_of set) past ≡ t.live
   unfolding count_at

@@ -1,22 +1,25 @@
 ghost use Rattle.std.specs.Prelude.{◌+◌, ◌<◌, ◌^◌, OnOk};
 ghost use Rattle.eip_table_runs.specs.Arriving.{AreOf};
 
-use eip_aggregator::{ArriveFault, Arrived, Groups};
+use eip_aggregator::{ArriveFault, Arrived, Closed, Groups};
 use eip_exchange::{Message, Strategy};
 use eip_route::{Aggregate, Expr};
+use eip_simple_read::Predicate;
 use eip_text::{NoMemory, Text, decimal};
 use std::alloc::Global;
 
-/// An aggregator whose groups are joined with commas, and close with so many parts or so long behind the last.
+/// An aggregator whose groups are joined with commas, and close where a predicate holds, with so many parts or so long behind
+/// the last.
 pub fn aggregator(
     alloc: Global,
+    predicate: Option<Predicate>,
     size: Option<u32>,
     timeout: Option<u64>,
 ) -> Result<Aggregate, NoMemory> {
     Ok(Aggregate {
         key: Expr::Constant(Text::of_str(alloc, "k")?),
         strategy: Strategy::Joined(Text::of_str(alloc, ",")?),
-        predicate: None,
+        predicate,
         size,
         timeout,
         force: true,
@@ -51,6 +54,31 @@ pub fn arrive(
     groups.arrive(setting, &key, &part, 0, most, &route, tick)
 }
 
+/// The groups that are due at this tick close, behind at most so many calls.
+pub fn close_due(
+    groups: &mut Groups,
+    _setting: &Aggregate,
+    tick: u64,
+    _most: u64,
+) -> Result<Vec<Closed>, NoMemory>
+    requires { AreOf _setting.now _most groups.old }
+    ensures { OnOk result (AreOf _setting.now (_most + 1) groups.new) }
+{
+    groups.close_due(tick)
+}
+
+/// The groups that may be forced to close do, behind at most so many calls.
+pub fn close_forced(
+    groups: &mut Groups,
+    _setting: &Aggregate,
+    _most: u64,
+) -> Result<Vec<Closed>, NoMemory>
+    requires { AreOf _setting.now _most groups.old }
+    ensures { OnOk result (AreOf _setting.now (_most + 1) groups.new) }
+{
+    groups.close_forced()
+}
+
 /// So many arrivals, each of a key of its own; the keys are multiples of a factor, up to the greatest. How many came to
 /// another group than that of their key.
 fn arrive_all(
@@ -83,7 +111,7 @@ fn arrive_all(
 pub fn opened_and_closed(alloc: Global, count: u64) -> Result<(u64, usize, usize), ArriveFault>
     requires { count < 2 ^ 24 }
 {
-    let setting = aggregator(alloc, Some(2), Some(5))?;
+    let setting = aggregator(alloc, None, Some(2), Some(5))?;
     let mut groups = no_groups(alloc, &setting);
     let first = arrive_all(alloc, &mut groups, &setting, 1, count, 0)?;
     let middle = groups.open_groups();
@@ -113,7 +141,7 @@ pub fn shown_and_closed(
 ) -> Result<(Option<u64>, usize, usize), ArriveFault>
     requires { count < 2 ^ 24 }
 {
-    let setting = aggregator(alloc, Some(2), Some(5))?;
+    let setting = aggregator(alloc, None, Some(2), Some(5))?;
     let mut groups = no_groups(alloc, &setting);
     arrive_all(alloc, &mut groups, &setting, 7_919, count, 0)?;
     let wrong = out_of_order(&groups, count);

@@ -1,4 +1,4 @@
-use eip_table_runs::joins::{first_wrong, one_join, taken};
+use eip_table_runs::joins::{first_wrong, one_join, taken, wrong_pair};
 use eip_text::NoMemory;
 use std::alloc::Global;
 use std::test::*;
@@ -18,11 +18,17 @@ fn many_parts_are_handed_out_by_index(rt: HostRuntime) -> Result<(), Fail> {
     Ok(())
 }
 
+#[test]
+fn many_joins_end_and_are_taken_in_another_order(rt: HostRuntime) -> Result<(), Fail> {
+    assert_eq!(rt; wrong_pair(rt.alloc(), 20_000)?, None);
+    Ok(())
+}
+
 /// Whether a join is ready, taken and gone: one without parts, and one whose part hasn't ended.
 fn ready_at_once(alloc: Global, count: u32) -> Result<(bool, usize, bool), NoMemory> {
     let mut joins = one_join(alloc, 2, count)?;
     let before = joins.ready(1);
-    let ends = match taken(&mut joins) {
+    let ends = match taken(&mut joins, 1) {
         Some(ends) => ends.len(),
         None => 1,
     };

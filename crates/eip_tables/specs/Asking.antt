@@ -11,7 +11,7 @@ use Rattle.eip_tables.specs.declared.asking.Asked.TheVariants as asked
 abbrev pub inner_kind : Request → Asked
 inner_kind (request.Log n t) = asked.Line
 inner_kind (request.Finish e m commit) = asked.End
-inner_kind _ = asked.Unknown
+inner_kind _ = asked.Other
 
 -- the kind of answer that a request waits for
 abbrev pub asked_kind : Request → Asked

@@ -1,5 +1,5 @@
 -- Where an exchange comes from, and how it ended, as the books lend it.
-use Rattle.std.specs.Prelude.{ℕ, List, Option, Some, None}
+use Rattle.std.specs.Prelude.{Option, Some, None}
 use Rattle.eip_exchange.specs.declared.birth.Origin.{Origin}
 use Rattle.eip_exchange.specs.declared.birth.Origin.TheVariants as from
 use Rattle.eip_exchange.specs.declared.end.Ending.{Ending}

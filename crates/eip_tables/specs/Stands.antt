@@ -10,6 +10,7 @@ use Rattle.eip_history.specs.Stop.{first_fault}
 use Rattle.eip_history.specs.Tables.{Related}
 use Rattle.eip_history.specs.Texts.{notes}
 use Rattle.eip_plan.specs.Plan.{plan_of}
+use Rattle.eip_plan.specs.Simple.{AnswersSimply}
 use Rattle.eip_tables.specs.declared.row.Row.{Row}
 use Rattle.eip_tables.specs.declared.row.SourceState.{SourceState}
 use Rattle.eip_tables.specs.Numbers.{row_numbers, row_count}
@@ -37,6 +38,8 @@ pub record Tables : Type 0 where
 -- the tables stand for the history of a set, a fact for each table
 pub record Stands (set : RouteSet) (workers limit : ℕ) (past : Past) (t : Tables) : Type 0 where
   pub legal : IsLegal (plan_of set) workers limit past
+  -- nothing but simple requests is answered yet
+  pub simple : AnswersSimply past
   pub rows : Related (RowStands set past) (births (plan_of set) past) t.rows
   pub ready : t.ready ≡ row_numbers row_ready 1 t.rows
   pub sources : SourcesStand (plan_of set) past t.sources

@@ -13,7 +13,9 @@ pub enum Asked {
     End,
     /// Somebody outside is to answer.
     Outside,
-    /// No such answer is given yet.
+    /// Something else is to be done, which is not done yet.
+    Other,
+    /// There is no request.
     Unknown,
 }
 
@@ -33,7 +35,7 @@ fn kind_of(request: &Request) -> Asked
     match request {
         Request::Log { .. } => Asked::Line,
         Request::Finish { .. } => Asked::End,
-        _ => Asked::Unknown,
+        _ => Asked::Other,
     }
 }
 

@@ -2,7 +2,7 @@ use Rattle.std.proofs.Common.{◌≡◌, ℕ, List, sym, subst, ◌∙◌}
 use Rattle.std.specs.List.Sorted.{IsStrictlySortedBy}
 use Rattle.std.proofs.lemmas.Bool.{le-leb}
 use Rattle.eip_aggregator.specs.Tables.{is_by, due_number}
-use Rattle.eip_aggregator.proofs.Lookups.{by_moment}
+use Rattle.eip_ordered.proofs.Pairs.{by_first}
 use Rattle.eip_aggregator.proofs.Gathering.{gathers_none, gathers_more, gathered, none_behind, none_picked, sorted_left}
 use Rattle.eip_aggregator.proofs.places.numbers_due.Goals as goal
 
@@ -10,7 +10,7 @@ pub loop-due-init : goal.loop-due-init
 loop-due-init c =
     let all : c.into_iter-due-iterator.result ≡ c.args.dues.now.keys = c.into_iter-due-iterator.ensures.into_iter_gives ∙ c.iter-due-items.ensures.rest in
     record {
-      sorted = subst (λ (ks : List (ℕ × ℕ)). IsStrictlySortedBy by_moment ks) (sym all) c.iter-due-items.ensures.ordered;
+      sorted = subst (λ (ks : List (ℕ × ℕ)). IsStrictlySortedBy by_first ks) (sym all) c.iter-due-items.ensures.ordered;
       gathers = gathers_none (is_by c.args.tick) due_number c.args.dues.now.keys c.into_iter-due-iterator.result c.new-numbers.result all c.new-numbers.ensures.empty;
     }
 

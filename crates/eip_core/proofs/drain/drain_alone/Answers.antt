@@ -1,4 +1,3 @@
-use Rattle.std.proofs.Common.{refl}
 use Rattle.eip_core.proofs.Compose.{drains-refl, drains-trans}
 use Rattle.eip_core.proofs.Turns.{still-runs, fewer-turns}
 use Rattle.eip_core.proofs.drain.drain_alone.Goals as goal

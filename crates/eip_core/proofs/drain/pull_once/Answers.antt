@@ -1,4 +1,3 @@
-use Rattle.std.proofs.Common.{refl}
 use Rattle.eip_core.proofs.Acts.{pullable, pulled, pulled-out, drains-pull, drains-pulled, acts-pulled, ends-accept, ends-refuse, ends-source_end, ends-source_fault, no-acts}
 use Rattle.eip_core.proofs.Compose.{drains-still}
 use Rattle.eip_endpoint.proofs.LaneLaws.{LanesGrew-none}

@@ -1,4 +1,4 @@
-use Rattle.std.proofs.Common.{refl, sym, arith}
+use Rattle.std.proofs.Common.{sym, arith}
 use Rattle.eip_core.proofs.Compose.{drains-refl, drains-trans}
 use Rattle.eip_core.proofs.Turns.{still-runs}
 use Rattle.eip_core.proofs.drain.take_turn.Goals as goal

@@ -19,7 +19,7 @@ returns c =
     let entries : reverse c.entries.result.now ≡ past = rw (c.entries.ensures, c.journal.ensures.journal) (reverse-reverse past) in
     let refusals = ap (λ (v : RouteSet). refusals_text (route_names v) (reverse c.entries.result.now)) c.set.ensures ∙ ap (refusals_text names) entries in
     c.of.ensures
-    ∙ rw (book-is s names past c.args.stop.now, no-group-lines hub.set hub.journal.workers hub.journal.turns past c.journal.ensures.legal.entries)
+    ∙ rw (book-is s names past c.args.stop.now, no-group-lines hub.set hub.journal.workers hub.journal.turns past c.journal.ensures.legal.entries c.journal.ensures.simple)
     (three-joined [] exchanges (refusals_text names past) (summary_text_of s names past c.args.stop.now)
     (string_bytes c.push_exchanges.new.out) (string_bytes c.push_refusals.new.out) (string_bytes c.push_summary.new.out)
     (c.in_ok-push_exchanges.ensures ∙ ap (λ (b : List ℕ). b ++ exchanges) c.new-out.ensures.bytes)

@@ -1,6 +1,6 @@
 use Rattle.std.proofs.Common.{◌≡◌, ◌++◌, ◌==◌, cond, List, [], ◌∷◌, Option, Some, HashMap, unwrap_or, ap, sym, ◌∙◌}
 use Rattle.eip_idempotent.specs.Keys.{ClaimView, Claims, value_at}
-use Rattle.eip_idempotent.proofs.Lookups.{err_always, set_again}
+use Rattle.eip_ordered.proofs.Lookups.{err_always, set_again}
 use Rattle.eip_idempotent.proofs.keys.add_claim.Goals as goal
 
 pub returns-in_err-add-in-Some-clause-err : goal.returns-in_err-add-in-Some-clause-err

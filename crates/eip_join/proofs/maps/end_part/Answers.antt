@@ -1,6 +1,7 @@
 use Rattle.std.proofs.Common.{cond, ◌==◌, Option, Some, is_some, option_map, sym, ap, subst, ◌∙◌}
-use Rattle.eip_join.specs.Parts.{Open, IsUnended, value_at, with_end}
-use Rattle.eip_join.proofs.Lookups.{found, puts}
+use Rattle.eip_ordered.specs.Numbered.{value_at}
+use Rattle.eip_join.specs.Parts.{Open, IsUnended, with_end}
+use Rattle.eip_ordered.proofs.Lookups.{found, puts}
 use Rattle.eip_join.proofs.maps.end_part.Goals as goal
 
 pub end-requires : goal.end-requires

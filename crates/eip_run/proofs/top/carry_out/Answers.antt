@@ -10,7 +10,7 @@ drain-requires-clause-can_run g c = (prepared-runs _ _ _ c.in-Ok-Drain.ensures.a
 
 pub returns-in-Ok-Drain-clause-report : goal.returns-in-Ok-Drain-clause-report
 returns-in-Ok-Drain-clause-report g c =
-    reports-drained _ _ _ c.in-Ok-Drain.ensures.answer (ap Ok c.in-Ok-Drain.field-0-is) c.drain.ensures
+    reports-drained _ _ _ c.in-Ok-Drain.ensures.answer (ap Ok c.in-Ok-Drain.field-0-is) c.drain.ensures.drained
 
 pub returns-in-Ok-Check-clause-report : goal.returns-in-Ok-Check-clause-report
 returns-in-Ok-Check-clause-report g c =
@@ -21,3 +21,9 @@ pub returns-in-Err-clause-report : goal.returns-in-Err-clause-report
 returns-in-Err-clause-report g c =
     reports-refused _ _ c.in-Err.ensures.answer
     (record { lanes = refl; inlets = refl; journal = record { workers = c.new-in-Err.ensures.workers; turns = c.new-in-Err.ensures.turns; past = c.new-in-Err.ensures.past } }) c.tell_refusal.ensures
+
+pub returns-in-Ok-Check-clause-simple : goal.returns-in-Ok-Check-clause-simple
+returns-in-Ok-Check-clause-simple g c = rw c.new.ensures.past tt
+
+pub returns-in-Err-clause-simple : goal.returns-in-Err-clause-simple
+returns-in-Err-clause-simple g c = rw c.new-in-Err.ensures.past tt

@@ -1,14 +1,20 @@
-use Rattle.std.proofs.Common.{◌≡◌, List, ℕ, subst, sym, ◌∙◌}
+use Rattle.std.proofs.Common.{◌≡◌, List, ℕ, Ok, ap, subst, sym, ◌∙◌}
 use Rattle.std.specs.Prelude.{string_bytes}
+use Rattle.std.specs.Str.{IsUtf8}
+use Rattle.std.proofs.lemmas.Str.{IsUtf8-string_bytes}
+use Rattle.eip_exchange.specs.declared.message.Message.{Message}
+use Rattle.eip_strategy.specs.declared.undo.Undo.{Undo}
 use Rattle.eip_strategy.specs.Adding.{next_body}
-use Rattle.eip_strategy.specs.Answers.{Says, bounded}
-use Rattle.eip_strategy.proofs.Bounded.{says_bodied}
+use Rattle.eip_strategy.specs.Answers.{bounded}
+use Rattle.eip_strategy.specs.Undoing.{Undoes, undo_of}
+use Rattle.eip_strategy.proofs.Undone.{undoes_grown}
 use Rattle.eip_strategy.proofs.adding.grow_body.Goals as goal
 
-pub returns-clause-says : goal.returns-clause-says
-returns-clause-says c =
-    let same : string_bytes c.into_string-body.result ≡ c.args.so_far.now.body = c.into_string-body.ensures ∙ c.replace-taken.ensures.value in
-    let wanted = next_body c.args.strategy.now c.args.so_far.now.body c.args.new.now.body in
-    says_bodied c.args.so_far.now wanted c.grow-done.result c.of-2.result
-    (subst (λ (b : List ℕ). Says (λ _. b) c.grow-done.result (bounded 65536 wanted)) (sym c.of-2.ensures)
-    (subst (λ (b : List ℕ). Says (λ _. string_bytes c.grow-done.new.body) c.grow-done.result (bounded 65536 (next_body c.args.strategy.now b c.args.new.now.body))) same c.grow-done.ensures.says))
+pub returns-clause-undo : goal.returns-clause-undo
+returns-clause-undo c =
+    let old : Message = c.args.so_far.now in
+    let same : string_bytes c.into_string-body.result ≡ old.body = c.into_string-body.ensures ∙ c.replace-taken.ensures.value in
+    let utf8 : IsUtf8 old.body = subst IsUtf8 same (IsUtf8-string_bytes c.into_string-body.result) in
+    subst (λ (u : Undo). Undoes u old (record old { body = c.of-2.result })) (sym (c.undo_of-undo.ensures ∙ ap (undo_of c.args.strategy.now) (c.as_str.ensures.value ∙ same)))
+    (undoes_grown c.args.strategy.now old c.args.new.now.body c.of-2.result c.requires.ready c.requires.keeps c.requires.grows utf8
+    (ap (λ (b : List ℕ). bounded 65536 (next_body c.args.strategy.now b c.args.new.now.body)) (sym same) ∙ c.in_ok-done.ensures.says ∙ ap (λ (xs : List ℕ). Ok xs) (sym c.of-2.ensures)))

@@ -1,4 +1,4 @@
-use Rattle.std.proofs.Common.{◌<◌, ◌∷◌, length, sym, subst, ℕ}
+use Rattle.std.proofs.Common.{◌<◌, ◌∷◌, sym, subst, ℕ}
 use Rattle.eip_seda.specs.Consuming.{Ended, started_by}
 use Rattle.eip_table_runs.proofs.Helps.{busy_after}
 use Rattle.eip_table_runs.proofs.queues.served.Goals as goal

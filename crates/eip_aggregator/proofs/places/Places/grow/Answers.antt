@@ -1,7 +1,8 @@
 use Rattle.std.proofs.Common.{◌<◌, ℕ, List, IsSome, sym, subst}
 use Rattle.eip_strategy.specs.Adding.{IsReady}
 use Rattle.eip_aggregator.specs.Arrivals.{Group}
-use Rattle.eip_aggregator.specs.Tables.{value_at, count_in, message_in}
+use Rattle.eip_ordered.specs.Numbered.{value_at}
+use Rattle.eip_aggregator.specs.Tables.{count_in, message_in}
 use Rattle.eip_aggregator.proofs.places.Places.grow.Goals as goal
 
 pub due_of-old-requires : goal.due_of-old-requires

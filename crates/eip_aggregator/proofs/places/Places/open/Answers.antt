@@ -1,12 +1,13 @@
 use Rattle.std.proofs.Common.{◌≡◌, ℕ, List, None, sym, subst, ◌∙◌}
 use Rattle.eip_aggregator.specs.Arrivals.{Group}
-use Rattle.eip_aggregator.specs.Tables.{value_at, IsFree}
+use Rattle.eip_ordered.specs.Numbered.{value_at}
+use Rattle.eip_aggregator.specs.Tables.{IsFree}
 use Rattle.eip_aggregator.proofs.Found.{opened_new}
 use Rattle.eip_aggregator.proofs.places.Places.open.Goals as goal
 
 pub invariant_of-self-2 : goal.invariant_of-self-2
 invariant_of-self-2 c =
-    opened_new c.self.inside.groups.entries c.insert_group.new.groups.entries c.self.inside.numbers.entries c.make_room.new.numbers.entries c.insert_number.new.numbers.entries c.self.inside.dues.keys c.add_due.new.dues.keys
+    opened_new c.self.inside.groups.entries c.put.new.map.entries c.self.inside.numbers.entries c.make_room.new.numbers.entries c.insert_number.new.numbers.entries c.self.inside.dues.keys c.add_due.new.dues.keys
     c.in_ok-key.key c.args.number c.args.group c.due-due.result
     c.in_default.ensures.ok
     c.make_room.ensures.same

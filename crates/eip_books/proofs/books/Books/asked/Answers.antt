@@ -4,7 +4,7 @@ use Rattle.eip_tables.specs.Asking.{is_outside_kind}
 use Rattle.eip_books.specs.Facts.{tables_of}
 use Rattle.eip_table_laws.proofs.OwnCalls.{row-within}
 use Rattle.eip_table_laws.proofs.LookCalls.{known-request}
-use Rattle.eip_table_laws.proofs.InnerCalls.{asks-simply, kind-outside, kind-known}
+use Rattle.eip_table_laws.proofs.InnerCalls.{asks-outside, kind-outside, kind-known}
 use Rattle.eip_books.proofs.books.Books.asked.Goals as goal
 
 pub get-requires-clause-above : goal.get-requires-clause-above
@@ -20,12 +20,11 @@ pub returns-clause-outside : goal.returns-clause-outside
 returns-clause-outside c =
     let known = rw (← c.self.view_is) at c.requires.known in
     let kind = c.asked_of.ensures known.0 (known-request c.self.inside.rows.items (c.args.number - 1) _ known.0 c.get.ensures known.1) in
-    let asks = asks-simply (tables_of c.self.inside) c.args.number c.get.result.now c.self.invariant.stands (rw (← c.self.view_is) at c.requires.ready) c.get.ensures known.0 known.1 in
-    rw (← c.self.view_is) (ap is_outside_kind kind ∙ (kind-outside known.0 asks.1 ∙ sym asks.0))
+    let asks = asks-outside (tables_of c.self.inside) c.args.number c.get.result.now c.self.invariant.stands (rw (← c.self.view_is) at c.requires.ready) c.get.ensures known.0 known.1 in
+    rw (← c.self.view_is) (ap is_outside_kind kind ∙ (kind-outside known.0 ∙ sym asks))
 
 pub returns-clause-some : goal.returns-clause-some
 returns-clause-some c =
     let known = rw (← c.self.view_is) at c.requires.known in
     let kind = c.asked_of.ensures known.0 (known-request c.self.inside.rows.items (c.args.number - 1) _ known.0 c.get.ensures known.1) in
-    let asks = asks-simply (tables_of c.self.inside) c.args.number c.get.result.now c.self.invariant.stands (rw (← c.self.view_is) at c.requires.ready) c.get.ensures known.0 known.1 in
-    λ h. kind-known known.0 asks.1 (sym kind ∙ h)
+    λ h. kind-known known.0 (sym kind ∙ h)

@@ -4,8 +4,9 @@ use Rattle.eip_tables.specs.Moves.{begun}
 use Rattle.eip_tables.specs.State.{known_of}
 use Rattle.eip_tables.specs.Look.{HasCursor}
 use Rattle.eip_books.specs.Facts.{tables_of}
+use Rattle.eip_table_laws.proofs.RowPlaces.{lives-first}
 use Rattle.eip_table_laws.proofs.OwnCalls.{row-within}
-use Rattle.eip_table_laws.proofs.LookCalls.{born-birth, lives-first, born-within, answer-within, answered-entry, answered-cursor, new-looked, answer-looked, known-now, known-asking, one-of-both, on-ok, answer-there}
+use Rattle.eip_table_laws.proofs.LookCalls.{born-birth, born-within, answer-within, answered-entry, answered-cursor, new-looked, answer-looked, known-now, known-asking, one-of-both, on-ok, answer-there}
 use Rattle.eip_table_laws.proofs.LookOutside.{looked-outside, known-outside-already}
 use Rattle.eip_books.proofs.books.Books.look.Goals as goal
 

@@ -1,5 +1,6 @@
 use Rattle.std.proofs.Common.{ℕ, List, Some, sym, subst}
-use Rattle.eip_join.specs.Parts.{Open, Puts, IsFree, AreNew, AreIndexed, Stands}
+use Rattle.eip_ordered.specs.Numbered.{Puts}
+use Rattle.eip_join.specs.Parts.{Open, IsFree, AreNew, AreIndexed, Stands}
 use Rattle.eip_join.proofs.Standing.{stands_began}
 use Rattle.eip_join.proofs.Indexed.{indexed_began, indexed_undone}
 use Rattle.eip_join.proofs.joins.Joins.begin.Goals as goal
@@ -12,8 +13,8 @@ invariant_of-self-in-Err c =
 
 pub invariant_of-self-in_default : goal.invariant_of-self-in_default
 invariant_of-self-in_default c =
-    indexed_began c.self.inside.joins.entries c.insert_join.new.joins.entries c.self.inside.parents.entries c.index.new.parents.entries c.args.parent c.args.first c.args.count
-    (subst (λ (j : Open). Puts c.self.inside.joins.entries c.insert_join.new.joins.entries c.args.parent (Some j)) c.in_ok-join.ensures c.in_default.ensures.ok)
+    indexed_began c.self.inside.joins.entries c.put.new.map.entries c.self.inside.parents.entries c.index.new.parents.entries c.args.parent c.args.first c.args.count
+    (subst (λ (j : Open). Puts c.self.inside.joins.entries c.put.new.map.entries c.args.parent (Some j)) c.in_ok-join.ensures c.in_default.ensures.ok)
     c.in_ok-index.ensures.ok
     (subst (IsFree c.args.parent) (sym c.self.view_is) c.requires.free)
     (subst (AreNew c.args.first c.args.count) (sym c.self.view_is) c.requires.apart)
@@ -21,7 +22,7 @@ invariant_of-self-in_default c =
 
 pub returns-clause-ok : goal.returns-clause-ok
 returns-clause-ok c = λ calls stands.
-    stands_began calls c.self.inside.joins.entries c.insert_join.new.joins.entries c.args.parent c.args.first c.args.count
-    (subst (λ (j : Open). Puts c.self.inside.joins.entries c.insert_join.new.joins.entries c.args.parent (Some j)) c.in_ok-join.ensures c.in_default.ensures.ok)
+    stands_began calls c.self.inside.joins.entries c.put.new.map.entries c.args.parent c.args.first c.args.count
+    (subst (λ (j : Open). Puts c.self.inside.joins.entries c.put.new.map.entries c.args.parent (Some j)) c.in_ok-join.ensures c.in_default.ensures.ok)
     (subst (AreNew c.args.first c.args.count) (sym c.self.view_is) c.requires.apart)
     (subst (Stands calls) (sym c.self.view_is) stands)

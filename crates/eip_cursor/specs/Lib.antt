@@ -1,0 +1,5 @@
+pub mod Falls
+pub mod Follows
+pub mod InTurn
+pub mod Kept
+pub mod Weights

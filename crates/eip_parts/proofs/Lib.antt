@@ -1,0 +1,3 @@
+mod LastParts
+mod Refusing
+mod Seeding

@@ -1,0 +1,4 @@
+pub mod FirstTries
+pub mod GoingOns
+pub mod Queues
+pub mod SendTries

@@ -1,0 +1,58 @@
+-- The part of routes that is run today.
+use Rattle.std.specs.Prelude.{Bool, true, false, ◌&&◌, nat_eq, List, length, is_none}
+use Rattle.std.specs.List.{list_all}
+use Rattle.eip_exchange.specs.declared.setting.Policy.{Policy}
+use Rattle.eip_uri.specs.declared.uri.Uri.{Uri}
+use Rattle.eip_uri.specs.declared.uri.Uri.TheVariants as uri
+use Rattle.eip_route.specs.declared.step.Step.{Step}
+use Rattle.eip_route.specs.declared.step.Step.TheVariants as step
+use Rattle.eip_route.specs.declared.route.Block.{Block}
+use Rattle.eip_route.specs.declared.route.Handler.{Handler}
+use Rattle.eip_route.specs.declared.route.Route.{Route}
+use Rattle.eip_route.specs.declared.route.RouteSet.{RouteSet}
+
+abbrev pub is_plain_policy : Policy → Bool
+is_plain_policy p = is_none p.maximum && (is_none p.delay && (is_none p.multiplier && (is_none p.backing_off && is_none p.greatest)))
+
+abbrev pub is_plain_handler : Handler → Bool
+is_plain_handler h = is_none h.dead && is_plain_policy h.policy
+
+-- an endpoint that is sent to: a log or a lane
+abbrev pub is_built_target : Uri → Bool
+is_built_target (uri.Log name) = true
+is_built_target (uri.Lane name) = true
+is_built_target _ = false
+
+-- a step that sets or removes a part of the message, logs, faults, or sends to a log or a lane
+abbrev pub is_built_step : Step → Bool
+is_built_step (step.SetBody value) = true
+is_built_step (step.SetHeader name value) = true
+is_built_step (step.SetProperty name value) = true
+is_built_step (step.RemoveHeader name) = true
+is_built_step (step.Log name message) = true
+is_built_step (step.Throw kind message) = true
+is_built_step (step.To u) = is_built_target u
+is_built_step _ = false
+
+abbrev pub is_built_block : Block → Bool
+is_built_block b = list_all is_built_step b.steps
+
+abbrev pub is_stream : Uri → Bool
+is_stream uri.StreamIn = true
+is_stream _ = false
+
+abbrev pub is_built_route : Route → Bool
+is_built_route r = is_stream r.from
+
+abbrev pub are_built_routes : List Route → Bool
+are_built_routes rs = list_all is_built_route rs
+
+abbrev pub are_built_blocks : List Block → Bool
+are_built_blocks bs = list_all is_built_block bs
+
+abbrev pub is_empty : {A : Type 0} → List A → Bool
+is_empty xs = nat_eq (length xs) 0
+
+-- every source is `stream:in`, every step is one of these, there are no clauses, and the handler is the default one without attributes
+unfoldable pub is_built : RouteSet → Bool
+is_built set = are_built_routes set.routes && (are_built_blocks set.blocks && (is_empty set.clauses && is_plain_handler set.handler))

@@ -1,0 +1,83 @@
+ghost use Rattle.std.specs.Prelude.{◌≡◌};
+ghost use Rattle.eip_run.specs.Built as spec;
+
+use eip_exchange::Policy;
+use eip_route::{Block, Handler, Route, RouteSet, Step};
+use eip_uri::Uri;
+
+/// Whether the set is of the part that is run today: every source is `stream:in`; every step is a `setBody`,
+/// `setHeader`, `setProperty`, `removeHeader`, `log`, `throwException`, or a `to` of a log or a lane; there are no
+/// clauses, and the error handler is the default one without attributes. It takes no memory.
+#[tactic(auto, unfolding(crate::specs::Built::is_built))]
+pub fn is_built(set: &RouteSet) -> bool
+    ensures { result ≡ spec.is_built set.now }
+{
+    are_built_routes(set.routes.items())
+        && are_built_blocks(set.blocks.items())
+        && set.clauses.items().is_empty()
+        && is_plain_handler(&set.handler)
+}
+
+fn are_built_routes(routes: &[Route]) -> bool
+    ensures { result ≡ spec.are_built_routes routes.now }
+{
+    routes.iter().all(|route| is_built_route(route))
+}
+
+fn are_built_blocks(blocks: &[Block]) -> bool
+    ensures { result ≡ spec.are_built_blocks blocks.now }
+{
+    blocks.iter().all(|block| is_built_block(block))
+}
+
+fn is_built_route(route: &Route) -> bool
+    ensures { result ≡ spec.is_built_route route.now }
+{
+    matches!(route.from, Uri::StreamIn)
+}
+
+fn is_built_block(block: &Block) -> bool
+    ensures { result ≡ spec.is_built_block block.now }
+{
+    block.steps.items().iter().all(|step| is_built_step(step))
+}
+
+fn is_built_step(step: &Step) -> bool
+    ensures { result ≡ spec.is_built_step step.now }
+{
+    match step {
+        Step::SetBody(_)
+        | Step::SetHeader { .. }
+        | Step::SetProperty { .. }
+        | Step::RemoveHeader(_)
+        | Step::Log { .. }
+        | Step::Throw { .. } => true,
+        Step::To(uri) => matches!(uri, Uri::Log(_) | Uri::Lane(_)),
+        Step::Process(_)
+        | Step::Choice { .. }
+        | Step::Filter { .. }
+        | Step::Split { .. }
+        | Step::Multicast { .. }
+        | Step::Recipients { .. }
+        | Step::Aggregate(_)
+        | Step::Idempotent { .. }
+        | Step::Try { .. } => false,
+    }
+}
+
+/// Whether it is the default error handler (Camel manual, *DefaultErrorHandler*) without attributes.
+fn is_plain_handler(handler: &Handler) -> bool
+    ensures { result ≡ spec.is_plain_handler handler.now }
+{
+    handler.dead.is_none() && is_plain_policy(&handler.policy)
+}
+
+fn is_plain_policy(policy: &Policy) -> bool
+    ensures { result ≡ spec.is_plain_policy policy.now }
+{
+    policy.maximum.is_none()
+        && policy.delay.is_none()
+        && policy.multiplier.is_none()
+        && policy.backing_off.is_none()
+        && policy.greatest.is_none()
+}
