@@ -4,10 +4,10 @@ use Rattle.eip_route.specs.declared.route.RouteSet.{RouteSet}
 use Rattle.eip_frames.specs.declared.request.Request.{Request}
 use Rattle.eip_frames.specs.declared.answer.Answer.{Answer as Reply}
 use Rattle.eip_ledger.specs.declared.entry.Kind.{Kind}
-use Rattle.eip_ledger.specs.declared.entry.Kind.TheVariants.{Answer}
+use Rattle.eip_ledger.specs.declared.entry.Kind.TheVariants.{Start, Answer}
 use Rattle.eip_ledger.specs.View.{JournalView}
 use Rattle.eip_history.specs.Plan.{Plan}
-use Rattle.eip_history.specs.Rules.{IsLegal}
+use Rattle.eip_history.specs.Rules.{May, IsLegal, first, startable}
 use Rattle.eip_plan.specs.Plan.{plan_of}
 
 -- the set, the journal, how many hands need no memory, what each exchange is known to ask, by number,
@@ -46,6 +46,13 @@ pub record AddsNone (old new : BooksView) : Type 0 where
 -- a call made exactly one entry, an answer of this exchange
 abbrev pub AddsAnswer : BooksView → BooksView → ℕ → ℕ → Type 0
 AddsAnswer old new w x = (a : Reply) × Adds old new w (Answer x a)
+
+-- a call made exactly one entry: the first exchange of the first startable queue leaves it
+pub record StartsFirst (old new : BooksView) (w x : ℕ) : Type 0 where
+  pub queue : ℕ
+  pub is_first : first (startable (plan old) old.journal.past) ≡ Some queue
+  pub may : May (plan old) old.journal.turns old.journal.past w (Start queue x)
+  pub adds : Adds old new w (Start queue x)
 
 -- what an exchange asks is known
 abbrev pub IsKnown : List (Option Request) → ℕ → Type 0

@@ -4,20 +4,21 @@ ghost use Rattle.eip_history.specs.Births.{births, asked};
 ghost use Rattle.eip_history.specs.Own.{turns};
 ghost use Rattle.eip_ledger.specs.declared.place.Place.TheVariants.{Ready, InHand};
 ghost use Rattle.eip_history.specs.Place.{ready_numbers, place};
-ghost use Rattle.eip_history.specs.Rules.{May, first, IsBelow, outside_asked};
+ghost use Rattle.eip_history.specs.Rules.{May, first, startable, IsBelow, outside_asked};
 ghost use Rattle.eip_history.specs.Stop.{stop_of, is_over};
 ghost use Rattle.eip_plan.specs.Simple.{AnswersSimply};
 ghost use Rattle.eip_tables.specs.declared.asking.Asked.TheVariants.{Unknown};
 ghost use Rattle.eip_history.specs.Texts.{notes};
 ghost use Rattle.eip_history.specs.Tables.{without};
-ghost use Rattle.eip_frames.specs.declared.answer.Answer.TheVariants.{Noted, Finished};
+ghost use Rattle.eip_frames.specs.declared.answer.Answer.TheVariants.{Noted, Entered, Finished};
 ghost use Rattle.eip_frames.specs.declared.request.Request.{Request as ARequest};
 ghost use Rattle.eip_frames.specs.Fits.{fits, is_outside};
 ghost use Rattle.eip_tables.specs.Moves.{end_asked};
 ghost use Rattle.eip_tables.specs.Outside.{is_among, outside_after, outside_looked, unlooked_numbers, IsAsked};
 ghost use Rattle.eip_tables.specs.Asking.{asked_kind, is_outside_kind, AsksLine, AsksEnd};
+ghost use Rattle.eip_tables.specs.Offers.{AsksOffer, AsksCall};
 ghost use Rattle.eip_tables.specs.Rows.{IsIdleSource};
-ghost use Rattle.eip_books.specs.View.{plan, IsLegalRun, Adds, AddsNone, AddsAnswer, IsSame, IsKnown};
+ghost use Rattle.eip_books.specs.View.{plan, IsLegalRun, Adds, AddsNone, AddsAnswer, StartsFirst, IsSame, IsKnown};
 ghost use Rattle.eip_tables.specs.declared.asking.Inner.TheVariants.{Did, Outside};
 ghost use Rattle.eip_tables.specs.Places.{inner_of};
 ghost use Rattle.std.specs.Prelude.{option_map};
@@ -29,14 +30,16 @@ use eip_exchange::{End, Ending, Message};
 use eip_frames::Answer;
 use eip_ledger::{Entry, Journal, Kind, Note, Place, Refused, Stop};
 use eip_route::RouteSet;
-use eip_rows::look::first_look;
+use eip_rows::look::{first_look, offered_birth};
 use eip_rows::rows::Rows;
+use eip_seda::{OfferFault, Queues};
 use eip_tables::asking::{Asked, Inner, asked_of};
-use eip_tables::notes::{keep_line, make_room};
-use eip_tables::origin::{OriginView, ending_of, origin_in};
+use eip_tables::notes::{append_answer, keep_line, make_room, refusal};
+use eip_tables::origin::{OriginView, ending_of, origin_born};
 use eip_tables::places::place_of;
+use eip_tables::queues::{empty_queues, leave};
 use eip_tables::rising::RisingNumbers;
-use eip_tables::row::{Row, SourceState, Stage, end_asked};
+use eip_tables::row::{Row, SourceState, Stage, end_asked, offer_asked, offered_message};
 use eip_tables::sources::Sources;
 use eip_tables::stop::{first_fault, stop_by};
 use eip_tables::table::Table;
@@ -59,6 +62,7 @@ pub struct Books {
     taken: u64,
     pulled: u64,
     live: u64,
+    queues: Queues,
     room: u64,
 }
 
@@ -98,6 +102,7 @@ impl Books {
         ensures outside { IfOk result (λ b. b.outside ≡ []) }
     {
         let sources = Sources::new(alloc, &set)?;
+        let queues = empty_queues(alloc, &set)?;
         Ok(Books {
             alloc,
             set,
@@ -111,6 +116,7 @@ impl Books {
             taken: 0,
             pulled: 0,
             live: 0,
+            queues,
             room: 0,
         })
     }
@@ -247,7 +253,7 @@ impl Books {
         self.pulled -= 1;
     }
 
-    /// Afterwards one pull, take or starve needs no memory, and neither does the call that ends such a pull or take.
+    /// Afterwards one pull, start, take or starve needs no memory, and neither does the call that ends such a pull or take.
     pub fn reserve(&mut self) -> Result<(), NoMemory>
         ensures ok { OnOk result (1 ≤ self.new.room) }
         ensures none { AddsNone self.old self.new }
@@ -284,7 +290,7 @@ impl Books {
                     &self.set,
                     self.journal.entries(),
                     number,
-                    row.born,
+                    row,
                 )?;
                 self.rows.begin(number, cursor, request);
                 Ok(())
@@ -327,15 +333,74 @@ impl Books {
         let entry = self.journal.entries().len();
         let request = self.rows.answer(number, entry);
         keep_line(&mut self.notes, number, request);
-        self.journal.append_reserved(Entry {
-            worker,
-            kind: Kind::Answer {
-                number,
-                answer: Answer::Noted,
-            },
-        });
+        append_answer(&mut self.journal, worker, number, Answer::Noted);
         self.turns += 1;
         Ok(())
+    }
+
+    /// The block of the route that the exchange calls is to run.
+    fn enter(&mut self, worker: u32, number: u64) -> Result<(), NoMemory>
+        requires worker { worker ≤ self.old.journal.workers }
+        requires ready { place (plan self.old) self.old.journal.past number ≡ Some Ready }
+        requires below { IsBelow (plan self.old) self.old.journal.turns self.old.journal.past }
+        requires call { AsksCall self.old.known number }
+        ensures adds { OnOk result (Adds self.old self.new worker (Answered number Entered)) }
+        ensures outside { OnOk result (self.new.outside ≡ without number self.old.outside) }
+        ensures err { OnErr result (IsSame self.old self.new) }
+        ensures legal { IsLegalRun self.new }
+        ensures room { self.new.room ≡ self.old.room }
+    {
+        let needed = 2 * self.room + self.pulled + self.taken + 1;
+        make_room(&mut self.journal, &mut self.notes, needed)?;
+        let entry = self.journal.entries().len();
+        drop(self.rows.answer(number, entry));
+        append_answer(&mut self.journal, worker, number, Answer::Entered);
+        self.turns += 1;
+        Ok(())
+    }
+
+    /// A copy of the message that the exchange offers comes into its queue, or the queue is full.
+    fn offer(&mut self, worker: u32, number: u64) -> Result<(), NoMemory>
+        requires worker { worker ≤ self.old.journal.workers }
+        requires ready { place (plan self.old) self.old.journal.past number ≡ Some Ready }
+        requires below { IsBelow (plan self.old) self.old.journal.turns self.old.journal.past }
+        requires copy { AsksOffer self.old.known number }
+        ensures adds { OnOk result (AddsAnswer self.old self.new worker number) }
+        ensures outside { OnOk result (self.new.outside ≡ without number self.old.outside) }
+        ensures err { OnErr result (IsSame self.old self.new) }
+        ensures legal { IsLegalRun self.new }
+        ensures room { self.new.room ≡ self.old.room }
+    {
+        let needed = 2 * self.room + self.pulled + self.taken + 1;
+        make_room(&mut self.journal, &mut self.notes, needed)?;
+        self.rows.reserve((self.room + self.pulled + 1) as usize)?;
+        let next = self.rows.len() as u64 + 1;
+        let entry = self.journal.entries().len();
+        let row = self.rows.get(number);
+        let hops = row.hops();
+        let Some((queue, discard)) = offer_asked(&row.request) else {
+            unreachable!()
+        };
+        match self.queues.offer(queue, next) {
+            Ok(()) => {
+                let Some(message) = offered_message(self.rows.answer(number, entry)) else {
+                    unreachable!()
+                };
+                let birth = offered_birth(&self.set, next, queue, hops, message);
+                self.rows.put_last(Row::queued(queue, birth));
+                append_answer(&mut self.journal, worker, number, Answer::Queued(next));
+                self.live += 1;
+                self.turns += 1;
+                Ok(())
+            }
+            Err(OfferFault::QueueFull(size)) => {
+                drop(self.rows.answer(number, entry));
+                append_answer(&mut self.journal, worker, number, refusal(discard, size));
+                self.turns += 1;
+                Ok(())
+            }
+            Err(OfferFault::NoMemory) => Err(NoMemory),
+        }
     }
 
     /// The exchange ends as it asks.
@@ -352,15 +417,10 @@ impl Books {
     {
         let needed = 2 * self.room + self.pulled + self.taken + 1;
         make_room(&mut self.journal, &mut self.notes, needed)?;
+        leave(&mut self.queues, self.rows.get(number).born);
         self.rows.finish_asked(number);
         self.ready.remove(number);
-        self.journal.append_reserved(Entry {
-            worker,
-            kind: Kind::Answer {
-                number,
-                answer: Answer::Finished,
-            },
-        });
+        append_answer(&mut self.journal, worker, number, Answer::Finished);
         self.turns += 1;
         self.live -= 1;
         Ok(())
@@ -376,6 +436,7 @@ impl Books {
         ensures room { self.new.room + 1 ≡ self.old.room }
         ensures outside { self.new.outside ≡ without number self.old.outside }
     {
+        leave(&mut self.queues, self.rows.get(number).born);
         self.rows.close(number, Stage::Starved);
         self.ready.remove(number);
         self.journal.append_reserved(Entry {
@@ -406,6 +467,14 @@ impl Books {
                 self.note(worker, number)?;
                 Ok(Inner::Did)
             }
+            Asked::Route => {
+                self.enter(worker, number)?;
+                Ok(Inner::Did)
+            }
+            Asked::Copy => {
+                self.offer(worker, number)?;
+                Ok(Inner::Did)
+            }
             Asked::End => {
                 self.finish(worker, number)?;
                 Ok(Inner::Did)
@@ -414,6 +483,33 @@ impl Books {
             Asked::Other => Err(NoMemory),
             Asked::Unknown => unreachable!(),
         }
+    }
+
+    /// The first exchange of the first queue, by route, in which somebody waits and a consumer is free leaves it. None exactly where
+    /// there is no such queue.
+    pub fn start(&mut self, worker: u32) -> Option<u64>
+        requires worker { worker ≤ self.old.journal.workers }
+        requires below { IsBelow (plan self.old) self.old.journal.turns self.old.journal.past }
+        requires room { 1 ≤ self.old.room }
+        ensures starts { IfSome result (λ x. StartsFirst self.old self.new worker x) }
+        ensures room { IfSome result (λ _. self.new.room + 1 ≡ self.old.room) }
+        ensures none { IfNone result (self.new ≡ self.old) }
+        ensures exact { IfNone result (startable (plan self.old) self.old.journal.past ≡ []) }
+        ensures outside { self.new.outside ≡ self.old.outside }
+        ensures legal { IsLegalRun self.new }
+    {
+        let queue = self.queues.first_startable()? as u32;
+        let Some(number) = self.queues.start(queue) else {
+            unreachable!()
+        };
+        self.rows.start(number);
+        self.ready.put_in(number);
+        self.journal.append_reserved(Entry {
+            worker,
+            kind: Kind::Start { queue, number },
+        });
+        self.room -= 1;
+        Some(number)
     }
 
     /// The least number known as Outside.
@@ -480,10 +576,7 @@ impl Books {
         let entry = self.journal.entries().len();
         drop(self.rows.answer(number, entry));
         self.ready.put_in(number);
-        self.journal.append_reserved(Entry {
-            worker,
-            kind: Kind::Answer { number, answer },
-        });
+        append_answer(&mut self.journal, worker, number, answer);
         self.turns += 1;
         self.taken -= 1;
     }
@@ -498,11 +591,9 @@ impl Books {
         ensures room { self.new.room ≡ self.old.room }
         ensures outside { self.new.outside ≡ self.old.outside }
     {
+        leave(&mut self.queues, self.rows.get(number).born);
         self.rows.end_by(number, end, &answer);
-        self.journal.append_reserved(Entry {
-            worker,
-            kind: Kind::Answer { number, answer },
-        });
+        append_answer(&mut self.journal, worker, number, answer);
         self.turns += 1;
         self.taken -= 1;
         self.live -= 1;
@@ -545,6 +636,7 @@ impl Books {
             request,
         } = ticket;
         drop(request);
+        leave(&mut self.queues, self.rows.get(number).born);
         self.rows.close(number, Stage::Starved);
         self.journal.append_reserved(Entry {
             worker,
@@ -569,7 +661,8 @@ impl Books {
 
     /// Whether the turns taken and the hands out are below the limit.
     pub fn is_below(&self) -> bool
-        ensures { IsTrue result ↔ IsBelow (plan self.now) self.now.journal.turns self.now.journal.past }
+        ensures below { IsTrue result ↔ IsBelow (plan self.now) self.now.journal.turns self.now.journal.past }
+        ensures legal { IsLegalRun self.now }
     {
         self.turns + self.pulled + self.taken < u64::from(self.journal.turns())
     }
@@ -626,7 +719,7 @@ impl Books {
         if number > self.rows.len() as u64 {
             return None;
         }
-        origin_in(self.journal.entries(), self.rows.get(number).born)
+        origin_born(self.journal.entries(), self.rows.get(number).born)
     }
 
     /// How an exchange ended; None exactly where it is not born or has not ended.

@@ -1,2 +1,3 @@
 mod Pairs
-mod Paths
+mod Turns
+pub mod Paths

@@ -9,4 +9,4 @@ pub mod words;
 pub use fault::fault_line;
 pub use forms::{Form, OptionRule, Rule};
 pub use options::value_of;
-pub use words::{Command, Path, WordsFault, read_words};
+pub use words::{Command, Path, TURN_LIMIT, WordsFault, read_words};

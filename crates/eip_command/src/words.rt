@@ -2,8 +2,9 @@ ghost use Rattle.std.specs.Prelude.{◌≡◌, ◌↔◌, true, Some, None, IfOk
 ghost use Rattle.eip_command.specs.Forms.{admits, form_seen};
 ghost use Rattle.eip_command.specs.Words as spec;
 
-use crate::forms::{Form, Rule};
-use eip_text::{NoMemory, Text};
+use crate::forms::{Form, OptionRule, Rule};
+use crate::options::value_of;
+use eip_text::{NoMemory, Text, read_count};
 use std::alloc::{AllocError, Global};
 use thiserror::Error;
 
@@ -14,11 +15,14 @@ pub struct Path {
     pub name: Text,
 }
 
+/// The limit on turns of a drain whose words name none.
+pub const TURN_LIMIT: u32 = 100_000;
+
 /// What the words behind the program's name ask for.
 #[derive(Debug, Drop)]
 pub enum Command {
-    /// `drain ROUTES`: the routes of this file run until nothing is left to do.
-    Drain { routes: Path },
+    /// `drain ROUTES [--turns N]`: the routes of this file run until nothing is left to do, for at most so many turns.
+    Drain { routes: Path, turns: u32 },
     /// `check ROUTES`: the routes of this file are printed in their canonical form.
     Check { routes: Path },
 }
@@ -29,7 +33,7 @@ impl Command {
         ensures { result.now ≡ spec.path_in self.now }
     {
         match self {
-            Command::Drain { routes } | Command::Check { routes } => routes,
+            Command::Drain { routes, .. } | Command::Check { routes } => routes,
         }
     }
 }
@@ -73,7 +77,10 @@ impl Verb {
             Verb::Drain => Form {
                 word: "drain",
                 operands: &[Rule::Path],
-                options: &[],
+                options: &[OptionRule {
+                    word: "--turns",
+                    value: Rule::Count(1, 1_000_000),
+                }],
             },
             Verb::Check => Form {
                 word: "check",
@@ -102,15 +109,29 @@ impl Verb {
     {
         let routes = Path::read(alloc, words[0].as_str())?;
         Ok(match self {
-            Verb::Drain => Command::Drain { routes },
+            Verb::Drain => {
+                let turns = turns_in(&words[1..]);
+                Command::Drain { routes, turns }
+            }
             Verb::Check => Command::Check { routes },
         })
     }
 }
 
-/// The command that words give, by the form of each: `drain ROUTES` or `check ROUTES`, where ROUTES is a path. A path
-/// isn't empty, doesn't begin with `-` and doesn't end with `/`. Its folder is what stands before its last `/`, or `.`
-/// without one, or `/` where nothing stands before it; the name is what stands behind.
+/// The limit on turns that the options of a drain name, or that of words that name none.
+fn turns_in(options: &[Text]) -> u32
+    ensures { result ≡ spec.turns_in options.now }
+{
+    match value_of(options, "--turns") {
+        Some(value) => read_count(value.as_str()).unwrap_or(TURN_LIMIT),
+        None => TURN_LIMIT,
+    }
+}
+
+/// The command that words give, by the form of each: `drain ROUTES [--turns N]` or `check ROUTES`, where ROUTES is a path
+/// and N a number from 1 to 1,000,000. A path isn't empty, doesn't begin with `-` and doesn't end with `/`. Its folder is
+/// what stands before its last `/`, or `.` without one, or `/` where nothing stands before it; the name is what stands
+/// behind. A drain without `--turns` has 100,000 turns.
 /// `Refused` exactly for every other list of words.
 pub fn read_words(alloc: Global, words: &[Text]) -> Result<Command, WordsFault>
     ensures command { IfOk result (λ c. spec.command_of words.now ≡ Some c) }

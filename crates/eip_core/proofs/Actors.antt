@@ -65,8 +65,19 @@ module _ (s : Plan) (past : Past) where
       ∙ (none-acts (numbers_below (λ t. is_out (source_state t past)) s.routes) TheSource _ (out-none s past pulls)
       ∙ first-acts (ready_numbers s past) TheExchange _ x h)
 
+  -- with nobody Ready the first startable queue acts
+  pub actor-queue : (q : ℕ) → hands s past ≡ 0 → first (ready_numbers s past) ≡ None → first (startable s past) ≡ Some q → actor s past ≡ TheQueue q
+  unfolding actor
+  actor-queue q home ready h =
+      let pulls : pulls_out s past ≡ 0 = omega (arith, home) in
+      let takes : takes_out s past ≡ 0 = omega (arith, home) in
+      none-acts (numbers_at s past is_held) TheExchange _ (held-none s past takes)
+      ∙ (none-acts (numbers_below (λ u. is_out (source_state u past)) s.routes) TheSource _ (out-none s past pulls)
+      ∙ (none-acts (ready_numbers s past) TheExchange _ (first-none (ready_numbers s past) ready)
+      ∙ first-acts (startable s past) TheQueue _ q h))
+
   -- with nobody Ready and no queue startable the first unfinished source acts
-  pub actor-source : (t : ℕ) → hands s past ≡ 0 → first (ready_numbers s past) ≡ None → startable s past ≡ [] → first (unfinished s past) ≡ Some t
+  pub actor-source : (t : ℕ) → hands s past ≡ 0 → first (ready_numbers s past) ≡ None → first (startable s past) ≡ None → first (unfinished s past) ≡ Some t
       → actor s past ≡ TheSource t
   unfolding actor
   actor-source t home ready queues h =
@@ -75,12 +86,12 @@ module _ (s : Plan) (past : Past) where
       none-acts (numbers_at s past is_held) TheExchange _ (held-none s past takes)
       ∙ (none-acts (numbers_below (λ u. is_out (source_state u past)) s.routes) TheSource _ (out-none s past pulls)
       ∙ (none-acts (ready_numbers s past) TheExchange _ (first-none (ready_numbers s past) ready)
-      ∙ (none-acts (startable s past) TheQueue _ queues
+      ∙ (none-acts (startable s past) TheQueue _ (first-none (startable s past) queues)
       ∙ first-acts (unfinished s past) TheSource _ t h)))
 
 -- ---- numbers below a bound
 
-pub none-below : (p : ℕ → Bool) (n : ℕ) → ((u : ℕ) → u < n → p u ≡ false) → numbers_below p n ≡ []
+none-below : (p : ℕ → Bool) (n : ℕ) → ((u : ℕ) → u < n → p u ≡ false) → numbers_below p n ≡ []
 none-below p zero h = refl
 none-below p (suc n) h = rw (h n (omega arith), none-below p n (λ u l. h u (omega (arith, l)))) refl
 

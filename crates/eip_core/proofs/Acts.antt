@@ -11,7 +11,7 @@ use Rattle.eip_frames.specs.declared.answer.Answer.{Answer as Reply}
 use Rattle.eip_frames.specs.Fits.{is_outside}
 use Rattle.eip_ledger.specs.declared.entry.Entry.{Entry}
 use Rattle.eip_ledger.specs.declared.entry.Kind.{Kind}
-use Rattle.eip_ledger.specs.declared.entry.Kind.TheVariants.{Pull, Accept, Refuse, SourceEnd, SourceFault, Answer, Starve, Return}
+use Rattle.eip_ledger.specs.declared.entry.Kind.TheVariants.{Pull, Accept, Refuse, SourceEnd, SourceFault, Start, Answer, Starve, Return}
 use Rattle.eip_ledger.specs.declared.place.Place.TheVariants as place_is
 use Rattle.eip_endpoint.specs.Lanes.{LaneView, LanesGrew}
 use Rattle.eip_exchange.specs.declared.message.Message.{Message}
@@ -25,23 +25,23 @@ use Rattle.eip_history.specs.Plan.{Plan}
 use Rattle.eip_history.specs.Own.{Past, Out, SourceState, source_state, concerns, moved, is_out}
 use Rattle.eip_history.specs.Births.{Asked, asked}
 use Rattle.eip_history.specs.Place.{place, hands, ready_numbers}
-use Rattle.eip_history.specs.Rules.{IsLegal, KeepsRules, May, IsSource, IsBelow, first, outside_asked, served_by, served_in}
+use Rattle.eip_history.specs.Rules.{IsLegal, KeepsRules, May, IsSource, IsBelow, first, startable, outside_asked, served_by, served_in}
 use Rattle.eip_history.specs.Stop.{stop_of, is_of, actor, TheSource, TheExchange, Actor}
 use Rattle.eip_history.proofs.Limit.{source-after, not-same}
 use Rattle.eip_history.proofs.Allowed.{waits-below}
 use Rattle.eip_plan.specs.Plan.{plan_of}
 use Rattle.eip_plan.specs.Simple.{AnswersSimply}
 use Rattle.eip_plan.proofs.Laws.{plan-laws}
-use Rattle.eip_books.specs.View.{BooksView, plan, IsLegalRun, Adds, AddsNone}
+use Rattle.eip_books.specs.View.{BooksView, plan, IsLegalRun, Adds, AddsNone, StartsFirst}
 use Rattle.eip_tables.specs.declared.asking.Inner.TheVariants.{Did}
 use Rattle.eip_tables.specs.Places.{inner_of}
 use Rattle.eip_core.specs.Doors.{inlet_at, uri_at}
 use Rattle.eip_core.specs.Outside.{seen_answers, refusal_of, pulls_in}
 use Rattle.eip_core.specs.Drain.{Acts, Chosen, Drains, Progresses, Rests, doors}
-use Rattle.eip_core.proofs.Actors.{actor-ready, actor-source, actor-out, unfinished-first, first-pullable}
+use Rattle.eip_core.proofs.Actors.{actor-ready, actor-queue, actor-source, actor-out, unfinished-first, first-pullable}
 use Rattle.eip_core.proofs.Progress.{progress-one, progress-trans}
-use Rattle.eip_core.proofs.Quiet.{none-startable, next-source}
-use Rattle.eip_core.proofs.Home.{home-answer, home-starve, hand-pull, back-pull, ready-place}
+use Rattle.eip_core.proofs.Quiet.{next-source}
+use Rattle.eip_core.proofs.Home.{home-answer, home-starve, home-start, hand-pull, back-pull, ready-place}
 use Rattle.eip_core.proofs.Compose.{drains-refl, drains-add, drains-none}
 
 -- what holds of the set, the limit and the past stands behind a call that made no entry
@@ -61,24 +61,35 @@ rests-below v r = (waits-below (plan v) v.journal.workers v.journal.turns v.jour
 
 -- ---- a pull and what came of it
 
--- with nobody Ready some source may be pulled
-pub pullable : (v : BooksView) → Rests v → first (ready_numbers (plan v) v.journal.past) ≡ None → (t : ℕ) × May (plan v) v.journal.turns v.journal.past 0 (Pull t)
-pullable v r nobody =
-    let n = next-source (plan v) v.journal.workers v.journal.turns v.journal.past r.legal.entries r.simple (plan-laws v.set) r.home r.waits nobody in
+-- with nobody Ready and no queue startable some source may be pulled
+pub pullable : (v : BooksView) → Rests v → first (ready_numbers (plan v) v.journal.past) ≡ None → first (startable (plan v) v.journal.past) ≡ None
+    → (t : ℕ) × May (plan v) v.journal.turns v.journal.past 0 (Pull t)
+pullable v r nobody no_queue =
+    let n = next-source (plan v) v.journal.workers v.journal.turns v.journal.past r.legal.entries r.simple (plan-laws v.set) r.home r.waits nobody no_queue in
     (n.0, first-pullable (plan v) v.journal.turns 0 v.journal.past n.0 r.home (rests-below v r) n.1)
 
 -- the source that was pulled
 pub record Pulled (u v : BooksView) (t : ℕ) : Type 0 where
   pub rests : Rests u
   pub nobody : first (ready_numbers (plan u) u.journal.past) ≡ None
+  pub no_queue : first (startable (plan u) u.journal.past) ≡ None
   pub may : May (plan u) u.journal.turns u.journal.past 0 (Pull t)
   pub least : (r : ℕ) → r < t → May (plan u) u.journal.turns u.journal.past 0 (Pull r) → ⊥
   pub adds : Adds u v 0 (Pull t)
   pub legal : IsLegalRun v
 
-pub pulled : {u v : BooksView} {t : ℕ} → Rests u → first (ready_numbers (plan u) u.journal.past) ≡ None → May (plan u) u.journal.turns u.journal.past 0 (Pull t)
-    → ((r : ℕ) → r < t → May (plan u) u.journal.turns u.journal.past 0 (Pull r) → ⊥) → Adds u v 0 (Pull t) → IsLegalRun v → Pulled u v t
-pulled rests nobody may least adds legal = record { rests = rests; nobody = nobody; may = may; least = least; adds = adds; legal = legal }
+pub pulled : {u v : BooksView} {t : ℕ} → Rests u → first (ready_numbers (plan u) u.journal.past) ≡ None → first (startable (plan u) u.journal.past) ≡ None
+    → May (plan u) u.journal.turns u.journal.past 0 (Pull t) → ((r : ℕ) → r < t → May (plan u) u.journal.turns u.journal.past 0 (Pull r) → ⊥) → Adds u v 0 (Pull t)
+    → IsLegalRun v → Pulled u v t
+pulled rests nobody no_queue may least adds legal = record {
+  rests = rests;
+  nobody = nobody;
+  no_queue = no_queue;
+  may = may;
+  least = least;
+  adds = adds;
+  legal = legal;
+}
 
 -- behind a Pull the plan is the same and the past has one entry more
 pulled-past : {u v : BooksView} {t : ℕ} (P : Plan → ℕ → ℕ → Past → Type 0) → Pulled u v t → P (plan v) v.journal.workers v.journal.turns v.journal.past
@@ -104,8 +115,7 @@ pulled-out {u} {v} {t} p =
 
 first-actor : {u v : BooksView} {t : ℕ} → Pulled u v t → actor (plan u) u.journal.past ≡ TheSource t
 first-actor {u} {v} {t} p =
-    actor-source (plan u) u.journal.past t p.rests.home p.nobody
-    (none-startable (plan u) u.journal.workers u.journal.turns u.journal.past p.rests.legal.entries p.rests.simple)
+    actor-source (plan u) u.journal.past t p.rests.home p.nobody p.no_queue
     (unfinished-first (plan u) u.journal.turns 0 u.journal.past t p.rests.home p.may p.least)
 
 pulled-legal : {u v : BooksView} {t : ℕ} → Pulled u v t → KeepsRules (plan u) u.journal.workers u.journal.turns ((record { worker = 0; kind = Pull t }) ∷ u.journal.past)
@@ -236,6 +246,38 @@ added-legal {u} {v} {n} {k} a legal =
     (subst (λ (m : ℕ). KeepsRules (plan u) u.journal.workers m v.journal.past) a.same.turns
     (subst (λ (m : ℕ). KeepsRules (plan u) m v.journal.turns v.journal.past) a.same.workers
     (subst (λ (s : RouteSet). KeepsRules (plan_of s) v.journal.workers v.journal.turns v.journal.past) a.same.set legal.entries)))
+
+-- ---- a queue that starts its first exchange
+
+-- with nobody Ready the first startable queue started its first exchange
+pub record Started (u v : BooksView) (x : ℕ) : Type 0 where
+  pub rests : Rests u
+  pub nobody : first (ready_numbers (plan u) u.journal.past) ≡ None
+  pub starts : StartsFirst u v 0 x
+  pub legal : IsLegalRun v
+
+-- the same behind a call that made no entry
+pub started : {u v w : BooksView} {x : ℕ} → Rests u → AddsNone u v → first (ready_numbers (plan v) v.journal.past) ≡ None → StartsFirst v w 0 x → IsLegalRun w → Started v w x
+started rests none nobody starts legal = record { rests = rests-none none rests; nobody = nobody; starts = starts; legal = legal }
+
+pub drains-started : {u v w : BooksView} {x : ℕ} (l : List LaneView) (i : List InletView) → AddsNone u v → Started v w x → Drains u w l l i i
+drains-started {u} {v} {w} {x} l i none s =
+    let acts = actor-queue (plan v) v.journal.past s.starts.queue s.rests.home s.nobody s.starts.is_first in
+    drains-add (drains-none (drains-refl u l i) none) s.starts.adds (LanesGrew-none 0 l) (InletsGrew-none 0 i)
+    (subst (λ (b : Actor). IsTrue (is_of b (Start s.starts.queue x))) (sym acts) (eq-eqb s.starts.queue s.starts.queue refl))
+
+pub acts-started : {v w : BooksView} {x : ℕ} → Started v w x → Acts v w
+acts-started {v} {w} {x} s =
+    let adds = s.starts.adds in
+    let here = added-legal adds s.legal in
+    record {
+      home = rw (adds.same.set, adds.past)
+          (home-start (plan v) v.journal.workers v.journal.turns 0 v.journal.past s.starts.queue x here s.rests.home);
+      progress = rw (adds.same.set, adds.past)
+          (progress-one (plan v) (plan-laws v.set) v.journal.workers v.journal.turns 0 (Start s.starts.queue x) v.journal.past here (λ y h. cc h));
+    }
+
+-- ---- an answer
 
 -- an answer that no lane gave is no call
 pub no-calls : (d : Doors) (w : ℕ) (o : Option Asked) (a : Reply) → outside_asked o ≡ false → calls d (seen_answers (served_by w o a)) ≡ []

@@ -4,8 +4,9 @@ use Rattle.std.specs.List.{slice_get}
 use Rattle.std.proofs.lemmas.Bool.{cases_Bool}
 use Rattle.eip_exchange.specs.declared.birth.Birth.{Birth}
 use Rattle.eip_frames.specs.declared.answer.Answer.{Answer as Reply}
+use Rattle.eip_ledger.specs.declared.entry.Entry.{Entry}
 use Rattle.eip_ledger.specs.declared.entry.Kind.{Kind}
-use Rattle.eip_ledger.specs.declared.entry.Kind.TheVariants.{Pull, Take, Answer, Starve}
+use Rattle.eip_ledger.specs.declared.entry.Kind.TheVariants.{Pull, Start, Take, Answer, Starve}
 use Rattle.eip_ledger.specs.declared.place.Place.{Place}
 use Rattle.eip_ledger.specs.declared.place.Place.TheVariants as place_is
 use Rattle.eip_history.specs.Plan.{Plan}
@@ -15,7 +16,7 @@ use Rattle.eip_history.specs.Place.{place, place_of, hands, is_taken, is_ready, 
 use Rattle.eip_history.specs.Rules.{KeepsRules, IsSource, first}
 use Rattle.eip_history.specs.Tables.{AreNumberedFrom, bit}
 use Rattle.eip_history.proofs.Limit.{within-own, within-source, within-take, within-pull, in-hand-taken, not-same}
-use Rattle.eip_history.proofs.Unborn.{place-born}
+use Rattle.eip_history.proofs.Unborn.{place-born, entry-born, legal-may}
 use Rattle.eip_history.proofs.Told.{births-numbered}
 
 -- an answer or a starving of somebody who is not in hand
@@ -32,6 +33,14 @@ module _ (s : Plan) (w limit v : ℕ) (past : Past) where
   home-starve x p legal home at =
       let b = place-born s past x p at in
       let h = within-own s w limit v x (Starve x) past b.0 legal b.1 (λ y ne. not-same y x ne) (eq-eqb x x refl) refl (λ u was. refl) in
+      omega (arith, h, home)
+
+  -- nor does a start put anybody in hand
+  pub home-start : (q x : ℕ) → KeepsRules s w limit ((record { worker = v; kind = Start q x }) ∷ past) → hands s past ≡ 0 → hands s ((record { worker = v; kind = Start q x }) ∷ past) ≡ 0
+  home-start q x legal home =
+      let e : Entry = record { worker = v; kind = Start q x } in
+      let b = entry-born s limit past v x (Start q x) (legal-may s w limit e past legal) (eq-eqb x x refl) in
+      let h = within-own s w limit v x (Start q x) past b.0 legal b.1 (λ y ne. not-same y x ne) (eq-eqb x x refl) refl (λ u was. refl) in
       omega (arith, h, home)
 
   -- behind a Take one hand is out

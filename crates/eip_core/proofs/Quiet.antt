@@ -1,6 +1,6 @@
--- Where nothing but simple requests is answered, nobody sleeps or waits in a queue and no group is open, so no clock, queue or force acts.
-use Rattle.std.proofs.Common.{◌≡◌, ℕ, Bool, true, false, List, [], ◌∷◌, Option, Some, None, map, filter_map, nat_lt, refl, sym, ap, subst, ◌∙◌, ◌⊎◌, ◌&&◌, inl, inr}
-use Rattle.std.proofs.lemmas.Bool.{cases_Bool, and_right}
+-- Where nothing but simple requests is answered, nobody sleeps and no group is open, so neither the clock nor force acts.
+use Rattle.std.proofs.Common.{◌≡◌, ℕ, true, false, List, [], ◌∷◌, Option, Some, None, filter_map, refl, sym, ap, subst, ◌∙◌, ◌⊎◌, inl, inr}
+use Rattle.std.proofs.lemmas.Bool.{cases_Bool}
 use Rattle.eip_exchange.specs.declared.birth.Birth.{Birth}
 use Rattle.eip_frames.specs.declared.answer.Answer.{Answer as Reply}
 use Rattle.eip_frames.specs.declared.answer.Answer.TheVariants as reply
@@ -10,19 +10,17 @@ use Rattle.eip_history.specs.Plan.{Plan}
 use Rattle.eip_history.specs.Own.{Past, own, concerns, last_answer, or_answer}
 use Rattle.eip_history.specs.Groups.{is_forced}
 use Rattle.eip_history.specs.Births.{births, groups}
-use Rattle.eip_history.specs.Place.{place_of, hands, ready_numbers, waiting, busy, is_in, is_some_first, is_startable, numbers_at, number_of}
+use Rattle.eip_history.specs.Place.{place_of, hands, ready_numbers}
 use Rattle.eip_history.specs.Rules.{KeepsRules, dues, retry_due, first, any_group, startable, unfinished}
 use Rattle.eip_history.proofs.Told.{own-here, own-other}
 use Rattle.eip_history.proofs.Unborn.{own-none}
-use Rattle.eip_history.proofs.Over.{each-at}
-use Rattle.eip_history.proofs.Stuck.{none-from, Standing, standing, InEnd, InQueue, Held, Asleep, Waits, Able}
+use Rattle.eip_history.proofs.Stuck.{Standing, standing, InEnd, InQueue, Held, Asleep, Waits, Able}
 use Rattle.eip_history.specs.Stop.{stop_of}
 use Rattle.eip_history.specs.Laws.{PlanLaws}
 use Rattle.eip_history.proofs.Waits.{Acts, Runs, Starts, Pulls, Ticks, Forces}
 use Rattle.eip_history.proofs.Main.{somebody-acts}
-use Rattle.eip_core.proofs.Actors.{none-below}
-use Rattle.eip_plan.specs.Simple.{IsSimpleAnswer, IsSimpleEntry, AnswersSimply, is_item}
-use Rattle.eip_plan.proofs.Items.{no-groups, only-items}
+use Rattle.eip_plan.specs.Simple.{IsSimpleAnswer, IsSimpleEntry, AnswersSimply}
+use Rattle.eip_plan.proofs.Items.{no-groups}
 
 -- the last answer to an exchange is one to a simple request
 pub last-simple : (past : Past) → AnswersSimply past → (x : ℕ) (r : Reply) → last_answer (own x past) ≡ Some r → IsSimpleAnswer r
@@ -53,22 +51,6 @@ none-picked : {A B : Type 0} (f : A → Option B) (xs : List A) → ((x : A) →
 none-picked f [] h = refl
 none-picked f (x ∷ xs) h = rw (h x) (none-picked f xs h)
 
--- an item's exchange waits in no queue
-item-outside : (s : Plan) (past : Past) (q : ℕ) (b : Birth) → is_item b.origin ≡ true → is_in q (place_of s past b) ≡ false
-item-outside s past q b item = by_standing (standing s past b)
-  where
-    by_standing : Standing s past b → is_in q (place_of s past b) ≡ false
-    by_standing (InEnd e h g) = ap (is_in q) h
-    by_standing (InQueue r o h) = absurd (let g = rw o at item in cc g)
-    by_standing (Held v t h) = ap (is_in q) h
-    by_standing (Asleep d l t h) = ap (is_in q) h
-    by_standing (Waits f c l t h) = ap (is_in q) h
-    by_standing (Able h) = ap (is_in q) h
-
--- no queue starts anybody
-none-starts : (v : Bool) (xs : List ℕ) (free : Bool) → xs ≡ [] → (v && (is_some_first xs && free)) ≡ false
-none-starts v xs free h = rw h (and_right v false refl)
-
 module _ (s : Plan) (w limit : ℕ) (past : Past) (legal : KeepsRules s w limit past) (simple : AnswersSimply past) where
   -- nobody is due
   pub no-dues : dues s past ≡ []
@@ -80,28 +62,14 @@ module _ (s : Plan) (w limit : ℕ) (past : Past) (legal : KeepsRules s w limit 
   pub none-forced : any_group (is_forced s) (groups s past) ≡ false
   none-forced = ap (any_group (is_forced s)) (no-groups s w limit past legal simple)
 
-  -- nobody waits in a queue
-  pub none-waits : (q : ℕ) → waiting s past q ≡ []
-  unfolding numbers_at
-  none-waits q =
-      ap (map number_of)
-      (none-from (λ (b : Birth). is_in q (place_of s past b)) (births s past)
-      (λ i b at. item-outside s past q b (each-at (λ (c : Birth). is_item c.origin ≡ true) (births s past) i b (only-items s w limit past legal simple) at)))
-
-  -- no queue can start anybody
-  pub none-startable : startable s past ≡ []
-  unfolding startable
-  none-startable =
-      none-below (λ q. s.is_queue q && is_startable s past q) s.routes
-      (λ q l. none-starts (s.is_queue q) (waiting s past q) (nat_lt (busy s past q) (s.queue q).consumers) (none-waits q))
-
-  -- where nobody is Ready and the run goes on, a source is to be pulled
-  pub next-source : PlanLaws s → hands s past ≡ 0 → stop_of s limit past ≡ None → first (ready_numbers s past) ≡ None → (t : ℕ) × (first (unfinished s past) ≡ Some t)
-  next-source laws home waits nobody = by_acts (somebody-acts s laws w limit past legal home waits).1
+  -- where nobody is Ready, no queue can start anybody and the run goes on, a source is to be pulled
+  pub next-source : PlanLaws s → hands s past ≡ 0 → stop_of s limit past ≡ None → first (ready_numbers s past) ≡ None → first (startable s past) ≡ None
+      → (t : ℕ) × (first (unfinished s past) ≡ Some t)
+  next-source laws home waits nobody queues = by_acts (somebody-acts s laws w limit past legal home waits).1
     where
       by_acts : Acts s limit past → (t : ℕ) × (first (unfinished s past) ≡ Some t)
       by_acts (Runs x h) = absurd (cc h)
-      by_acts (Starts q h) = absurd (let g = rw none-startable at h in cc g)
+      by_acts (Starts q h) = absurd (cc h)
       by_acts (Pulls t h) = (t, h)
       by_acts (Ticks t quiet h) = absurd (let g = rw no-dues at h in cc g)
       by_acts (Forces quiet none h) = absurd (let g = none-forced in cc)

@@ -1,7 +1,7 @@
 ghost use Rattle.std.specs.Prelude.{◌≡◌, ◌≤◌, ◌<◌, true, None, Some, OnOk, IfOk, IfSome, IfNone};
 ghost use Rattle.eip_history.specs.Own.{turns};
 ghost use Rattle.eip_history.specs.Place.{hands, ready_numbers};
-ghost use Rattle.eip_history.specs.Rules.{first};
+ghost use Rattle.eip_history.specs.Rules.{first, startable};
 ghost use Rattle.eip_history.specs.Stop.{stop_of};
 ghost use Rattle.eip_books.specs.View.{plan, IsLegalRun};
 ghost use Rattle.eip_tables.specs.Outside.{is_among};
@@ -23,6 +23,7 @@ fn pull_once<L: Lanes, I: Inlets>(
 ) -> Result<(), NoMemory>
     requires rests { Rests hub.old }
     requires nobody { first (ready_numbers (plan hub.old) hub.old.journal.past) ≡ None }
+    requires no_queue { first (startable (plan hub.old) hub.old.journal.past) ≡ None }
     requires room { 1 ≤ hub.old.room }
     requires can_run { CanDrain hub.old (L.views lanes.old) (I.views inlets.old) }
     ensures legal { IsLegalRun hub.new }
@@ -88,7 +89,8 @@ fn run_ready<L: Lanes, I: Inlets>(hub: &mut Hub, lanes: &mut L, inlets: &mut I, 
     }
 }
 
-/// One act of the plain schedule: of the least Ready exchange, or else of the first source that has not ended.
+/// One act of the plain schedule: of the least Ready exchange, or else of the first startable queue, or else of the first source
+/// that has not ended.
 fn act<L: Lanes, I: Inlets>(hub: &mut Hub, lanes: &mut L, inlets: &mut I) -> Result<(), NoMemory>
     requires rests { Rests hub.old }
     requires can_run { CanDrain hub.old (L.views lanes.old) (I.views inlets.old) }
@@ -102,7 +104,10 @@ fn act<L: Lanes, I: Inlets>(hub: &mut Hub, lanes: &mut L, inlets: &mut I) -> Res
             run_ready(hub, lanes, inlets, number);
             Ok(())
         }
-        None => pull_once(hub, lanes, inlets),
+        None => match hub.start(0) {
+            Some(_) => Ok(()),
+            None => pull_once(hub, lanes, inlets),
+        },
     }
 }
 
@@ -133,7 +138,8 @@ fn take_turn<L: Lanes, I: Inlets>(
 }
 
 /// Drains the sources of a run through the hub, by the plain schedule of one worker: the least Ready exchange acts, or else
-/// the first source that has not ended is pulled. It always returns: the stop of the journal, or `NoMemory`.
+/// the first startable queue starts the first exchange that waits in it, or else the first source that has not ended is
+/// pulled. It always returns: the stop of the journal, or `NoMemory`.
 pub fn drain_alone<L: Lanes, I: Inlets>(
     hub: &mut Hub,
     lanes: &mut L,

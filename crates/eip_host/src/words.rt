@@ -13,8 +13,12 @@ use std::io::{Error, ErrorKind};
 pub const HELP: &str = "\
 Runs routes of integration patterns over the lines of standard input.
 
-  eip drain ROUTES   reads the route file ROUTES, takes each line of standard
-                     input as a message, and prints the log and the end book
+  eip drain ROUTES [--turns N]
+                     reads the route file ROUTES, takes each line of standard
+                     input as a message, and prints the log and the end book;
+                     it stops behind N turns, from 1 to 1000000, or behind
+                     100000 where N is not given (a line that is taken or
+                     refused is a turn, and so is each answer to a message)
   eip check ROUTES   prints the routes of ROUTES in their canonical form, or the
                      first fault of the file
   eip --help         prints this page

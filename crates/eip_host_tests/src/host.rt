@@ -308,8 +308,10 @@ fn a_file_of_the_system_is_read(rt: HostRuntime) -> Result<(), Fail> {
 }
 
 /// What the page of help tells of each command and status.
-const TOLD: [&str; 10] = [
-    "\n  eip drain ROUTES   ",
+const TOLD: [&str; 12] = [
+    "\n  eip drain ROUTES [--turns N]\n",
+    " N turns, from 1 to 1000000, ",
+    " 100000 where N is not given ",
     "\n  eip check ROUTES   ",
     "\n  eip --help         ",
     "\n  eip --version      ",

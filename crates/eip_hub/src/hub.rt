@@ -4,14 +4,14 @@ ghost use Rattle.eip_ledger.specs.declared.place.Place.TheVariants.{Ready, InHan
 ghost use Rattle.eip_history.specs.Own.{turns};
 ghost use Rattle.eip_history.specs.Births.{births, asked};
 ghost use Rattle.eip_history.specs.Place.{ready_numbers, place};
-ghost use Rattle.eip_history.specs.Rules.{May, first, IsBelow, outside_asked};
+ghost use Rattle.eip_history.specs.Rules.{May, first, startable, IsBelow, outside_asked};
 ghost use Rattle.eip_history.specs.Stop.{stop_of};
 ghost use Rattle.eip_history.specs.Texts.{notes};
 ghost use Rattle.eip_history.specs.Tables.{without};
 ghost use Rattle.eip_frames.specs.Fits.{fits, is_outside};
 ghost use Rattle.eip_plan.specs.Simple.{AnswersSimply};
 ghost use Rattle.eip_tables.specs.declared.asking.Inner.TheVariants.{Did, Outside};
-ghost use Rattle.eip_books.specs.View.{plan, IsLegalRun, Adds, AddsNone, AddsAnswer};
+ghost use Rattle.eip_books.specs.View.{plan, IsLegalRun, Adds, AddsNone, AddsAnswer, StartsFirst};
 ghost use Rattle.eip_tables.specs.Places.{inner_of};
 ghost use Rattle.eip_tables.specs.Outside.{is_among, outside_after, unlooked_numbers, IsAsked};
 ghost use Rattle.std.specs.Prelude.{option_map};
@@ -148,7 +148,7 @@ impl Hub {
         self.books.unlooked()
     }
 
-    /// Afterwards one `pull`, `take` or `starve` needs no memory, and neither does the call that ends such a pull or take.
+    /// Afterwards one `pull`, `start`, `take` or `starve` needs no memory, and neither does the call that ends such a pull or take.
     pub fn reserve(&mut self) -> Result<(), NoMemory>
         ensures ok { OnOk result (1 ≤ self.new.room) }
         ensures none { AddsNone self.old self.new }
@@ -227,6 +227,24 @@ impl Hub {
         ensures outside { self.new.outside ≡ self.old.outside }
     {
         self.books.source_fault(worker, source);
+    }
+
+    /// Starts the first exchange of the first queue, by route, that is startable: somebody waits in it and a consumer is free. None
+    /// exactly where no queue is startable, or the limit is met.
+    pub fn start(&mut self, worker: u32) -> Option<u64>
+        requires worker { worker ≤ self.old.journal.workers }
+        requires room { 1 ≤ self.old.room }
+        ensures starts { IfSome result (λ x. StartsFirst self.old self.new worker x) }
+        ensures room { IfSome result (λ _. self.new.room + 1 ≡ self.old.room) }
+        ensures none { IfNone result (self.new ≡ self.old) }
+        ensures exact { IfNone result (IsBelow (plan self.old) self.old.journal.turns self.old.journal.past → startable (plan self.old) self.old.journal.past ≡ []) }
+        ensures outside { self.new.outside ≡ self.old.outside }
+        ensures legal { IsLegalRun self.new }
+    {
+        if !self.books.is_below() {
+            return None;
+        }
+        self.books.start(worker)
     }
 
     /// Does what a Ready exchange asks for, where no one outside is needed; else it is known as Outside from now on.

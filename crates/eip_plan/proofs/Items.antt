@@ -1,5 +1,5 @@
--- Where nothing but simple requests is answered, a legal history has no groups, and every exchange is an item's.
-use Rattle.std.proofs.Common.{◌≡◌, ℕ, true, List, [], ◌∷◌, ◌++◌, filter, refl, sym, ap, subst, ◌∙◌}
+-- Where nothing but simple requests is answered, a legal history has no groups, and every exchange is an item's or a copy in a queue.
+use Rattle.std.proofs.Common.{◌≡◌, ℕ, Bool, true, false, List, [], ◌∷◌, ◌++◌, filter, refl, sym, ap, subst, ◌∙◌}
 use Rattle.eip_exchange.specs.declared.birth.Birth.{Birth}
 use Rattle.eip_frames.specs.declared.request.Request.{Request}
 use Rattle.eip_frames.specs.declared.request.Request.TheVariants as request
@@ -18,13 +18,15 @@ use Rattle.eip_history.specs.Rules.{KeepsRules, May}
 use Rattle.eip_history.proofs.Told.{births-more}
 use Rattle.eip_history.proofs.Unborn.{legal-tail, legal-may}
 use Rattle.eip_history.proofs.Over.{Each, each-append}
-use Rattle.eip_plan.specs.Simple.{IsSimple, IsSimpleAnswer, IsSimpleEntry, AnswersSimply, is_item}
+use Rattle.eip_plan.specs.Simple.{IsSimple, IsSimpleAnswer, IsSimpleEntry, AnswersSimply, is_simple_origin}
 
 -- such an answer fits simple requests alone
 pub simple-asked : (q : Request) (a : Reply) → IsSimpleAnswer a → fits q a ≡ true → IsSimple q
 simple-asked (request.Send t m) a i h = tt
 simple-asked (request.Process n m) a i h = tt
 simple-asked (request.Test n m) a i h = tt
+simple-asked (request.Offer q discard m) a i h = tt
+simple-asked (request.Call r) a i h = tt
 simple-asked (request.Log n t) a i h = tt
 simple-asked (request.Finish e m c) a i h = tt
 simple-asked q reply.Done i h = absurd (cc h)
@@ -33,6 +35,10 @@ simple-asked q reply.Exists i h = absurd (cc h)
 simple-asked q (reply.Became m) i h = absurd (cc h)
 simple-asked q (reply.Raised f) i h = absurd (cc h)
 simple-asked q (reply.Holds b) i h = absurd (cc h)
+simple-asked q (reply.Queued n) i h = absurd (cc h)
+simple-asked q (reply.Full l) i h = absurd (cc h)
+simple-asked q reply.Dropped i h = absurd (cc h)
+simple-asked q reply.Entered i h = absurd (cc h)
 simple-asked q reply.Noted i h = absurd (cc h)
 simple-asked q reply.Finished i h = absurd (cc h)
 simple-asked q reply.CommitFailed i h = absurd (cc h)
@@ -46,12 +52,18 @@ fits-simple (request.Send t m) reply.Exists i h = tt
 fits-simple (request.Process n m) (reply.Became b) i h = tt
 fits-simple (request.Process n m) (reply.Raised f) i h = tt
 fits-simple (request.Test n m) (reply.Holds b) i h = tt
+fits-simple (request.Offer q discard m) (reply.Queued n) i h = tt
+fits-simple (request.Offer q discard m) (reply.Full l) i h = tt
+fits-simple (request.Offer q discard m) reply.Dropped i h = tt
+fits-simple (request.Call r) reply.Entered i h = tt
 fits-simple (request.Log n t) reply.Noted i h = tt
 fits-simple (request.Finish e m c) reply.Finished i h = tt
 fits-simple (request.Finish e m c) reply.CommitFailed i h = tt
 fits-simple (request.Send t m) _ i h = absurd (cc h)
 fits-simple (request.Process n m) _ i h = absurd (cc h)
 fits-simple (request.Test n m) _ i h = absurd (cc h)
+fits-simple (request.Offer q discard m) _ i h = absurd (cc h)
+fits-simple (request.Call r) _ i h = absurd (cc h)
 fits-simple (request.Log n t) _ i h = absurd (cc h)
 fits-simple (request.Finish e m c) _ i h = absurd (cc h)
 fits-simple _ _ i h = absurd i
@@ -65,26 +77,50 @@ outside-simple (request.Log n t) h = tt
 outside-simple (request.Finish e m c) h = tt
 outside-simple _ h = absurd (cc h)
 
-made-simple : (s : Plan) (t : Story) (past : Past) (k : Asked) (q : Request) (a : Reply) → IsSimple q → made_for s t past k q a ≡ []
-made-simple s t past k (request.Send g m) a i = refl
-made-simple s t past k (request.Process n m) a i = refl
-made-simple s t past k (request.Test n m) a i = refl
-made-simple s t past k (request.Log n x) a i = refl
-made-simple s t past k (request.Finish e m c) a i = refl
-made-simple s t past k _ a i = absurd i
+-- an answer by which a copy comes into a queue
+abbrev pub is_queued : Reply → Bool
+is_queued (reply.Queued n) = true
+is_queued _ = false
+
+-- nobody outside puts a copy into a queue
+pub outside-unqueued : (q : Request) (a : Reply) → is_outside q ≡ true → fits q a ≡ true → is_queued a ≡ false
+outside-unqueued q (reply.Queued n) o h = by_request q o h
+  where
+    by_request : (q : Request) → is_outside q ≡ true → fits q (reply.Queued n) ≡ true → is_queued (reply.Queued n) ≡ false
+    by_request (request.Offer u discard m) o h = absurd (cc o)
+    by_request _ o h = absurd (cc h)
+outside-unqueued q _ o h = refl
+
+made-simple : (s : Plan) (t : Story) (past : Past) (k : Asked) (q : Request) (a : Reply) → IsSimple q → is_queued a ≡ false → made_for s t past k q a ≡ []
+made-simple s t past k (request.Send g m) a i n = refl
+made-simple s t past k (request.Process n m) a i none = refl
+made-simple s t past k (request.Test n m) a i none = refl
+made-simple s t past k (request.Offer q discard m) (reply.Queued n) i none = absurd (cc none)
+made-simple s t past k (request.Offer q discard m) _ i none = refl
+made-simple s t past k (request.Call r) a i n = refl
+made-simple s t past k (request.Log n x) a i none = refl
+made-simple s t past k (request.Finish e m c) a i n = refl
+made-simple s t past k _ a i n = absurd i
 
 grouped-simple : (t : Story) (past : Past) (k : Asked) (q : Request) (a : Reply) → IsSimple q → grouped_for t past k q a ≡ t.groups
 grouped-simple t past k (request.Send g m) a i = refl
 grouped-simple t past k (request.Process n m) a i = refl
 grouped-simple t past k (request.Test n m) a i = refl
+grouped-simple t past k (request.Offer q discard m) a i = refl
+grouped-simple t past k (request.Call r) a i = refl
 grouped-simple t past k (request.Log n x) a i = refl
 grouped-simple t past k (request.Finish e m c) a i = refl
 grouped-simple t past k _ a i = absurd i
 
--- the births of an entry: one for an accepted item
-abbrev pub item_births : Plan → Past → Kind → List Birth
-item_births s past (Accept source item m) = made_at s past (Accept source item m)
-item_births s past _ = []
+-- the births of an entry: one for an accepted item, and one for a copy that came into a queue
+abbrev pub simple_births : Plan → Past → Kind → List Birth
+simple_births s past (Accept source item m) = made_at s past (Accept source item m)
+simple_births s past (Answer x (reply.Queued n)) = made_at s past (Answer x (reply.Queued n))
+simple_births s past _ = []
+
+pub unqueued-births : (s : Plan) (past : Past) (x : ℕ) (a : Reply) → is_queued a ≡ false → simple_births s past (Answer x a) ≡ []
+unqueued-births s past x (reply.Queued n) h = absurd (cc h)
+unqueued-births s past x _ h = refl
 
 no-groups-made : (s : Plan) (limit w : ℕ) (past : Past) (k : Kind) → IsSimpleEntry k → May s limit past w k → groups s past ≡ [] → grouped s (story s past) past k ≡ []
 no-groups-made s limit w past (Answer x r) i m h =
@@ -100,31 +136,58 @@ no-groups s w limit [] legal simple = refl
 no-groups s w limit (e ∷ past) legal simple =
     no-groups-made s limit e.worker past e.kind simple.1 (legal-may s w limit e past legal) (no-groups s w limit past (legal-tail s w limit e past legal) simple.0)
 
-made-items : (s : Plan) (limit w : ℕ) (past : Past) (k : Kind) → IsSimpleEntry k → May s limit past w k → groups s past ≡ [] → made_at s past k ≡ item_births s past k
-made-items s limit w past (Accept source item m) i may h = refl
-made-items s limit w past (Answer x r) i m h =
-    ap (λ o. made_by s (story s past) past o r) m.asked_is ∙ made-simple s (story s past) past m.asks m.asks.request r (simple-asked m.asks.request r i m.fitting)
-made-items s limit w past (Tick t) i m h = ap (λ gs. group_births s (next_number (story s past)) by.Timeout (filter (is_due s t) gs)) h
-made-items s limit w past Force i m h = ap (λ gs. group_births s (next_number (story s past)) by.Force (filter (is_forced s) gs)) h
-made-items s limit w past _ i m h = refl
+made-answer : (s : Plan) (limit w : ℕ) (past : Past) (x : ℕ) (r : Reply) → IsSimpleAnswer r → is_queued r ≡ false → May s limit past w (Answer x r) → made_at s past (Answer x r) ≡ []
+made-answer s limit w past x r i none m =
+    ap (λ o. made_by s (story s past) past o r) m.asked_is ∙ made-simple s (story s past) past m.asks m.asks.request r (simple-asked m.asks.request r i m.fitting) none
 
--- only an accepted item makes a birth
-pub births-items : (s : Plan) (w limit : ℕ) (e : Entry) (past : Past) → KeepsRules s w limit (e ∷ past) → AnswersSimply (e ∷ past) → births s (e ∷ past) ≡ births s past ++ item_births s past e.kind
-births-items s w limit e past legal simple =
+made-simply : (s : Plan) (limit w : ℕ) (past : Past) (k : Kind) → IsSimpleEntry k → May s limit past w k → groups s past ≡ [] → made_at s past k ≡ simple_births s past k
+made-simply s limit w past (Accept source item m) i may h = refl
+made-simply s limit w past (Answer x (reply.Queued n)) i m h = refl
+made-simply s limit w past (Answer x reply.Done) i m h = made-answer s limit w past x reply.Done i refl m
+made-simply s limit w past (Answer x reply.SendFailed) i m h = made-answer s limit w past x reply.SendFailed i refl m
+made-simply s limit w past (Answer x reply.Exists) i m h = made-answer s limit w past x reply.Exists i refl m
+made-simply s limit w past (Answer x (reply.Became b)) i m h = made-answer s limit w past x (reply.Became b) i refl m
+made-simply s limit w past (Answer x (reply.Raised f)) i m h = made-answer s limit w past x (reply.Raised f) i refl m
+made-simply s limit w past (Answer x (reply.Holds b)) i m h = made-answer s limit w past x (reply.Holds b) i refl m
+made-simply s limit w past (Answer x (reply.Full l)) i m h = made-answer s limit w past x (reply.Full l) i refl m
+made-simply s limit w past (Answer x reply.Dropped) i m h = made-answer s limit w past x reply.Dropped i refl m
+made-simply s limit w past (Answer x reply.Entered) i m h = made-answer s limit w past x reply.Entered i refl m
+made-simply s limit w past (Answer x reply.Noted) i m h = made-answer s limit w past x reply.Noted i refl m
+made-simply s limit w past (Answer x reply.Finished) i m h = made-answer s limit w past x reply.Finished i refl m
+made-simply s limit w past (Answer x reply.CommitFailed) i m h = made-answer s limit w past x reply.CommitFailed i refl m
+made-simply s limit w past (Answer x _) i m h = absurd i
+made-simply s limit w past (Tick t) i m h = ap (λ gs. group_births s (next_number (story s past)) by.Timeout (filter (is_due s t) gs)) h
+made-simply s limit w past Force i m h = ap (λ gs. group_births s (next_number (story s past)) by.Force (filter (is_forced s) gs)) h
+made-simply s limit w past _ i m h = refl
+
+-- only an accepted item and a copy that comes into a queue make a birth
+pub births-simply : (s : Plan) (w limit : ℕ) (e : Entry) (past : Past) → KeepsRules s w limit (e ∷ past) → AnswersSimply (e ∷ past) → births s (e ∷ past) ≡ births s past ++ simple_births s past e.kind
+births-simply s w limit e past legal simple =
     let tail = legal-tail s w limit e past legal in
-    births-more s e past ∙ ap (λ bs. births s past ++ bs) (made-items s limit e.worker past e.kind simple.1 (legal-may s w limit e past legal) (no-groups s w limit past tail simple.0))
+    births-more s e past ∙ ap (λ bs. births s past ++ bs) (made-simply s limit e.worker past e.kind simple.1 (legal-may s w limit e past legal) (no-groups s w limit past tail simple.0))
 
-abbrev IsOfItem : Birth → Type 0
-IsOfItem b = is_item b.origin ≡ true
+abbrev IsOfSimple : Birth → Type 0
+IsOfSimple b = is_simple_origin b.origin ≡ true
 
-item-made : (s : Plan) (past : Past) (k : Kind) → Each IsOfItem (item_births s past k)
-item-made s past (Accept source item m) = (refl, tt)
-item-made s past _ = tt
+-- what an offer that is queued makes: a copy
+copy-for : (s : Plan) (t : Story) (past : Past) (k : Asked) (q : Request) (n : ℕ) → fits q (reply.Queued n) ≡ true → Each IsOfSimple (made_for s t past k q (reply.Queued n))
+copy-for s t past k (request.Offer q discard m) n fit = (refl, tt)
+copy-for s t past k _ n fit = absurd (cc fit)
 
--- every exchange is an item's
-pub only-items : (s : Plan) (w limit : ℕ) (past : Past) → KeepsRules s w limit past → AnswersSimply past → Each (λ (b : Birth). is_item b.origin ≡ true) (births s past)
+copy-made : (s : Plan) (limit w : ℕ) (past : Past) (x n : ℕ) → May s limit past w (Answer x (reply.Queued n)) → Each IsOfSimple (made_at s past (Answer x (reply.Queued n)))
+copy-made s limit w past x n m =
+    subst (λ o. Each IsOfSimple (made_by s (story s past) past o (reply.Queued n))) (sym m.asked_is) (copy-for s (story s past) past m.asks m.asks.request n m.fitting)
+
+one-made : (s : Plan) (limit w : ℕ) (past : Past) (k : Kind) → May s limit past w k → Each IsOfSimple (simple_births s past k)
+one-made s limit w past (Accept source item m) may = (refl, tt)
+one-made s limit w past (Answer x (reply.Queued n)) may = copy-made s limit w past x n may
+one-made s limit w past _ may = tt
+
+-- every exchange is an item's or a copy in a queue
+pub only-simple : (s : Plan) (w limit : ℕ) (past : Past) → KeepsRules s w limit past → AnswersSimply past → Each (λ (b : Birth). is_simple_origin b.origin ≡ true) (births s past)
 unfolding story
-only-items s w limit [] legal simple = tt
-only-items s w limit (e ∷ past) legal simple =
-    let older = only-items s w limit past (legal-tail s w limit e past legal) simple.0 in
-    subst (Each IsOfItem) (sym (births-items s w limit e past legal simple)) (each-append IsOfItem (births s past) (item_births s past e.kind) older (item-made s past e.kind))
+only-simple s w limit [] legal simple = tt
+only-simple s w limit (e ∷ past) legal simple =
+    let older = only-simple s w limit past (legal-tail s w limit e past legal) simple.0 in
+    subst (Each IsOfSimple) (sym (births-simply s w limit e past legal simple))
+    (each-append IsOfSimple (births s past) (simple_births s past e.kind) older (one-made s limit e.worker past e.kind (legal-may s w limit e past legal)))

@@ -1,4 +1,4 @@
--- Journals in which nothing is answered but requests that make no exchange and wait for none.
+-- Journals in which nothing is answered but requests that make no part and no group, wait for nothing and take no key.
 use Rattle.std.specs.Prelude.{Bool, true, false, [], ◌∷◌}
 use Rattle.eip_exchange.specs.declared.birth.Origin.{Origin}
 use Rattle.eip_exchange.specs.declared.birth.Origin.TheVariants as from
@@ -10,11 +10,13 @@ use Rattle.eip_ledger.specs.declared.entry.Kind.{Kind}
 use Rattle.eip_ledger.specs.declared.entry.Kind.TheVariants.{Answer}
 use Rattle.eip_history.specs.Own.{Past}
 
--- a request that makes no exchange, waits for none and takes no key
+-- a request that makes no part and no group, waits for nothing and takes no key
 abbrev pub IsSimple : Request → Type 0
 IsSimple (request.Send t m) = Unit {0}
 IsSimple (request.Process n m) = Unit {0}
 IsSimple (request.Test n m) = Unit {0}
+IsSimple (request.Offer q discard m) = Unit {0}
+IsSimple (request.Call r) = Unit {0}
 IsSimple (request.Log n t) = Unit {0}
 IsSimple (request.Finish e m commit) = Unit {0}
 IsSimple _ = ⊥
@@ -27,6 +29,10 @@ IsSimpleAnswer reply.Exists = Unit {0}
 IsSimpleAnswer (reply.Became m) = Unit {0}
 IsSimpleAnswer (reply.Raised f) = Unit {0}
 IsSimpleAnswer (reply.Holds b) = Unit {0}
+IsSimpleAnswer (reply.Queued n) = Unit {0}
+IsSimpleAnswer (reply.Full l) = Unit {0}
+IsSimpleAnswer reply.Dropped = Unit {0}
+IsSimpleAnswer reply.Entered = Unit {0}
 IsSimpleAnswer reply.Noted = Unit {0}
 IsSimpleAnswer reply.Finished = Unit {0}
 IsSimpleAnswer reply.CommitFailed = Unit {0}
@@ -42,7 +48,8 @@ abbrev pub AnswersSimply : Past → Type 0
 AnswersSimply [] = Unit {0}
 AnswersSimply (e ∷ past) = AnswersSimply past × IsSimpleEntry e.kind
 
--- an exchange that a source's item made
-abbrev pub is_item : Origin → Bool
-is_item (from.Source r item) = true
-is_item _ = false
+-- an exchange that a source's item made, or a copy that was put into a queue
+abbrev pub is_simple_origin : Origin → Bool
+is_simple_origin (from.Source r item) = true
+is_simple_origin (from.Queue q) = true
+is_simple_origin _ = false

@@ -4,14 +4,15 @@ ghost use Rattle.eip_plan.specs.Plan.{plan_of};
 ghost use Rattle.eip_meaning.specs.Meaning.{mean};
 ghost use Rattle.eip_progress.specs.Rest.{rest, IsFirst};
 ghost use Rattle.eip_rows.specs.First.{CanBegin};
-ghost use Rattle.eip_tables.specs.Look.{CanTake, Stepped, HasCursor, LookedAt, birth_at, FirstLook};
+ghost use Rattle.eip_tables.specs.Look.{CanTake, Stepped, HasCursor, LookedAt, birth_at, birth_of as told_birth, FirstLook};
+ghost use Rattle.eip_tables.specs.Offers.{copy_birth as offered_copy};
 
 use eip_cursor::{Advance, Cursor, Next};
-use eip_exchange::{Birth, Care, Origin, Work};
+use eip_exchange::{Birth, Care, Message, Origin, Work};
 use eip_frames::{Answer, Request};
 use eip_ledger::{Entry, Kind};
 use eip_route::RouteSet;
-use eip_tables::row::{self, Row};
+use eip_tables::row::{self, Born, Row};
 use eip_text::NoMemory;
 use std::alloc::Global;
 use std::mem;
@@ -90,8 +91,8 @@ fn block_of(set: &RouteSet, route: u32) -> u32
     }
 }
 
-/// The birth of the exchange that an entry made.
-fn birth_of(alloc: Global, set: &RouteSet, number: u64, kind: &Kind) -> Result<Birth, NoMemory>
+/// The birth of the exchange whose item an entry accepted.
+fn item_birth(alloc: Global, set: &RouteSet, number: u64, kind: &Kind) -> Result<Birth, NoMemory>
     requires { IsSome (birth_at set.now number kind.now) }
     ensures { IfOk result (λ b. birth_at set.now number kind.now ≡ Some b) }
 {
@@ -122,19 +123,101 @@ fn birth_of(alloc: Global, set: &RouteSet, number: u64, kind: &Kind) -> Result<B
     }
 }
 
-/// The first cursor of the exchange that this entry made, with what it asks.
+fn copy_origin(origin: &Origin) -> Result<Origin, NoMemory>
+    ensures { IfOk result (λ o. o ≡ origin.now) }
+{
+    match origin {
+        Origin::Source { route, item } => Ok(Origin::Source {
+            route: *route,
+            item: item.copy()?,
+        }),
+        Origin::Queue { route } => Ok(Origin::Queue { route: *route }),
+        Origin::Part { parent, index } => Ok(Origin::Part {
+            parent: *parent,
+            index: *index,
+        }),
+        Origin::Group { group } => Ok(Origin::Group { group: *group }),
+    }
+}
+
+fn copy_work(work: &Work) -> Result<Work, NoMemory>
+    ensures { IfOk result (λ w. w ≡ work.now) }
+{
+    match work {
+        Work::Block(block) => Ok(Work::Block(*block)),
+        Work::To(text) => Ok(Work::To(text.copy()?)),
+    }
+}
+
+/// The same birth.
+fn copy_birth(alloc: Global, birth: &Birth) -> Result<Birth, NoMemory>
+    ensures { IfOk result (λ b. b ≡ birth.now) }
+{
+    let origin = copy_origin(&birth.origin)?;
+    let work = copy_work(&birth.work)?;
+    let message = birth.message.copy(alloc)?;
+    Ok(Birth {
+        number: birth.number,
+        origin,
+        work,
+        hops: birth.hops,
+        depth: birth.depth,
+        route: birth.route,
+        care: birth.care,
+        message,
+    })
+}
+
+/// The copy that an exchange with so many hops puts into a queue, as the exchange with this number.
+pub fn offered_birth(set: &RouteSet, number: u64, queue: u32, hops: u32, message: Message) -> Birth
+    requires { hops < 1000000 }
+    ensures { result ≡ offered_copy set.now number queue hops message }
+{
+    Birth {
+        number,
+        origin: Origin::Queue { route: queue },
+        work: Work::Block(block_of(set, queue)),
+        hops: hops + 1,
+        depth: 0,
+        route: queue,
+        care: Care::Full,
+        message,
+    }
+}
+
+/// The birth of an exchange, from the entry that accepted its item or from its row.
+fn birth_of(
+    alloc: Global,
+    set: &RouteSet,
+    entries: &[Entry],
+    number: u64,
+    row: &Row,
+) -> Result<Birth, NoMemory>
+    requires { IsSome (told_birth set.now entries.now number row.now) }
+    ensures { IfOk result (λ b. told_birth set.now entries.now number row.now ≡ Some b) }
+{
+    match (row.born, &row.birth) {
+        (Born::Item(entry), _) => match entries.get(entry) {
+            Some(entry) => item_birth(alloc, set, number, &entry.kind),
+            None => unreachable!(),
+        },
+        (Born::Copy(_), Some(birth)) => copy_birth(alloc, birth),
+        (Born::Copy(_), None) => unreachable!(),
+    }
+}
+
+/// The first cursor of the exchange with this number and row, with what it asks.
 pub fn first_look(
     alloc: Global,
     set: &RouteSet,
     entries: &[Entry],
     number: u64,
-    born: usize,
+    row: &Row,
 ) -> Result<(Cursor, Request), NoMemory>
-    requires born { born < length entries.now }
-    requires can_begin { CanBegin set.now entries.now number born }
-    ensures { IfOk result (λ p. FirstLook set.now entries.now number born p.0 p.1) }
+    requires { CanBegin set.now entries.now number row.now }
+    ensures { IfOk result (λ p. FirstLook set.now entries.now number row.now p.0 p.1) }
 {
-    let birth = birth_of(alloc, set, number, &entries[born].kind)?;
+    let birth = birth_of(alloc, set, entries, number, row)?;
     let first = first_cursor(alloc, birth, set)?;
     Ok(first)
 }

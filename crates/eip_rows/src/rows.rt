@@ -1,7 +1,7 @@
 ghost use Rattle.std.specs.Prelude.{vec_capacity, vec_len, ◌≡◌, ◌+◌, ◌<◌, ◌≤◌, ◌-◌, ◌++◌, ◌∷◌, [], OnOk, length, slice_set, slice_get, Some, All, filter};
 ghost use Rattle.eip_tables.specs.declared.row.Row.{Row as ARow};
 ghost use Rattle.std.specs.Prelude.{OnErr};
-ghost use Rattle.eip_tables.specs.Moves.{begun, answered, held, closed, finished, finished_asked, ended_by};
+ghost use Rattle.eip_tables.specs.Moves.{started, begun, answered, held, closed, finished, finished_asked, ended_by};
 ghost use Rattle.eip_tables.specs.State.{outside_at, is_wanted};
 ghost use Rattle.eip_tables.specs.Numbers.{IsNumberOf};
 ghost use Rattle.eip_history.specs.Rules.{first};
@@ -86,6 +86,16 @@ impl Rows {
         ensures { slice_get self.now.items (number - 1) ≡ Some result.now }
     {
         &self.rows[(number - 1) as usize]
+    }
+
+    /// The exchange leaves its queue.
+    pub fn start(&mut self, number: u64)
+        requires above { 0 < number }
+        requires within { number ≤ length self.old.items }
+        ensures items { (r : ARow) → slice_get self.old.items (number - 1) ≡ Some r → self.new.items ≡ slice_set self.old.items (number - 1) (started r) }
+        ensures spare { self.old.spare ≤ self.new.spare }
+    {
+        row::start(&mut self.rows[(number - 1) as usize]);
     }
 
     /// The exchange has this first cursor, and asks this.

@@ -53,7 +53,7 @@ use Rattle.eip_run.specs.Outcomes.{behind}
 use Rattle.eip_run.specs.Routes.{file_limit}
 use Rattle.eip_run.specs.Given.{Setting, asked}
 use Rattle.eip_run.specs.Prepared.{sites, WasRead, IsSpared, HasRoutes}
-use Rattle.eip_run.specs.Reports.{turn_limit, IsRun, Comes, NoCommand, NotRead, NoRoutes, WasChecked, Stopped, Starved, LacksMemory, LacksText, Reports}
+use Rattle.eip_run.specs.Reports.{IsRun, Comes, NoCommand, NotRead, NoRoutes, WasChecked, Stopped, Starved, LacksMemory, LacksText, Reports}
 use Rattle.eip_run.specs.Caused.{InletRose, SourceFailed, CauseOfStop, CauseOf, PatternsOf, IsUnharmed, Completes, Prints, IsFaultless, IsRefusedFor, InFile, IsOfSize, IsRight, Causes}
 use Rattle.eip_run.proofs.Runnable.{Runs}
 use Rattle.eip_run.proofs.Ending.{routes-run}
@@ -165,16 +165,18 @@ the-some : (o : Option ℕ) → IsSome o → (k : ℕ) × (o ≡ Some k)
 the-some None h = absurd (cc h)
 the-some (Some k) h = (k, refl)
 
-source-failed : (x : Setting) (p : Path) (set : RouteSet) (s : Stop) (t : ℕ) → HasRoutes (asked x) (Drain p) set → IsRun x set s → first_fault x.journal.past ≡ Some t → SourceFailed x t
-source-failed x p set s t has ran h =
-    let runs : Runs set (lane_names x.before.lanes) (inlet_names x.before.inlets) = routes-run (asked x) p set has in
-    let is : IsSource (plan_of set) t = fault-source (plan_of set) 0 turn_limit x.journal.past ran.legal.entries t h in
+source-failed : (x : Setting) (p : Path) (limit : ℕ) (set : RouteSet) (s : Stop) (t : ℕ) → HasRoutes (asked x) (Drain p limit) set → IsRun x set limit s → first_fault x.journal.past ≡ Some t
+    → SourceFailed x t
+source-failed x p limit set s t has ran h =
+    let runs : Runs set (lane_names x.before.lanes) (inlet_names x.before.inlets) = routes-run (asked x) p limit set has in
+    let is : IsSource (plan_of set) t = fault-source (plan_of set) 0 limit x.journal.past ran.legal.entries t h in
     let door = the-some (inlet_at (inlet_names x.before.inlets) (slice_get set.routes t)) (runs.can_run.has_inlets t is) in
     let all : length (inlet_names x.before.inlets) ≡ length x.before.inlets = length-map x.before.inlets (λ v. v.name) in
     let among : door.0 < length (inlet_names x.before.inlets) = inlet-within _ (slice_get set.routes t) door.0 door.1 in
     let within : door.0 < length x.before.inlets = rw all at among in
     record {
       path = p;
+      limit = limit;
       set = set;
       routes = has;
       inlet = door.0;
@@ -185,13 +187,13 @@ source-failed x p set s t has ran h =
 
 -- ---- the cause of what a command came to
 
-stop-caused : (x : Setting) (p : Path) (set : RouteSet) (r s : Stop) → HasRoutes (asked x) (Drain p) set → IsRun x set r → Says (first_fault x.journal.past) (turns x.journal.past) turn_limit s
-    → CauseOfStop x s
-stop-caused x p set r stop.Drained has ran h = tt
-stop-caused x p set r (stop.SourceFault t) has ran h = source-failed x p set r t has ran h
-stop-caused x p set r (stop.Held groups) has ran h = h
-stop-caused x p set r stop.Spent has ran h = h
-stop-caused x p set r stop.NoMemory has ran h = tt
+stop-caused : (x : Setting) (p : Path) (limit : ℕ) (set : RouteSet) (r s : Stop) → HasRoutes (asked x) (Drain p limit) set → IsRun x set limit r
+    → Says (first_fault x.journal.past) (turns x.journal.past) limit s → CauseOfStop x limit s
+stop-caused x p limit set r stop.Drained has ran h = tt
+stop-caused x p limit set r (stop.SourceFault t) has ran h = source-failed x p limit set r t has ran h
+stop-caused x p limit set r (stop.Held groups) has ran h = h
+stop-caused x p limit set r stop.Spent has ran h = h
+stop-caused x p limit set r stop.NoMemory has ran h = tt
 
 told-caused : (x : Setting) (told : Outcome) (text : List ℕ) → AnswersSimply x.journal.past → Comes x told text → CauseOf x told
 told-caused x told text simple (NoCommand none still calm) = none
@@ -199,14 +201,14 @@ told-caused x told text simple (NotRead k command still rises calm) = rises-rose
 told-caused x told text simple (NoRoutes k read f command still was h) =
     record { command = k; read = read; words = command; answer = was; refused = h }
 told-caused x told text simple (WasChecked p set has still) = (p, has.command)
-told-caused x told text simple (Stopped p set s has ran ne) = ((p, has.command), by_stop ran.stops)
+told-caused x told text simple (Stopped p limit set s has ran ne) = (limit, (p, has.command), by_stop ran.stops)
   where
-    by_stop : (s ≡ stop.NoMemory) ⊎ (stop_of (plan_of set) turn_limit x.journal.past ≡ Some s) → CauseOfStop x s
+    by_stop : (s ≡ stop.NoMemory) ⊎ (stop_of (plan_of set) limit x.journal.past ≡ Some s) → CauseOfStop x limit s
     by_stop (inl e) = absurd (ne e)
-    by_stop (inr h) = stop-caused x p set s s has ran (stop-says (plan_of set) 0 turn_limit x.journal.past ran.legal.entries simple s h)
-told-caused x told text simple (Starved p set has ran) = ((p, has.command), tt)
+    by_stop (inr h) = stop-caused x p limit set s s has ran (stop-says (plan_of set) 0 limit x.journal.past ran.legal.entries simple s h)
+told-caused x told text simple (Starved p limit set has ran) = (limit, (p, has.command), tt)
 told-caused x told text simple (LacksMemory still count spared) = tt
-told-caused x told text simple (LacksText p set s has ran ne) = tt
+told-caused x told text simple (LacksText p limit set s has ran ne) = tt
 
 -- the sink's fault is the cause where there was none before it
 behind-caused : (x : Setting) (told : Outcome) (w : Result Unit SinkFault) → Rises (sink_failure w) x.before.sink_faults x.after.sink_faults → CauseOf x told
@@ -245,10 +247,10 @@ refused-behind x told text w none (NoCommand _ still calm) = words-behind w
 refused-behind x told text w none (NotRead k command still rises calm) = absurd (cc (none, command))
 refused-behind x told text w none (NoRoutes k read f command still was h) = absurd (cc (none, command))
 refused-behind x told text w none (WasChecked p set has still) = absurd (cc (none, has.command))
-refused-behind x told text w none (Stopped p set s has ran ne) = absurd (cc (none, has.command))
-refused-behind x told text w none (Starved p set has ran) = absurd (cc (none, has.command))
+refused-behind x told text w none (Stopped p limit set s has ran ne) = absurd (cc (none, has.command))
+refused-behind x told text w none (Starved p limit set has ran) = absurd (cc (none, has.command))
 refused-behind x told text w none (LacksMemory still count spared) = starved-behind w
-refused-behind x told text w none (LacksText p set s has ran ne) = absurd (cc (none, has.command))
+refused-behind x told text w none (LacksText p limit set s has ran ne) = absurd (cc (none, has.command))
 
 -- ---- the patterns' count
 
@@ -262,10 +264,10 @@ told-patterns x told text (NoCommand none still calm) = calm.patterns
 told-patterns x told text (NotRead k command still rises calm) = calm
 told-patterns x told text (NoRoutes k read f command still was h) = found-patterns x k read f command was h
 told-patterns x told text (WasChecked p set has still) = has.patterns
-told-patterns x told text (Stopped p set s has ran ne) = has.patterns
-told-patterns x told text (Starved p set has ran) = has.patterns
+told-patterns x told text (Stopped p limit set s has ran ne) = has.patterns
+told-patterns x told text (Starved p limit set has ran) = has.patterns
 told-patterns x told text (LacksMemory still count spared) = spared
-told-patterns x told text (LacksText p set s has ran ne) = inl has.patterns
+told-patterns x told text (LacksText p limit set s has ran ne) = inl has.patterns
 
 starved-patterns : (x : Setting) (told : Outcome) → PatternsOf x told → IsSpared (asked x)
 starved-patterns x outcome.Words h = inl h
@@ -300,8 +302,8 @@ without-faults x (outcome.Routes f) h u = tt
 without-faults x outcome.FilesFault h u = u.files h
 without-faults x outcome.Checked h u = tt
 without-faults x (outcome.Ran stop.Drained) h u = tt
-without-faults x (outcome.Ran (stop.SourceFault t)) h u = u.inlets h.1.inlet h.1.failed
-without-faults x (outcome.Ran (stop.Held groups)) h u = h.1
+without-faults x (outcome.Ran (stop.SourceFault t)) h u = u.inlets h.2.inlet h.2.failed
+without-faults x (outcome.Ran (stop.Held groups)) h u = h.2
 without-faults x (outcome.Ran stop.Spent) h u = tt
 without-faults x (outcome.Ran stop.NoMemory) h u = tt
 without-faults x outcome.SinkFault h u = u.sink h
@@ -348,10 +350,10 @@ told-refused x k held f told text file wrong (NoRoutes l read g command still wa
     let same : sites (asked x) l read ≡ sites (asked x) k held = same-places x k l held read file command was in
     found-for (sites (asked x) k held) x.before.materials.pattern_faults x.after.materials.pattern_faults f g (subst (λ (at : List Site). Finds at x.before.materials.pattern_faults x.after.materials.pattern_faults g) same h) wrong
 told-refused x k held f told text file wrong (WasChecked p set has still) = none-taken x k (Check p) held set f file wrong has
-told-refused x k held f told text file wrong (Stopped p set s has ran ne) = none-taken x k (Drain p) held set f file wrong has
-told-refused x k held f told text file wrong (Starved p set has ran) = none-taken x k (Drain p) held set f file wrong has
+told-refused x k held f told text file wrong (Stopped p limit set s has ran ne) = none-taken x k (Drain p limit) held set f file wrong has
+told-refused x k held f told text file wrong (Starved p limit set has ran) = none-taken x k (Drain p limit) held set f file wrong has
 told-refused x k held f told text file wrong (LacksMemory still count spared) = tt
-told-refused x k held f told text file wrong (LacksText p set s has ran ne) = tt
+told-refused x k held f told text file wrong (LacksText p limit set s has ran ne) = tt
 
 behind-refused : (at : List Site) (f : RouteFault) (told : Outcome) (w : Result Unit SinkFault) → IsRefusedFor at f told → IsRefusedFor at f (behind told w)
 behind-refused at f told (Ok u) h = h
@@ -380,15 +382,15 @@ not-refused x k held g h file right u =
     let same : sites (asked x) h.command h.read ≡ sites (asked x) k held = same-places x k h.command held h.read file h.words h.answer in
     u.patterns (right-found (sites (asked x) k held) g x.before.materials.pattern_faults x.after.materials.pattern_faults right (subst (λ (at : List Site). Finds at x.before.materials.pattern_faults x.after.materials.pattern_faults g) same h.refused))
 
-drains : (x : Setting) (p : Path) (held : FileRead) (o : Outcome) → CauseOf x o → InFile x (Drain p) held → IsRight (sites (asked x) (Drain p) held) → IsUnharmed x
+drains : (x : Setting) (p : Path) (limit : ℕ) (held : FileRead) (o : Outcome) → CauseOf x o → InFile x (Drain p limit) held → IsRight (sites (asked x) (Drain p limit) held) → IsUnharmed x
     → IsFaultless o → Completes o
-drains x p held outcome.Words h file right u f = absurd (cc (h, file.command))
-drains x p held (outcome.Routes g) h file right u f = absurd (not-refused x (Drain p) held g h file right u)
-drains x p held outcome.FilesFault h file right u f = f
-drains x p held outcome.Checked h file right u f = absurd (cc (h.1, file.command))
-drains x p held (outcome.Ran s) h file right u f = f
-drains x p held outcome.SinkFault h file right u f = f
-drains x p held outcome.NoMemory h file right u f = f
+drains x p limit held outcome.Words h file right u f = absurd (cc (h, file.command))
+drains x p limit held (outcome.Routes g) h file right u f = absurd (not-refused x (Drain p limit) held g h file right u)
+drains x p limit held outcome.FilesFault h file right u f = f
+drains x p limit held outcome.Checked h file right u f = absurd (cc (h.1, file.command))
+drains x p limit held (outcome.Ran s) h file right u f = f
+drains x p limit held outcome.SinkFault h file right u f = f
+drains x p limit held outcome.NoMemory h file right u f = f
 
 prints : (x : Setting) (p : Path) (held : FileRead) (o : Outcome) → CauseOf x o → InFile x (Check p) held → IsRight (sites (asked x) (Check p) held) → IsUnharmed x
     → IsFaultless o → Prints o
@@ -396,7 +398,7 @@ prints x p held outcome.Words h file right u f = absurd (cc (h, file.command))
 prints x p held (outcome.Routes g) h file right u f = absurd (not-refused x (Check p) held g h file right u)
 prints x p held outcome.FilesFault h file right u f = f
 prints x p held outcome.Checked h file right u f = tt
-prints x p held (outcome.Ran s) h file right u f = absurd (cc (h.0.1, file.command))
+prints x p held (outcome.Ran s) h file right u f = absurd (cc (h.1.1, file.command))
 prints x p held outcome.SinkFault h file right u f = f
 prints x p held outcome.NoMemory h file right u f = tt
 
@@ -414,6 +416,6 @@ causes x o r simple =
       no_routes = λ k read f file wrong.
           subst (IsRefusedFor (sites (asked x) k read) f) is
           (behind-refused (sites (asked x) k read) f r.told r.tells.write (told-refused x k read f r.told r.text file wrong r.comes));
-      drained = λ p read file right u. drains x p read o cause file right u (without-faults x o cause u);
+      drained = λ p limit read file right u. drains x p limit read o cause file right u (without-faults x o cause u);
       checked = λ p read file right u. prints x p read o cause file right u (without-faults x o cause u);
     }

@@ -1,5 +1,5 @@
 -- What a command comes to, by what was prepared and told.
-use Rattle.std.proofs.Common.{◌≡◌, ℕ, true, ◌++◌, List, [], Option, Some, None, Result, Ok, Err, codes, refl, sym, ap, subst, ◌∙◌, inl, inr}
+use Rattle.std.proofs.Common.{◌≡◌, ℕ, ◌≤◌, true, ◌++◌, List, [], Option, Some, None, Result, Ok, Err, codes, refl, sym, ap, subst, ◌∙◌, inl, inr}
 use Rattle.std.proofs.lemmas.List.{append-nil}
 use Rattle.eip_text.specs.Json.{Json, json_read}
 use Rattle.eip_run.specs.Built.{is_built}
@@ -28,7 +28,8 @@ use Rattle.eip_core.specs.Drain.{IsStop, Drains}
 use Rattle.eip_run.specs.declared.prepare.Refusal.{Refusal}
 use Rattle.eip_run.specs.declared.report.Outcome.{Outcome}
 use Rattle.eip_run.specs.declared.report.Outcome.TheVariants as outcome
-use Rattle.eip_command.specs.Words.{command_of, path_in}
+use Rattle.eip_command.specs.Words.{command_of, path_in, IsDrain}
+use Rattle.eip_command.proofs.Paths.{command_is}
 use Rattle.eip_command.specs.declared.words.Path.{Path}
 use Rattle.eip_command.specs.declared.words.Command.{Command}
 use Rattle.eip_command.specs.declared.words.Command.TheVariants.{Drain, Check}
@@ -42,7 +43,7 @@ use Rattle.eip_run.specs.Given.{Asked, Setting, asked}
 use Rattle.eip_run.specs.Prepared.{job_of, sites, Answers, WasRead, IsSpared, HasRoutes, Prepares, NoCommand, NotRead, NoRoutes, Found, LacksMemory}
 use Rattle.eip_run.specs.Printed.{OfRefusal, OfWords, OfFiles, OfRoutes, OfNoLine, OfMemory, OfCheck, OfText, OfNone, OfRun, OfStop, OfStarved, OfNoText, TellsRefusal, TellsCheck, TellsRun}
 use Rattle.eip_run.specs.Drained.{Drained, RanTo, NotBegun}
-use Rattle.eip_run.specs.Reports.{turn_limit, IsStill, Ran, IsRun, Comes, Reports, NoCommand as Refused, NotRead as Failed, NoRoutes as Faulty, WasChecked, Stopped, Starved, LacksMemory as Poor, LacksText}
+use Rattle.eip_run.specs.Reports.{IsStill, Ran, IsRun, Comes, Reports, NoCommand as Refused, NotRead as Failed, NoRoutes as Faulty, WasChecked, Stopped, Starved, LacksMemory as Poor, LacksText}
 use Rattle.eip_core.specs.Served.{names_of}
 use Rattle.eip_core.proofs.Compose.{plain-behind}
 use Rattle.eip_run.proofs.Runnable.{Runs, valid-runs}
@@ -53,18 +54,18 @@ unfolding IsPlain
 none-plain s = tt
 
 -- a run from its begin on
-pub record Begins (set : RouteSet) (v : BooksView) : Type 0 where
+pub record Begins (set : RouteSet) (limit : ℕ) (v : BooksView) : Type 0 where
   pub of_set : v.set ≡ set
   pub workers : v.journal.workers ≡ 0
-  pub turns : v.journal.turns ≡ turn_limit
+  pub turns : v.journal.turns ≡ limit
   pub past : v.journal.past ≡ []
 
-pub ran-to : (set : RouteSet) (u v : BooksView) (j : JournalView) (s : Stop) (lb la : List LaneView) (ib ia : List InletView)
-    → Begins set u → IsStop v s → IsLegalRun v → Drains u v lb la ib ia → j ≡ v.journal → Ran set j s lb la ib ia
-ran-to set u v j s lb la ib ia b stops legal d same =
+pub ran-to : (set : RouteSet) (most : ℕ) (u v : BooksView) (j : JournalView) (s : Stop) (lb la : List LaneView) (ib ia : List InletView)
+    → Begins set most u → IsStop v s → IsLegalRun v → Drains u v lb la ib ia → j ≡ v.journal → Ran set most j s lb la ib ia
+ran-to set most u v j s lb la ib ia b stops legal d same =
     let plans : plan u ≡ plan_of set = ap plan_of b.of_set in
     let over : plan v ≡ plan_of set = ap plan_of d.same.set ∙ plans in
-    let limit : v.journal.turns ≡ turn_limit = d.same.turns ∙ b.turns in
+    let limit : v.journal.turns ≡ most = d.same.turns ∙ b.turns in
     let none : v.journal.workers ≡ 0 = d.same.workers ∙ b.workers in
     let past : v.journal.past ≡ d.behind = d.past ∙ (ap (λ (p : Past). d.behind ++ p) b.past ∙ append-nil d.behind) in
     let here : j.past ≡ v.journal.past = ap (λ (x : JournalView). x.past) same in
@@ -119,13 +120,16 @@ prepared-job x k read set j command was h made =
 -- ---- what a command comes to
 
 -- a drain of these routes
-has-drain : (x : Asked) (r : Result Job Refusal) (set : RouteSet) → Prepares x r → r ≡ Ok (job.Drain set) → (p : Path) × HasRoutes x (Drain p) set
-has-drain x r set (NoCommand none calm) e = absurd (cc e)
-has-drain x r set (NotRead k command rises calm) e = absurd (cc e)
-has-drain x r set (NoRoutes k read f command was h) e = absurd (cc e)
-has-drain x r set (Found (Drain p) s has) e = let same : s ≡ set = cc e in (p, subst (HasRoutes x (Drain p)) same has)
-has-drain x r set (Found (Check p) s has) e = absurd (cc e)
-has-drain x r set (LacksMemory count calm) e = absurd (cc e)
+has-drain : (x : Asked) (r : Result Job Refusal) (set : RouteSet) (limit : ℕ) → Prepares x r → r ≡ Ok (job.Drain set limit) → (p : Path) × HasRoutes x (Drain p limit) set
+has-drain x r set limit (NoCommand none calm) e = absurd (cc e)
+has-drain x r set limit (NotRead k command rises calm) e = absurd (cc e)
+has-drain x r set limit (NoRoutes k read f command was h) e = absurd (cc e)
+has-drain x r set limit (Found (Drain p turns) s has) e =
+    let same : s ≡ set = cc e in
+    let most : turns ≡ limit = cc e in
+    (p, subst (HasRoutes x (Drain p limit)) same (subst (λ (n : ℕ). HasRoutes x (Drain p n) s) most has))
+has-drain x r set limit (Found (Check p) s has) e = absurd (cc e)
+has-drain x r set limit (LacksMemory count calm) e = absurd (cc e)
 
 -- a check of these routes
 has-check : (x : Asked) (r : Result Job Refusal) (set : RouteSet) → Prepares x r → r ≡ Ok (job.Check set) → (p : Path) × HasRoutes x (Check p) set
@@ -133,7 +137,7 @@ has-check x r set (NoCommand none calm) e = absurd (cc e)
 has-check x r set (NotRead k command rises calm) e = absurd (cc e)
 has-check x r set (NoRoutes k read f command was h) e = absurd (cc e)
 has-check x r set (Found (Check p) s has) e = let same : s ≡ set = cc e in (p, subst (HasRoutes x (Check p)) same has)
-has-check x r set (Found (Drain p) s has) e = absurd (cc e)
+has-check x r set (Found (Drain p turns) s has) e = absurd (cc e)
 has-check x r set (LacksMemory count calm) e = absurd (cc e)
 
 -- a file in which nothing is wrong gives a valid set, with the names that were handed in
@@ -150,32 +154,39 @@ file-names n read = by_tree (json_read (bytes_in read))
     by_tree None = refl
     by_tree (Some t) = refl
 
-drain-runs : (ls is : List (List ℕ)) (p : Path) (read : FileRead) → first_fault (sites_for (Drain p) ls is read) ≡ None → Runs (set_in (names_of ls is) read) ls is
-drain-runs ls is p read h =
+drain-runs : (ls is : List (List ℕ)) (p : Path) (limit : ℕ) (read : FileRead) → first_fault (sites_for (Drain p limit) ls is read) ≡ None → Runs (set_in (names_of ls is) read) ls is
+drain-runs ls is p limit read h =
     let n = names_of ls is in
     let set = set_in n read in
     valid-runs n set (file-valid n read (none-front (sites_in n read) (unless_built (is_built set)) h)) (file-names n read) (built-where (sites_in n read) (is_built set) h)
 
 -- routes that are drained can be run
-pub routes-run : (x : Asked) (p : Path) (set : RouteSet) → HasRoutes x (Drain p) set → Runs set x.lanes x.inlets
-routes-run x p set has = subst (λ (y : RouteSet). Runs y x.lanes x.inlets) (sym has.routes) (drain-runs x.lanes x.inlets p has.read has.faultless)
+pub routes-run : (x : Asked) (p : Path) (limit : ℕ) (set : RouteSet) → HasRoutes x (Drain p limit) set → Runs set x.lanes x.inlets
+routes-run x p limit set has = subst (λ (y : RouteSet). Runs y x.lanes x.inlets) (sym has.routes) (drain-runs x.lanes x.inlets p limit has.read has.faultless)
 
-pub prepared-runs : (x : Asked) (r : Result Job Refusal) (set : RouteSet) → Prepares x r → r ≡ Ok (job.Drain set) → Runs set x.lanes x.inlets
-prepared-runs x r set prepares e = let has = has-drain x r set prepares e in routes-run x has.0 set has.1
+pub prepared-runs : (x : Asked) (r : Result Job Refusal) (set : RouteSet) (limit : ℕ) → Prepares x r → r ≡ Ok (job.Drain set limit) → Runs set x.lanes x.inlets
+prepared-runs x r set limit prepares e = let has = has-drain x r set limit prepares e in routes-run x has.0 limit set has.1
 
-comes-ran : (x : Setting) (p : Path) (set : RouteSet) (s : Stop) (told : Outcome) (text : List ℕ) → HasRoutes (asked x) (Drain p) set → IsRun x set s
+-- its limit is one that a run may have
+pub prepared-limit : (x : Asked) (r : Result Job Refusal) (set : RouteSet) (limit : ℕ) → Prepares x r → r ≡ Ok (job.Drain set limit) → (1 ≤ limit) × (limit ≤ 1000000)
+prepared-limit x r set limit prepares e =
+    let has = has-drain x r set limit prepares e in
+    let said : IsDrain x.words has.0 limit = command_is x.words (Drain has.0 limit) has.1.command in
+    (said.some, said.most)
+
+comes-ran : (x : Setting) (p : Path) (limit : ℕ) (set : RouteSet) (s : Stop) (told : Outcome) (text : List ℕ) → HasRoutes (asked x) (Drain p limit) set → IsRun x set limit s
     → OfRun set x.journal.past s told text → Comes x told text
-comes-ran x p set s told text has ran (OfStop _ ne) = Stopped p set s has ran ne
-comes-ran x p set s told text has ran OfStarved = Starved p set has ran
-comes-ran x p set s told text has ran (OfNoText _ ne) = LacksText p set s has ran ne
+comes-ran x p limit set s told text has ran (OfStop _ ne) = Stopped p limit set s has ran ne
+comes-ran x p limit set s told text has ran OfStarved = Starved p limit set has ran
+comes-ran x p limit set s told text has ran (OfNoText _ ne) = LacksText p limit set s has ran ne
 
-pub reports-drained : (x : Setting) (r : Result Job Refusal) (set : RouteSet) {o : Outcome} → Prepares (asked x) r → r ≡ Ok (job.Drain set)
-    → Drained set x.journal x.before.lanes x.after.lanes x.before.inlets x.after.inlets x.before.written x.after.written x.before.sink_faults x.after.sink_faults o → Reports x o
-reports-drained x r set prepares e (RanTo s o ran tells) =
-    let has = has-drain (asked x) r set prepares e in
-    record { told = tells.told; text = tells.text; comes = comes-ran x has.0 set s tells.told tells.text has.1 ran tells.of; tells = tells.tells }
-reports-drained x r set prepares e (NotBegun o new lanes inlets told) =
-    let has = has-drain (asked x) r set prepares e in
+pub reports-drained : (x : Setting) (r : Result Job Refusal) (set : RouteSet) (limit : ℕ) {o : Outcome} → Prepares (asked x) r → r ≡ Ok (job.Drain set limit)
+    → Drained set limit x.journal x.before.lanes x.after.lanes x.before.inlets x.after.inlets x.before.written x.after.written x.before.sink_faults x.after.sink_faults o → Reports x o
+reports-drained x r set limit prepares e (RanTo s o ran tells) =
+    let has = has-drain (asked x) r set limit prepares e in
+    record { told = tells.told; text = tells.text; comes = comes-ran x has.0 limit set s tells.told tells.text has.1 ran tells.of; tells = tells.tells }
+reports-drained x r set limit prepares e (NotBegun o new lanes inlets told) =
+    let has = has-drain (asked x) r set limit prepares e in
     record {
       told = outcome.NoMemory;
       text = codes "error memory\n";

@@ -1,6 +1,6 @@
 -- A valid set of the part that is run can be run over the lanes and inlets with whose names it was read.
-use Rattle.std.proofs.Common.{◌≡◌, ℕ, zero, suc, ◌+◌, ◌<◌, ◌≤◌, ◌&&◌, ◌||◌, Bool, true, false, cond, List, [], ◌∷◌, length, Option, Some, None, codes, refl, subst, arith}
-use Rattle.std.specs.Prelude.{All, nat_lt, bytes_eq}
+use Rattle.std.proofs.Common.{◌≡◌, ℕ, zero, suc, ◌+◌, ◌≤◌, ◌&&◌, ◌||◌, Bool, true, false, cond, List, [], ◌∷◌, length, Option, Some, None, refl, subst, arith}
+use Rattle.std.specs.Prelude.{All, nat_lt, bytes_eq, is_some}
 use Rattle.std.specs.Option.{IsSome}
 use Rattle.std.specs.List.{list_all, slice_get, position_from}
 use Rattle.std.proofs.lemmas.Bool.{and_parts, ltb-false}
@@ -10,7 +10,7 @@ use Rattle.eip_uri.specs.Ranges.{is_uri}
 use Rattle.eip_uri.specs.Sides.{is_consumer}
 use Rattle.eip_uri.specs.declared.uri.Uri.{Uri}
 use Rattle.eip_uri.specs.declared.uri.Uri.TheVariants as uri
-use Rattle.eip_run.specs.Built.{is_built, is_stream, is_built_route, are_built_routes, are_built_blocks, is_empty, is_plain_handler}
+use Rattle.eip_run.specs.Built.{is_built, is_built_source, is_built_route, are_built_routes, are_built_blocks, is_empty, is_plain_handler}
 use Rattle.eip_route.specs.Faults.{or_else, set_fault}
 use Rattle.eip_route.specs.Goals.{is_among}
 use Rattle.eip_route.specs.Valid.{IsValid, is_given_among, is_source, is_route}
@@ -20,7 +20,7 @@ use Rattle.eip_route.specs.declared.route.Names.{Names}
 use Rattle.eip_route.specs.declared.route.Route.{Route}
 use Rattle.eip_route.specs.declared.route.RouteSet.{RouteSet}
 use Rattle.eip_meaning.specs.Meaning.{is_told, is_told_route}
-use Rattle.eip_plan.specs.Plan.{plan_of}
+use Rattle.eip_plan.specs.Plan.{is_source_route, plan_of}
 use Rattle.eip_core.specs.Doors.{inlet_named, inlet_at, HasInlets, HasLanes, CanRun}
 
 -- ---- what is handed in is found
@@ -36,42 +36,36 @@ among-named name (x ∷ xs) k h = by_first (bytes_eq x name) h (among-named name
 
 -- ---- sources
 
-stream-named : (inlets : List (List ℕ)) (u : Uri) → is_stream u ≡ true → is_given_among (inlet_of u) inlets ≡ true → IsSome (inlet_named inlets (inlet_of u))
-stream-named inlets uri.StreamIn s h = among-named (codes "stream") inlets 0 h
-stream-named inlets (uri.Direct name) s h = absurd (cc s)
-stream-named inlets (uri.Seda name size consumers discard) s h = absurd (cc s)
-stream-named inlets (uri.File folder after failed exist) s h = absurd (cc s)
-stream-named inlets (uri.Log name) s h = absurd (cc s)
-stream-named inlets (uri.Line host port) s h = absurd (cc s)
-stream-named inlets (uri.Listen port) s h = absurd (cc s)
-stream-named inlets (uri.Lane name) s h = absurd (cc s)
-stream-named inlets (uri.Load n) s h = absurd (cc s)
+given-named : (inlets : List (List ℕ)) (o : Option (List ℕ)) → is_some o ≡ true → is_given_among o inlets ≡ true → IsSome (inlet_named inlets o)
+given-named inlets None s h = absurd (cc s)
+given-named inlets (Some name) s h = among-named name inlets 0 h
 
-inlets-of : (n : Names) (rs : List Route) (t : ℕ) → All (λ (r : Route). is_route n r ≡ true) rs → list_all is_built_route rs ≡ true → t < length rs → IsSome (inlet_at n.inlets (slice_get rs t))
-inlets-of n [] t valid built within = absurd (omega (arith, within))
-inlets-of n (r ∷ rs) zero valid built within =
-    let source = (and_parts (is_name r.id) (is_source n r.from) (valid 0 r (omega arith))).1 in
-    stream-named n.inlets r.from (and_parts (is_built_route r) (list_all is_built_route rs) built).0 (and_parts (is_uri r.from && is_consumer r.from) (is_given_among (inlet_of r.from) n.inlets) source).1
-inlets-of n (r ∷ rs) (suc t) valid built within = inlets-of n rs t (λ k d inside. valid (suc k) d (omega (arith, inside))) (and_parts (is_built_route r) (list_all is_built_route rs) built).1 (omega (arith, within))
+-- a route that is read by an inlet has it
+inlets-of : (n : Names) (rs : List Route) (t : ℕ) → All (λ (r : Route). is_route n r ≡ true) rs → is_source_route (slice_get rs t) ≡ true → IsSome (inlet_at n.inlets (slice_get rs t))
+inlets-of n [] t valid source = absurd (cc source)
+inlets-of n (r ∷ rs) zero valid source =
+    let begins = (and_parts (is_name r.id) (is_source n r.from) (valid 0 r (omega arith))).1 in
+    given-named n.inlets (inlet_of r.from) source (and_parts (is_uri r.from && is_consumer r.from) (is_given_among (inlet_of r.from) n.inlets) begins).1
+inlets-of n (r ∷ rs) (suc t) valid source = inlets-of n rs t (λ k d inside. valid (suc k) d (omega (arith, inside))) source
 
-has-inlets : (n : Names) (set : RouteSet) → All (λ (r : Route). is_route n r ≡ true) set.routes → list_all is_built_route set.routes ≡ true → HasInlets set n.inlets
+has-inlets : (n : Names) (set : RouteSet) → All (λ (r : Route). is_route n r ≡ true) set.routes → HasInlets set n.inlets
 unfolding plan_of
-has-inlets n set valid built t is = inlets-of n set.routes t valid built is.0
+has-inlets n set valid t is = inlets-of n set.routes t valid is.1
 
-stream-untold : (u : Uri) → is_stream u ≡ true → is_told u ≡ false
-stream-untold uri.StreamIn h = refl
-stream-untold (uri.Direct name) h = absurd (cc h)
-stream-untold (uri.Seda name size consumers discard) h = absurd (cc h)
-stream-untold (uri.File folder after failed exist) h = absurd (cc h)
-stream-untold (uri.Log name) h = absurd (cc h)
-stream-untold (uri.Line host port) h = absurd (cc h)
-stream-untold (uri.Listen port) h = absurd (cc h)
-stream-untold (uri.Lane name) h = absurd (cc h)
-stream-untold (uri.Load n) h = absurd (cc h)
+source-untold : (u : Uri) → is_built_source u ≡ true → is_told u ≡ false
+source-untold uri.StreamIn h = refl
+source-untold (uri.Direct name) h = refl
+source-untold (uri.Seda name size consumers discard) h = refl
+source-untold (uri.File folder after failed exist) h = absurd (cc h)
+source-untold (uri.Log name) h = absurd (cc h)
+source-untold (uri.Line host port) h = absurd (cc h)
+source-untold (uri.Listen port) h = absurd (cc h)
+source-untold (uri.Lane name) h = absurd (cc h)
+source-untold (uri.Load n) h = absurd (cc h)
 
 none-told : (rs : List Route) (t : ℕ) → list_all is_built_route rs ≡ true → is_told_route (slice_get rs t) ≡ false
 none-told [] t h = refl
-none-told (r ∷ rs) zero h = stream-untold r.from (and_parts (is_built_route r) (list_all is_built_route rs) h).0
+none-told (r ∷ rs) zero h = source-untold r.from (and_parts (is_built_route r) (list_all is_built_route rs) h).0
 none-told (r ∷ rs) (suc t) h = none-told rs t (and_parts (is_built_route r) (list_all is_built_route rs) h).1
 
 -- ---- lanes
@@ -94,17 +88,17 @@ few-routes set h = by_count _ (nat_lt 256 (length set.routes)) h (ltb-false 256 
     by_count later true h few = absurd (cc h)
     by_count later false h few = few refl
 
-streams : (set : RouteSet) → is_built set ≡ true → list_all is_built_route set.routes ≡ true
+built-sources : (set : RouteSet) → is_built set ≡ true → list_all is_built_route set.routes ≡ true
 unfolding is_built
-streams set h = (and_parts (are_built_routes set.routes) (are_built_blocks set.blocks && (is_empty set.clauses && is_plain_handler set.handler)) h).0
+built-sources set h = (and_parts (are_built_routes set.routes) (are_built_blocks set.blocks && (is_empty set.clauses && is_plain_handler set.handler)) h).0
 
 pub valid-runs : (n : Names) (set : RouteSet) → IsValid set → set.names ≡ n → is_built set ≡ true → Runs set n.lanes n.inlets
 valid-runs n set valid same built =
     subst (λ (m : Names). Runs set m.lanes m.inlets) same (record {
       can_run = record {
-        has_inlets = has-inlets set.names set valid.routes (streams set built);
+        has_inlets = has-inlets set.names set valid.routes;
         has_lanes = has-lanes set;
-        tells_none = λ t. none-told set.routes t (streams set built);
+        tells_none = λ t. none-told set.routes t (built-sources set built);
       };
       few = few-routes set valid.checked;
     })

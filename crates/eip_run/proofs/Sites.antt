@@ -134,9 +134,9 @@ long-answers names read r n is refuses =
 
 -- ---- what a command asks
 
-pub asked-drain : (k : Command) (p : Path) (set : RouteSet) (r : Result RouteSet Refusal) → k ≡ Drain p
+pub asked-drain : (k : Command) (p : Path) (turns : ℕ) (set : RouteSet) (r : Result RouteSet Refusal) → k ≡ Drain p turns
     → ((n : ℕ) → Answers (unless_built (is_built set)) set n n r) → (n : ℕ) → Answers (asked_sites k set) set n n r
-asked-drain k p set r is h n = subst (λ (c : Command). Answers (asked_sites c set) set n n r) (sym is) (h n)
+asked-drain k p turns set r is h n = subst (λ (c : Command). Answers (asked_sites c set) set n n r) (sym is) (h n)
 
 pub asked-check : (k : Command) (p : Path) (set : RouteSet) → k ≡ Check p → (n : ℕ) → Answers (asked_sites k set) set n n (Ok set)
 unfolding first_fault
@@ -144,7 +144,7 @@ asked-check k p set is n = subst (λ (c : Command). Answers (asked_sites c set) 
 
 asked-stops : (k : Command) (set : RouteSet) (f : RouteFault) → Stops (asked_sites k set) f → ⊥
 unfolding Stops
-asked-stops (Drain p) set f h = unbuilt-stops (is_built set) f h
+asked-stops (Drain p turns) set f h = unbuilt-stops (is_built set) f h
 asked-stops (Check p) set f h = h
 
 -- a file in which nothing is wrong is asked further

@@ -17,32 +17,42 @@ is_plain_policy p = is_none p.maximum && (is_none p.delay && (is_none p.multipli
 abbrev pub is_plain_handler : Handler → Bool
 is_plain_handler h = is_none h.dead && is_plain_policy h.policy
 
--- an endpoint that is sent to: a log or a lane
-abbrev pub is_built_target : Uri → Bool
-is_built_target (uri.Log name) = true
-is_built_target (uri.Lane name) = true
-is_built_target _ = false
-
--- a step that sets or removes a part of the message, logs, faults, or sends to a log or a lane
+-- a step that sets or removes a part of the message, sends, logs, faults, runs a processor, or runs a block or leaves it out
 abbrev pub is_built_step : Step → Bool
 is_built_step (step.SetBody value) = true
 is_built_step (step.SetHeader name value) = true
 is_built_step (step.SetProperty name value) = true
 is_built_step (step.RemoveHeader name) = true
+is_built_step (step.To u) = true
 is_built_step (step.Log name message) = true
 is_built_step (step.Throw kind message) = true
-is_built_step (step.To u) = is_built_target u
-is_built_step _ = false
+is_built_step (step.Process name) = true
+is_built_step (step.Choice cases otherwise) = true
+is_built_step (step.Filter check block) = true
+is_built_step (step.Split how fan block) = false
+is_built_step (step.Multicast fan blocks) = false
+is_built_step (step.Recipients list delimiter fan) = false
+is_built_step (step.Aggregate g) = false
+is_built_step (step.Idempotent key repository skip eager remove block) = false
+is_built_step (step.Try block catches finish) = false
 
 abbrev pub is_built_block : Block → Bool
 is_built_block b = list_all is_built_step b.steps
 
-abbrev pub is_stream : Uri → Bool
-is_stream uri.StreamIn = true
-is_stream _ = false
+-- where a route begins: standard input, direct calls, or a queue
+abbrev pub is_built_source : Uri → Bool
+is_built_source uri.StreamIn = true
+is_built_source (uri.Direct name) = true
+is_built_source (uri.Seda name size consumers discard) = true
+is_built_source (uri.File folder after failed exist) = false
+is_built_source (uri.Log name) = false
+is_built_source (uri.Line host port) = false
+is_built_source (uri.Listen port) = false
+is_built_source (uri.Lane name) = false
+is_built_source (uri.Load n) = false
 
 abbrev pub is_built_route : Route → Bool
-is_built_route r = is_stream r.from
+is_built_route r = is_built_source r.from
 
 abbrev pub are_built_routes : List Route → Bool
 are_built_routes rs = list_all is_built_route rs
@@ -53,6 +63,6 @@ are_built_blocks bs = list_all is_built_block bs
 abbrev pub is_empty : {A : Type 0} → List A → Bool
 is_empty xs = nat_eq (length xs) 0
 
--- every source is `stream:in`, every step is one of these, there are no clauses, and the handler is the default one without attributes
+-- every route begins at one of these, every step is one of these, there are no clauses, and the handler is the default one without attributes
 unfoldable pub is_built : RouteSet → Bool
 is_built set = are_built_routes set.routes && (are_built_blocks set.blocks && (is_empty set.clauses && is_plain_handler set.handler))

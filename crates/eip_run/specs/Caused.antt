@@ -25,7 +25,7 @@ use Rattle.eip_run.specs.Routes.{file_limit}
 use Rattle.eip_run.specs.Given.{Outside, Setting, asked}
 use Rattle.eip_run.specs.Prepared.{sites, WasRead, PatternRefused, IsSpared, HasRoutes}
 use Rattle.eip_run.specs.Outcomes.{status_of}
-use Rattle.eip_run.specs.Reports.{turn_limit, Reports}
+use Rattle.eip_run.specs.Reports.{Reports}
 
 -- the count of faults of the inlet with this index rose
 pub record InletRose (before after : List InletView) (inlet : ℕ) : Type 0 where
@@ -38,8 +38,9 @@ pub record InletRose (before after : List InletView) (inlet : ℕ) : Type 0 wher
 -- the inlet of a route's source failed: its count of faults rose
 pub record SourceFailed (x : Setting) (route : ℕ) : Type 0 where
   pub path : Path
+  pub limit : ℕ
   pub set : RouteSet
-  pub routes : HasRoutes (asked x) (Drain path) set
+  pub routes : HasRoutes (asked x) (Drain path limit) set
   pub inlet : ℕ
   pub read_by : inlet_at (inlet_names x.before.inlets) (slice_get set.routes route) ≡ Some inlet
   pub failed : InletRose x.before.inlets x.after.inlets inlet
@@ -52,21 +53,22 @@ pub record IsFaulty (x : Setting) (f : RouteFault) : Type 0 where
   pub answer : WasRead (asked x) (path_in command) read
   pub refused : Finds (sites (asked x) command read) x.before.materials.pattern_faults x.after.materials.pattern_faults f
 
--- the words ask for a drain
-abbrev pub IsDrain : Setting → Type 0
-IsDrain x = (path : Path) × (command_of x.words ≡ Some (Drain path))
+-- the words ask for a drain of at most so many turns
+abbrev pub IsDrain : Setting → (limit : ℕ) → Type 0
+IsDrain x limit = (path : Path) × (command_of x.words ≡ Some (Drain path limit))
 
 -- the words ask for a check
 abbrev pub IsCheck : Setting → Type 0
 IsCheck x = (path : Path) × (command_of x.words ≡ Some (Check path))
 
--- the cause of each stop: a drained run and want of memory have none, and no run of these routes is held by its groups
-abbrev pub CauseOfStop : Setting → Stop → Type 0
-CauseOfStop x stop.Drained = Unit {0}
-CauseOfStop x (stop.SourceFault route) = SourceFailed x route
-CauseOfStop x (stop.Held groups) = ⊥
-CauseOfStop x stop.Spent = turns x.journal.past ≡ turn_limit
-CauseOfStop x stop.NoMemory = Unit {0}
+-- the cause of each stop of a run with this limit on its turns: a drained run and want of memory have none, and no run of these routes is held by its
+-- groups
+abbrev pub CauseOfStop : Setting → (limit : ℕ) → Stop → Type 0
+CauseOfStop x limit stop.Drained = Unit {0}
+CauseOfStop x limit (stop.SourceFault route) = SourceFailed x route
+CauseOfStop x limit (stop.Held groups) = ⊥
+CauseOfStop x limit stop.Spent = turns x.journal.past ≡ limit
+CauseOfStop x limit stop.NoMemory = Unit {0}
 
 -- the cause of each outcome
 abbrev pub CauseOf : Setting → Outcome → Type 0
@@ -74,7 +76,7 @@ CauseOf x outcome.Words = command_of x.words ≡ None
 CauseOf x (outcome.Routes f) = IsFaulty x f
 CauseOf x outcome.FilesFault = Rose x.before.materials.files_faults x.after.materials.files_faults
 CauseOf x outcome.Checked = IsCheck x
-CauseOf x (outcome.Ran s) = IsDrain x × CauseOfStop x s
+CauseOf x (outcome.Ran s) = (limit : ℕ) × IsDrain x limit × CauseOfStop x limit s
 CauseOf x outcome.SinkFault = Rose x.before.sink_faults x.after.sink_faults
 CauseOf x outcome.NoMemory = Unit {0}
 
@@ -147,7 +149,7 @@ pub record Causes (x : Setting) (o : Outcome) : Type 0 where
   pub no_command : command_of x.words ≡ None → (o ≡ outcome.Words) ⊎ (o ≡ outcome.NoMemory)
   pub no_routes : (k : Command) (read : FileRead) (f : RouteFault) → InFile x k read → first_fault (sites (asked x) k read) ≡ Some f → IsRefusedFor (sites (asked x) k read) f o
   pub faultless : IsUnharmed x → IsFaultless o
-  pub drained : (p : Path) (read : FileRead) → InFile x (Drain p) read → IsRight (sites (asked x) (Drain p) read) → IsUnharmed x → Completes o
+  pub drained : (p : Path) (limit : ℕ) (read : FileRead) → InFile x (Drain p limit) read → IsRight (sites (asked x) (Drain p limit) read) → IsUnharmed x → Completes o
   pub checked : (p : Path) (read : FileRead) → InFile x (Check p) read → IsRight (sites (asked x) (Check p) read) → IsUnharmed x → Prints o
 
 -- the report of a command: what it came to, with its text written, from its cause, with its status. The files are as before

@@ -22,7 +22,7 @@ use Rattle.eip_run.specs.Routes.{file_limit, sites_for, set_for}
 
 -- what a command does with its routes
 abbrev pub job_of : Command → RouteSet → Job
-job_of (Drain p) set = job.Drain set
+job_of (Drain p turns) set = job.Drain set turns
 job_of (Check p) set = job.Check set
 
 -- the places at which a command's file is judged

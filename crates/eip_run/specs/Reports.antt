@@ -5,7 +5,7 @@ use Rattle.eip_route.specs.declared.route.RouteSet.{RouteSet}
 use Rattle.eip_route_json.specs.Reading.{Finds}
 use Rattle.eip_route_grammar.specs.declared.fault.RouteFault.{RouteFault}
 use Rattle.eip_route_canonical.specs.Canonical.{canonical_text}
-use Rattle.eip_command.specs.Words.{command_of, path_in}
+use Rattle.eip_command.specs.Words.{default_turns, command_of, path_in}
 use Rattle.eip_command.specs.Causes.{fault_line}
 use Rattle.eip_command.specs.declared.words.Path.{Path}
 use Rattle.eip_command.specs.declared.words.Command.{Command}
@@ -34,14 +34,10 @@ use Rattle.eip_run.specs.Given.{Setting, asked}
 use Rattle.eip_run.specs.Prepared.{sites, IsCalm, WasRead, IsSpared, HasRoutes}
 use Rattle.eip_run.specs.Outcomes.{behind}
 
--- the limit on turns of a run without words for it
-abbrev pub turn_limit : ℕ
-turn_limit = 100000
-
--- a journal as a run begins with it: without entries, for no workers and so many turns
+-- the journal where nothing ran: without entries, for no workers and as many turns as where no words name them
 pub record IsNew (j : JournalView) : Type 0 where
   pub workers : j.workers ≡ 0
-  pub turns : j.turns ≡ turn_limit
+  pub turns : j.turns ≡ default_turns
   pub past : j.past ≡ []
 
 -- nothing ran: lanes and inlets are as before and the journal is new
@@ -50,20 +46,20 @@ pub record IsStill (x : Setting) : Type 0 where
   pub inlets : x.after.inlets ≡ x.before.inlets
   pub journal : IsNew x.journal
 
--- the headline of a run of a set: the journal is a legal history of the set in which each entry was made by the actor whose turn it was, its
--- stop is what it says, and lanes and inlets did what its entries and answers say, in their order
-pub record Ran (set : RouteSet) (j : JournalView) (s : Stop) (lanes_before lanes_after : List LaneView) (inlets_before inlets_after : List InletView) : Type 0 where
+-- the headline of a run of a set with a limit on its turns: the journal is a legal history of the set in which each entry was made by the actor whose
+-- turn it was, its stop is what it says, and lanes and inlets did what its entries and answers say, in their order
+pub record Ran (set : RouteSet) (limit : ℕ) (j : JournalView) (s : Stop) (lanes_before lanes_after : List LaneView) (inlets_before inlets_after : List InletView) : Type 0 where
   pub workers : j.workers ≡ 0
-  pub turns : j.turns ≡ turn_limit
-  pub legal : IsLegal (plan_of set) 0 turn_limit j.past
+  pub turns : j.turns ≡ limit
+  pub legal : IsLegal (plan_of set) 0 limit j.past
   pub plain : IsPlain (plan_of set) j.past
-  pub stops : (s ≡ stop.NoMemory) ⊎ (stop_of (plan_of set) turn_limit j.past ≡ Some s)
+  pub stops : (s ≡ stop.NoMemory) ⊎ (stop_of (plan_of set) limit j.past ≡ Some s)
   pub lanes : LanesGrew 0 (calls (doors_of set (lane_names lanes_before) (inlet_names inlets_before)) (seen_answers (served (plan_of set) j.past))) lanes_before lanes_after
   pub inlets : InletsGrew 0 (inlet_acts (doors_of set (lane_names lanes_before) (inlet_names inlets_before)) j.past (served (plan_of set) j.past)) inlets_before inlets_after
 
 -- the run that a command made
-abbrev pub IsRun : Setting → RouteSet → Stop → Type 0
-IsRun x set s = Ran set x.journal s x.before.lanes x.after.lanes x.before.inlets x.after.inlets
+abbrev pub IsRun : Setting → RouteSet → (limit : ℕ) → Stop → Type 0
+IsRun x set limit s = Ran set limit x.journal s x.before.lanes x.after.lanes x.before.inlets x.after.inlets
 
 -- the log and the book of a run
 abbrev pub run_text : RouteSet → Past → Stop → List ℕ
@@ -81,14 +77,14 @@ pub data Comes (x : Setting) : Outcome → List ℕ → Type 0 where
       → Finds (sites (asked x) k read) x.before.materials.pattern_faults x.after.materials.pattern_faults f → Comes x (outcome.Routes f) (fault_line f)
   -- the routes were checked
   WasChecked : (p : Path) (set : RouteSet) → HasRoutes (asked x) (Check p) set → IsStill x → Comes x outcome.Checked (canonical_text set)
-  -- the routes ran to a stop
-  Stopped : (p : Path) (set : RouteSet) (s : Stop) → HasRoutes (asked x) (Drain p) set → IsRun x set s → s ≢ stop.NoMemory → Comes x (outcome.Ran s) (run_text set x.journal.past s)
+  -- the routes ran to a stop, with the limit on turns of the words
+  Stopped : (p : Path) (limit : ℕ) (set : RouteSet) (s : Stop) → HasRoutes (asked x) (Drain p limit) set → IsRun x set limit s → s ≢ stop.NoMemory → Comes x (outcome.Ran s) (run_text set x.journal.past s)
   -- the routes ran until no memory was left
-  Starved : (p : Path) (set : RouteSet) → HasRoutes (asked x) (Drain p) set → IsRun x set stop.NoMemory → Comes x (outcome.Ran stop.NoMemory) (codes "error memory\n")
+  Starved : (p : Path) (limit : ℕ) (set : RouteSet) → HasRoutes (asked x) (Drain p limit) set → IsRun x set limit stop.NoMemory → Comes x (outcome.Ran stop.NoMemory) (codes "error memory\n")
   -- no memory was left before the routes ran, or for the text of a check, or to tell a fault of the file
   LacksMemory : IsStill x → x.after.materials.files_faults ≡ x.before.materials.files_faults → IsSpared (asked x) → Comes x outcome.NoMemory (codes "error memory\n")
   -- no memory was left for the text of a run
-  LacksText : (p : Path) (set : RouteSet) (s : Stop) → HasRoutes (asked x) (Drain p) set → IsRun x set s → s ≢ stop.NoMemory → Comes x outcome.NoMemory (codes "error memory\n")
+  LacksText : (p : Path) (limit : ℕ) (set : RouteSet) (s : Stop) → HasRoutes (asked x) (Drain p limit) set → IsRun x set limit s → s ≢ stop.NoMemory → Comes x outcome.NoMemory (codes "error memory\n")
 
 -- a text was written for an outcome, or the front of it where the sink failed, and the outcome is what that left of it
 pub record Told (told : Outcome) (text : List ℕ) (before after : Option (List ℕ)) (faults_before faults_after : ℕ) (o : Outcome) : Type 0 where

@@ -43,7 +43,7 @@ unless_built false = whole_file cause.NotBuilt
 
 -- what a command asks beyond a file without a fault: a drain, that the routes are of the part that is run today
 abbrev pub asked_sites : Command → RouteSet → List Site
-asked_sites (Drain p) set = unless_built (is_built set)
+asked_sites (Drain p turns) set = unless_built (is_built set)
 asked_sites (Check p) set = []
 
 -- the places at which a command's file is judged, where lanes and inlets of these names are handed in

@@ -5,9 +5,9 @@ use eip_exchange::Policy;
 use eip_route::{Block, Handler, Route, RouteSet, Step};
 use eip_uri::Uri;
 
-/// Whether the set is of the part that is run today: every source is `stream:in`; every step is a `setBody`,
-/// `setHeader`, `setProperty`, `removeHeader`, `log`, `throwException`, or a `to` of a log or a lane; there are no
-/// clauses, and the error handler is the default one without attributes. It takes no memory.
+/// Whether the set is of the part that is run today: every source is `stream:in`, a `direct:` or a `seda:`; every step is a
+/// `setBody`, `setHeader`, `setProperty`, `removeHeader`, `to`, `log`, `throwException`, `process`, `choice` or `filter`;
+/// there are no clauses, and the error handler is the default one without attributes. It takes no memory.
 #[tactic(auto, unfolding(crate::specs::Built::is_built))]
 pub fn is_built(set: &RouteSet) -> bool
     ensures { result ≡ spec.is_built set.now }
@@ -33,7 +33,22 @@ fn are_built_blocks(blocks: &[Block]) -> bool
 fn is_built_route(route: &Route) -> bool
     ensures { result ≡ spec.is_built_route route.now }
 {
-    matches!(route.from, Uri::StreamIn)
+    is_built_source(&route.from)
+}
+
+/// Whether a route that begins there is run: standard input, direct calls, or a queue.
+fn is_built_source(from: &Uri) -> bool
+    ensures { result ≡ spec.is_built_source from.now }
+{
+    match from {
+        Uri::StreamIn | Uri::Direct(_) | Uri::Seda { .. } => true,
+        Uri::File { .. }
+        | Uri::Log(_)
+        | Uri::Line { .. }
+        | Uri::Listen(_)
+        | Uri::Lane(_)
+        | Uri::Load(_) => false,
+    }
 }
 
 fn is_built_block(block: &Block) -> bool
@@ -50,13 +65,13 @@ fn is_built_step(step: &Step) -> bool
         | Step::SetHeader { .. }
         | Step::SetProperty { .. }
         | Step::RemoveHeader(_)
+        | Step::To(_)
         | Step::Log { .. }
-        | Step::Throw { .. } => true,
-        Step::To(uri) => matches!(uri, Uri::Log(_) | Uri::Lane(_)),
-        Step::Process(_)
+        | Step::Throw { .. }
+        | Step::Process(_)
         | Step::Choice { .. }
-        | Step::Filter { .. }
-        | Step::Split { .. }
+        | Step::Filter { .. } => true,
+        Step::Split { .. }
         | Step::Multicast { .. }
         | Step::Recipients { .. }
         | Step::Aggregate(_)

@@ -23,8 +23,8 @@ const FILE_LIMIT: usize = 1_048_576;
 /// What a command does with the routes of its file.
 #[derive(Drop)]
 pub enum Job {
-    /// They run until nothing is left to do.
-    Drain(RouteSet),
+    /// They run until nothing is left to do, for at most so many turns.
+    Drain { set: RouteSet, turns: u32 },
     /// They are printed in their canonical form.
     Check(RouteSet),
 }
@@ -83,7 +83,7 @@ fn job_of(command: &Command, set: RouteSet) -> Job
     ensures { result ≡ job_of command.now set }
 {
     match command {
-        Command::Drain { .. } => Job::Drain(set),
+        Command::Drain { turns, .. } => Job::Drain { set, turns: *turns },
         Command::Check { .. } => Job::Check(set),
     }
 }

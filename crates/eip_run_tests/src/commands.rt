@@ -6,43 +6,64 @@ use eip_test_support::texts;
 use eip_text::Text;
 use std::test::Fail;
 
-/// Words that are a command, and the folder and the name of its file.
-const COMMANDS: [(&[&str], &str, &str); 7] = [
-    (&["drain", "r.json"], ".", "r.json"),
-    (&["drain", "a/b/r.json"], "a/b", "r.json"),
-    (&["drain", "/r.json"], "/", "r.json"),
-    (&["drain", "/a/r.json"], "/a", "r.json"),
-    (&["drain", "a//r.json"], "a/", "r.json"),
-    (&["drain", "drain"], ".", "drain"),
-    (&["check", "a/r.json"], "a", "r.json"),
+/// Words that are a command, the folder and the name of its file, and its limit on turns.
+const COMMANDS: [(&[&str], &str, &str, Option<u32>); 10] = [
+    (&["drain", "r.json"], ".", "r.json", Some(100_000)),
+    (&["drain", "a/b/r.json"], "a/b", "r.json", Some(100_000)),
+    (&["drain", "/r.json"], "/", "r.json", Some(100_000)),
+    (&["drain", "/a/r.json"], "/a", "r.json", Some(100_000)),
+    (&["drain", "a//r.json"], "a/", "r.json", Some(100_000)),
+    (&["drain", "drain"], ".", "drain", Some(100_000)),
+    (&["drain", "r.json", "--turns", "1"], ".", "r.json", Some(1)),
+    (
+        &["drain", "r.json", "--turns", "50"],
+        ".",
+        "r.json",
+        Some(50),
+    ),
+    (
+        &["drain", "r.json", "--turns", "1000000"],
+        ".",
+        "r.json",
+        Some(1_000_000),
+    ),
+    (&["check", "a/r.json"], "a", "r.json", None),
 ];
 
-/// The word of a command, and its file.
-fn parts(command: &Command) -> (&str, &Path) {
+/// The word of a command, its file, and its limit on turns.
+fn parts(command: &Command) -> (&str, &Path, Option<u32>) {
     match command {
-        Command::Drain { routes } => ("drain", routes),
-        Command::Check { routes } => ("check", routes),
+        Command::Drain { routes, turns } => ("drain", routes, Some(*turns)),
+        Command::Check { routes } => ("check", routes, None),
     }
 }
 
 #[test]
-fn a_command_names_the_folder_and_the_name_of_its_file(rt: HostRuntime) -> Result<(), Fail> {
-    for (words, folder, name) in COMMANDS {
+fn a_command_names_its_file_and_its_limit_on_turns(rt: HostRuntime) -> Result<(), Fail> {
+    for (words, folder, name, limit) in COMMANDS {
         let command = read_words(rt.alloc(), &texts(rt.alloc(), words)?)?;
-        let (word, routes) = parts(&command);
+        let (word, routes, turns) = parts(&command);
         assert!(rt; word == words[0]);
         assert!(rt; routes.folder.as_str() == folder);
         assert!(rt; routes.name.as_str() == name);
+        assert!(rt; turns == limit);
     }
     Ok(())
 }
 
 /// Words that are no command.
-const NO_COMMANDS: [&[&str]; 14] = [
+const NO_COMMANDS: [&[&str]; 21] = [
     &[],
     &["drain"],
     &["drain", "r.json", "--turns", "0"],
-    &["drain", "r.json", "--turns", "5"],
+    &["drain", "r.json", "--turns", "1000001"],
+    &["drain", "r.json", "--turns", "05"],
+    &["drain", "r.json", "--turns", "+5"],
+    &["drain", "r.json", "--turns", "5", "--turns", "5"],
+    &["drain", "r.json", "--turns"],
+    &["drain", "r.json", "--turns=5"],
+    &["drain", "r.json", "5"],
+    &["check", "r.json", "--turns", "5"],
     &["audit", "r.json", "j.txt"],
     &["drain", "--turns", "5", "r.json", "--turns", "5"],
     &["check"],

@@ -70,10 +70,20 @@ fn a_lane_that_is_not_handed_in_is_refused(rt: HostRuntime) -> Result<(), Fail> 
     Ok(())
 }
 
+/// Words that are no command.
+const OTHER_WORDS: [&[&str]; 4] = [
+    &["drain", "r.json/"],
+    &["drain", "r.json", "--turns", "0"],
+    &["drain", "r.json", "--turns", "5", "--turns", "5"],
+    &["check", "r.json", "--turns", "5"],
+];
+
 #[test]
 fn other_words_are_refused(rt: HostRuntime) -> Result<(), Fail> {
-    let told = is_refused(rt.alloc(), "r.json/", STEPS, "error words\n")?;
-    assert!(rt; told);
+    for words in OTHER_WORDS {
+        let told = comes_to(rt.alloc(), words, STEPS, &[], 1, "error words\n")?;
+        assert!(rt; told);
+    }
     Ok(())
 }
 
@@ -213,7 +223,7 @@ pub const FAILED: &str =
     "accepted 1 refused 0\ntotal 1 completed 0 handled 0 failed 1 waiting 0\ndrained\n";
 
 /// Steps, a line, what is printed before the totals, and the totals.
-const STEPPED: [(&str, &str, &str, &str); 9] = [
+const STEPPED: [(&str, &str, &str, &str); 13] = [
     (
         "[{\"setHeader\":{\"name\":\"n\",\"constant\":9}},{\"log\":\"${header.N}\"}]",
         "x",
@@ -266,6 +276,30 @@ const STEPPED: [(&str, &str, &str, &str); 9] = [
         "[{\"setBody\":{\"simple\":\"${exception.message}\"}},{\"log\":\"<${body}>\"}]",
         "a",
         "log 1 route1: <>\nexchange 1 source route1 completed\n",
+        COMPLETED,
+    ),
+    (
+        "[{\"setHeader\":{\"name\":\"n\",\"constant\":\"9\"}},{\"filter\":{\"simple\":\"${header.N} < 10\",\"steps\":[{\"to\":\"log:num\"}]}},{\"setHeader\":{\"name\":\"n\",\"constant\":\"9a\"}},{\"filter\":{\"simple\":\"${header.n} < 10\",\"steps\":[{\"to\":\"log:txt\"}]}}]",
+        "x",
+        "log 1 num: x\nexchange 1 source route1 completed\n",
+        COMPLETED,
+    ),
+    (
+        "[{\"choice\":{\"when\":[{\"simple\":\"${body} == 'q'\",\"steps\":[{\"setBody\":{\"constant\":\"z\"}}]}]}},{\"to\":\"log:o\"}]",
+        "p",
+        "log 1 o: p\nexchange 1 source route1 completed\n",
+        COMPLETED,
+    ),
+    (
+        "[{\"choice\":{\"when\":[{\"simple\":\"${body} == 'q'\",\"steps\":[{\"setBody\":{\"constant\":\"first\"}}]},{\"simple\":\"${body} == 'q'\",\"steps\":[{\"setBody\":{\"constant\":\"second\"}}]}],\"otherwise\":{\"steps\":[{\"setBody\":{\"constant\":\"other\"}}]}}},{\"to\":\"log:o\"}]",
+        "q",
+        "log 1 o: first\nexchange 1 source route1 completed\n",
+        COMPLETED,
+    ),
+    (
+        "[{\"choice\":{\"when\":[{\"simple\":\"${body} == 'q'\",\"steps\":[{\"setBody\":{\"constant\":\"first\"}}]}],\"otherwise\":{\"steps\":[{\"setBody\":{\"constant\":\"other\"}}]}}},{\"to\":\"log:o\"}]",
+        "p",
+        "log 1 o: other\nexchange 1 source route1 completed\n",
         COMPLETED,
     ),
 ];
@@ -332,7 +366,7 @@ const REFUSED: [(&str, &str); 2] = [
         "error routes $[0].from.steps[0].filter.steps[0] UnknownStep shout\n",
     ),
     (
-        "[{\"filter\":{\"simple\":\"${body} == 'x'\",\"steps\":[]}}]",
+        "[{\"split\":{\"tokenize\":\",\",\"steps\":[]}}]",
         "error routes $ NotBuilt\n",
     ),
 ];

@@ -1,5 +1,5 @@
 -- Who waits in the queues and how many are at work, by the calls so far, and how a table of queues stands for them.
-use Rattle.std.specs.Prelude.{ℕ, ◌≡◌, ◌≤◌, ◌+◌, ◌-◌, ◌==◌, nat_lt, List, [], ◌∷◌, ◌++◌, length, drop, slice_get, slice_index_or, Option, Some, None, option_map, if◌then◌else◌}
+use Rattle.std.specs.Prelude.{ℕ, ◌≡◌, ◌≤◌, ◌+◌, ◌-◌, ◌==◌, ◌&&◌, nat_lt, Bool, true, false, List, [], ◌∷◌, ◌++◌, length, drop, slice_get, slice_index_or, Option, Some, None, option_map, if◌then◌else◌}
 
 -- what happened: a number came into a queue, the first one in a queue started, or one that had started ended
 pub data Call : Type 0 where
@@ -82,6 +82,14 @@ with_busy n q = record q { busy = n }
 -- the first one in a queue, where a consumer is free
 abbrev pub next_in : QueueView → Option ℕ
 next_in q = if nat_lt q.busy q.consumers then slice_get q.waiting 0 else None
+
+abbrev pub somebody : List ℕ → Bool
+somebody [] = false
+somebody (x ∷ xs) = true
+
+-- somebody waits and a consumer is free
+abbrev pub can_start : QueueView → Bool
+can_start q = somebody q.waiting && nat_lt q.busy q.consumers
 
 -- the queue behind a start
 abbrev pub started : Option ℕ → QueueView → QueueView

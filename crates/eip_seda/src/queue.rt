@@ -1,5 +1,5 @@
 ghost use Rattle.std.specs.Prelude.{◌≡◌, ◌<◌, ◌↔◌, ◌-◌, ◌++◌, ℕ, [], ◌∷◌, length, OnOk, OnErr, IsErrOf};
-ghost use Rattle.eip_seda.specs.Consuming.{fresh, with_waiting, with_busy, next_in, started};
+ghost use Rattle.eip_seda.specs.Consuming.{fresh, with_waiting, with_busy, next_in, can_start, started};
 
 use crate::queues::OfferFault;
 use eip_text::NoMemory;
@@ -61,6 +61,13 @@ impl Queue {
         let number = self.waiting.pop_front()?;
         self.busy += 1;
         Some(number)
+    }
+
+    /// Whether somebody waits and a consumer is free.
+    pub fn can_start(&self) -> bool
+        ensures { result ≡ can_start self.now }
+    {
+        !self.waiting.is_empty() && self.busy < self.consumers
     }
 
     /// One that is at work has ended.

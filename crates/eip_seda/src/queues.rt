@@ -1,5 +1,6 @@
 ghost use Rattle.std.specs.Prelude.{◌≡◌, ◌<◌, ◌↔◌, ℕ, List, [], ◌∷◌, length, IfOk, OnOk, OnErr, IsErrOf, slice_get};
-ghost use Rattle.eip_seda.specs.Consuming.{Call, Offered, Ended, Stands, IsFullAt, next, started_by, busy_at};
+ghost use Rattle.eip_seda.specs.Consuming.{Call, Offered, Ended, Stands, IsFullAt, next, started_by, busy_at, can_start};
+ghost use Rattle.std.specs.List.{position_from};
 
 use crate::queue::Queue;
 use eip_text::NoMemory;
@@ -65,6 +66,13 @@ impl Queues {
         ensures as_many { length self.new ≡ length self.old }
     {
         self.queues[queue as usize].offer(number)
+    }
+
+    /// The first queue, by its route, in which somebody waits and a consumer is free.
+    pub fn first_startable(&self) -> Option<usize>
+        ensures { result ≡ position_from can_start 0 self.now }
+    {
+        self.queues.iter().position(|queue| queue.can_start())
     }
 
     /// The first one in the queue starts. None exactly where nobody waits in it or all its consumers are at work. It

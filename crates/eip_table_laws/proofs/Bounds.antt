@@ -7,12 +7,13 @@ use Rattle.eip_history.specs.Place.{hands, takes_out, is_taken, numbers_at, is_r
 use Rattle.eip_history.proofs.Numbers.{numbers-at-is}
 use Rattle.eip_history.proofs.Told.{births-numbered}
 use Rattle.eip_exchange.specs.declared.birth.Birth.{Birth}
-use Rattle.eip_history.proofs.Lists.{filter-length, related-length}
+use Rattle.eip_history.proofs.Lists.{filter-length}
 use Rattle.eip_history.proofs.Limit.{legal-within}
 use Rattle.eip_plan.specs.Plan.{plan_of}
 use Rattle.eip_tables.specs.Rows.{RowStands, row_ready, row_held, row_live}
 use Rattle.eip_tables.specs.Stands.{Tables, Stands}
 use Rattle.eip_table_laws.proofs.RowNumbers.{count-related, numbers-related}
+use Rattle.eip_table_laws.proofs.OwnCalls.{rows-many}
 use Rattle.eip_table_laws.proofs.RowPlaces.{row-is_taken, row-is_ready}
 
 module _ {set : RouteSet} {workers limit : ℕ} {past : Past} (t : Tables) (st : Stands set workers limit past t) where
@@ -31,7 +32,7 @@ module _ {set : RouteSet} {workers limit : ℕ} {past : Past} (t : Tables) (st :
   live-within = omega (arith, filter-length row_live t.rows, st.live)
 
   pub rows-are : length t.rows ≡ length (births (plan_of set) past)
-  rows-are = sym (related-length (RowStands set past) (births (plan_of set) past) t.rows st.rows)
+  rows-are = rows-many t st
 
   -- the Ready numbers are those of the table
   pub ready-are : t.ready ≡ numbers_at (plan_of set) past is_ready

@@ -1,5 +1,5 @@
 -- The tables behind each entry of an exchange that waits for somebody outside.
-use Rattle.std.proofs.Common.{◌≡◌, ℕ, suc, ◌+◌, ◌-◌, ◌≤◌, Bool, true, false, ◌&&◌, not, [], ◌∷◌, length, filter, set as put_at, Option, Some, None, refl, sym, ap, subst, ◌∙◌, arith, add-zero, inr}
+use Rattle.std.proofs.Common.{◌≡◌, ℕ, suc, ◌+◌, ◌-◌, ◌≤◌, Bool, true, false, ◌&&◌, not, List, [], ◌∷◌, length, filter, set as put_at, Option, Some, None, is_some, refl, sym, ap, subst, ◌∙◌, arith, add-zero, inr}
 use Rattle.std.specs.List.{slice_get}
 use Rattle.std.proofs.lemmas.List.{append-nil}
 use Rattle.std.proofs.lemmas.Option.{slice_get_within}
@@ -21,16 +21,19 @@ use Rattle.eip_ledger.specs.declared.place.Place.TheVariants as place_is
 use Rattle.eip_history.specs.Plan.{Plan}
 use Rattle.eip_history.specs.Own.{Past, numbered}
 use Rattle.eip_history.specs.Births.{births, asked, Asked}
-use Rattle.eip_history.specs.Place.{place, place_of}
-use Rattle.eip_history.specs.Rules.{May, MayAct, IsBelow, Content, outside_asked}
+use Rattle.eip_history.specs.Place.{place, place_of, ended}
+use Rattle.eip_history.specs.Rules.{KeepsRules, May, MayAct, IsBelow, Content, outside_asked}
 use Rattle.eip_history.specs.Tables.{without, put_in, bit}
 use Rattle.eip_history.specs.Texts.{note_for}
 use Rattle.eip_history.proofs.Lists.{related-at, slice_get-some}
+use Rattle.eip_history.proofs.Main.{legal-add}
+use Rattle.eip_history.proofs.Places.{ended-is}
 use Rattle.eip_history.proofs.Unborn.{birth-stays}
 use Rattle.eip_plan.specs.Plan.{plan_of}
 use Rattle.eip_plan.specs.Simple.{IsSimple}
-use Rattle.eip_plan.proofs.Items.{outside-simple, fits-simple}
+use Rattle.eip_plan.proofs.Items.{outside-simple, fits-simple, outside-unqueued}
 use Rattle.eip_progress.specs.declared.cursor.Cursor.{Cursor}
+use Rattle.eip_seda.specs.Consuming.{QueueView}
 use Rattle.eip_tables.specs.declared.row.Stage.{Stage}
 use Rattle.eip_tables.specs.declared.row.Stage.TheVariants as stage
 use Rattle.eip_tables.specs.declared.row.Row.{Row}
@@ -41,12 +44,15 @@ use Rattle.eip_tables.specs.State as state
 use Rattle.eip_tables.specs.State.{State, state_of, state_by, asks_outside, row_outside, is_outside_row, outside_at, is_wanted}
 use Rattle.eip_tables.specs.Numbers.{row_numbers}
 use Rattle.eip_tables.specs.Outside.{is_among, unlooked_numbers, IsAsked}
-use Rattle.eip_tables.specs.Rows.{IsBornAt, IsAsking, HasAnswer, HasEnded, StateStands, RowStands, row_ready, row_held, row_live, state_ready, state_held, state_live}
+use Rattle.eip_tables.specs.Queues.{QueuesStand, MayLeave, Leaves}
+use Rattle.eip_tables.specs.Rows.{IsAsking, HasAnswer, HasEnded, StateStands, RowStands, closed_end, row_ready, row_held, row_live, state_ready, state_held, state_live}
 use Rattle.eip_tables.specs.Stands.{Tables, Stands}
 use Rattle.eip_table_laws.proofs.RowNumbers.{numbers-stay, numbers-leave, numbers-join, count-set}
 use Rattle.eip_table_laws.proofs.ListedNumbers.{among-row, among-numbers, numbers-filter, numbers-same}
-use Rattle.eip_table_laws.proofs.RowPlaces.{Placed, row-place, state-place, born-stays, fate-asks}
+use Rattle.eip_table_laws.proofs.RowPlaces.{Placed, row-place, state-place, row-on, row-ended, fate-asks}
 use Rattle.eip_table_laws.proofs.RowSteps.{held-by, has-answer, has-finished, has-not-committed, has-starved, closing_of, IsNoFinish}
+use Rattle.eip_table_laws.proofs.QueueCalls.{queues-stay, queues-on, leaving-answer, leaving-starve}
+use Rattle.eip_table_laws.proofs.Leaving.{ends-some, may-leave, queues-ended}
 use Rattle.eip_table_laws.proofs.OwnEvents.{stands-one, notes_in, of-take, of-answer, of-starve}
 use Rattle.eip_table_laws.proofs.OwnCalls.{IsAt, is-at, row-within, asks-fields, asked-by-fate}
 use Rattle.eip_table_laws.proofs.Bounds.{rows-are}
@@ -123,6 +129,7 @@ module _ {set : RouteSet} {workers limit : ℕ} {past : Past} (t : Tables) (st :
 
 -- an exchange in a worker's hand
 held-placed : (b : Birth) (g : State) (p : Place) (w : ℕ) → p ≡ place_is.InHand w → Placed b g p → (c : Cursor) × (g ≡ state.Held c w)
+held-placed b state.Queued p w e h = absurd (cc (sym e ∙ h.2))
 held-placed b state.New p w e h = absurd (cc (sym e ∙ h))
 held-placed b (state.Asks c q) p w e h = absurd (cc (sym e ∙ h))
 held-placed b (state.Held c v) p w e h = let same : v ≡ w = (let both = sym h ∙ e in cc) in (c, ap (state.Held c) same)
@@ -141,14 +148,13 @@ held-fields _ _ _ f c w h = absurd (cc h)
 answered-now : (i : ℕ) (r : Row) (c : Cursor) (w : ℕ) → state_of r ≡ state.Held c w → state_of (answered i r) ≡ state.Answered c i
 answered-now i r c w h = let f = held-fields r.stage r.cursor r.request r.fault c w h in rw f.0 refl
 
--- what stands of the answer to a simple request
-content-simple : (s : Plan) (past : Past) (k : Asked) (q : Request) (a : Reply) → IsSimple q → Content s past k q a
-content-simple s past k (request.Send t m) a i = tt
-content-simple s past k (request.Process n m) a i = tt
-content-simple s past k (request.Test n m) a i = tt
-content-simple s past k (request.Log n t) a i = tt
-content-simple s past k (request.Finish e m c) a i = tt
-content-simple s past k _ a i = absurd i
+-- nothing stands of an answer from outside
+content-outside : (s : Plan) (past : Past) (k : Asked) (q : Request) (a : Reply) → is_outside q ≡ true → Content s past k q a
+content-outside s past k (request.Send t m) a o = tt
+content-outside s past k (request.Process n m) a o = tt
+content-outside s past k (request.Test n m) a o = tt
+content-outside s past k (request.Finish e m c) a o = tt
+content-outside s past k _ a o = absurd (cc o)
 
 -- no answer from outside is a line of the log
 no-note : (x : ℕ) (q : Request) (a : Reply) → is_outside q ≡ true → note_for x q a ≡ None
@@ -259,8 +265,7 @@ module _ {routes : RouteSet} {workers limit : ℕ} {past : Past} (t : Tables) (w
     unfolding took birth
     taken-place =
         let s = plan_of routes in
-        let born = born-stays s took past r.born birth (here place_is.Ready ready).stands.born in
-        place-at s (took ∷ past) x birth (place_is.InHand w) birth-now (state-place routes (took ∷ past) r.born birth (state.Held c w) born (q, asking-held, outside))
+        place-at s (took ∷ past) x birth (place_is.InHand w) birth-now (state-place routes (took ∷ past) birth (state.Held c w) (q, asking-held, outside))
 
     pub taken-asks : IsAsked (plan_of routes) ((record { worker = w; kind = Take x }) ∷ past) x q
     unfolding took
@@ -278,13 +283,13 @@ module _ {routes : RouteSet} {workers limit : ℕ} {past : Past} (t : Tables) (w
         let b' : row_held (held w r) ≡ true = ap state_held now-held in
         let l' : row_live (held w r) ≡ true = ap state_live now-held in
         rw (append-nil t.notes, add-zero t.turns) at
-        (stands-one routes workers limit past t w x (x - 1) (Take x) r (held w r) (without x t.ready) (t.taken + 1) t.live st lw (may-take below) (of-take w x) (above place_is.Ready ready) row
-        (λ d d_at h. record {
-          born = born-stays s (record { worker = w; kind = Take x }) past r.born d h.born;
-          stands = rw now-held (subst (λ (n : ℕ). StateStands routes ((record { worker = w; kind = Take n }) ∷ past) d (state.Held c w)) (number-of place_is.Ready ready d d_at) (q, held-by routes past w d c q (rw asks at h.stands), outside));
-        })
+        (stands-one routes workers limit past t w x (x - 1) (Take x) r (held w r) (without x t.ready) (t.taken + 1) t.live t.queues st lw (may-take below) (of-take w x) (above place_is.Ready ready) row
+        (λ d d_at h.
+        row-on routes (record { worker = w; kind = Take x }) past d r (held w r) h refl refl (l ∙ sym l')
+        (rw now-held (subst (λ (n : ℕ). StateStands routes ((record { worker = w; kind = Take n }) ∷ past) d (state.Held c w)) (number-of place_is.Ready ready d d_at) (q, held-by routes past w d c q (rw asks at h.stands), outside))))
         (ap (without x) st.ready ∙ sym (rw number at (numbers-leave row_ready 1 t.rows (x - 1) (held w r) (ap state_ready now-held))))
-        (rw (b, b') (omega arith)) (rw (l, l') refl))
+        (rw (b, b') (omega arith)) (rw (l, l') refl)
+        (λ legal. queues-stay routes workers limit w (Take x) past t.queues legal refl refl st.queues))
 
   -- it is in this worker's hand
   module _ (placed : place (plan_of routes) past x ≡ Some (place_is.InHand w)) where
@@ -334,7 +339,7 @@ module _ {routes : RouteSet} {workers limit : ℕ} {past : Past} (t : Tables) (w
       asked_is = k.asked_is;
       fitting = fit;
       act = subst (λ (v : Bool). MayAct (plan_of routes) limit past w x v) (sym k.outside) placed;
-      content = content-simple (plan_of routes) past (record { birth = (here (place_is.InHand w) placed).birth; request = q; at = k.asking.at }) q a k.simple;
+      content = content-outside (plan_of routes) past (record { birth = (here (place_is.InHand w) placed).birth; request = q; at = k.asking.at }) q a k.outside;
     }
 
     no-notes : (q : Request) (a : Reply) → HeldAsks q → notes_in (plan_of routes) past w (Answer x a) ≡ []
@@ -346,6 +351,29 @@ module _ {routes : RouteSet} {workers limit : ℕ} {past : Past} (t : Tables) (w
         let at' : slice_get (births (plan_of routes) past) (x - 1) ≡ Some h.birth = subst (λ (n : ℕ). numbered (births (plan_of routes) past) n ≡ Some h.birth) (sym (above (place_is.InHand w) placed)) h.at in
         let same : h.birth ≡ d = cc in
         subst (λ (b : Birth). IsAsking routes past b in-hand.0 q (Some w)) same k.asking
+
+    -- the answer of a request that isn't its last
+    module _ (q : Request) (a : Reply) (asks : IsAsked (plan_of routes) past x q) (fit : fits q a ≡ true) (goes : end_asked (Some q) ≡ None) where
+      known : HeldAsks q
+      known = held-asks q asks
+
+      settled : Entry
+      settled = record { worker = w; kind = Answer x a }
+
+      gets : (d : Birth) → slice_get (births (plan_of routes) past) (x - 1) ≡ Some d → HasAnswer routes ((record { worker = w; kind = Answer x a }) ∷ past) d in-hand.0 (length past)
+      gets d d_at =
+          subst (λ (m : ℕ). HasAnswer routes ((record { worker = w; kind = Answer m a }) ∷ past) d in-hand.0 (length past)) (number-of (place_is.InHand w) placed d d_at)
+          (has-answer routes past w d in-hand.0 q a (Some w) (fits-simple q a known.simple fit) (no-end q goes) fit (asking-of q d known d_at))
+
+      lives-on : ended (plan_of routes) ((record { worker = w; kind = Answer x a }) ∷ past) x ≡ None
+      lives-on =
+          let h = here (place_is.InHand w) placed in
+          let at : slice_get (births (plan_of routes) past) (x - 1) ≡ Some h.birth = subst (λ (n : ℕ). numbered (births (plan_of routes) past) n ≡ Some h.birth) (sym (above (place_is.InHand w) placed)) h.at in
+          let e : Entry = record { worker = w; kind = Answer x a } in
+          ended-is (plan_of routes) (e ∷ past) x h.birth (birth-stays (plan_of routes) e past x h.birth h.at) ∙ (gets h.birth at).lives
+
+      same-queues : KeepsRules (plan_of routes) workers limit ((record { worker = w; kind = Answer x a }) ∷ past) → QueuesStand routes ((record { worker = w; kind = Answer x a }) ∷ past) t.queues
+      same-queues legal = queues-on routes workers limit w x a past (here (place_is.InHand w) placed).birth t.queues legal (outside-unqueued q a known.outside fit) (here (place_is.InHand w) placed).at lives-on st.queues
 
     -- it has the answer of a request that isn't its last
     pub stands-settle : (q : Request) (a : Reply) → IsAsked (plan_of routes) past x q → fits q a ≡ true → end_asked (Some q) ≡ None
@@ -361,41 +389,60 @@ module _ {routes : RouteSet} {workers limit : ℕ} {past : Past} (t : Tables) (w
         let l : row_live (answered (length past) r) ≡ true = ap state_live now in
         let n = taken-above in
         rw (no-notes q a k, append-nil t.notes) at
-        (stands-one routes workers limit past t w x (x - 1) (Answer x a) r (answered (length past) r) (put_in x t.ready) (t.taken - 1) t.live st lw (may-answer q a k fit) (of-answer w x a (fits-simple q a k.simple fit)) (above (place_is.InHand w) placed) row
-        (λ d d_at h. record {
-          born = born-stays s (record { worker = w; kind = Answer x a }) past r.born d h.born;
-          stands =
-              rw now (subst (λ (m : ℕ). HasAnswer routes ((record { worker = w; kind = Answer m a }) ∷ past) d c (length past)) (number-of (place_is.InHand w) placed d d_at)
-              (has-answer routes past w d c q a (Some w) (fits-simple q a k.simple fit) (no-end q goes) fit (asking-of q d k d_at)));
-        })
+        (stands-one routes workers limit past t w x (x - 1) (Answer x a) r (answered (length past) r) (put_in x t.ready) (t.taken - 1) t.live t.queues st lw (may-answer q a k fit)
+        (of-answer w x a (fits-simple q a k.simple fit) (outside-unqueued q a k.outside fit)) (above (place_is.InHand w) placed) row
+        (λ d d_at h. row-on routes (record { worker = w; kind = Answer x a }) past d r (answered (length past) r) h refl refl (was-live ∙ sym l) (rw now (gets q a asks fit goes d d_at)))
         (ap (put_in x) st.ready ∙ sym (rw number at (numbers-join row_ready 1 t.rows (x - 1) r (answered (length past) r) row (ap state_ready in-hand.1) (ap state_ready now))))
-        (rw (was-held, b) (omega (arith, n))) (rw (was-live, l) refl))
+        (rw (was-held, b) (omega (arith, n))) (rw (was-live, l) refl) (same-queues q a asks fit goes))
 
     -- it ends as its source took it
-    pub stands-settle-end : (q : Request) (e : End) (a : Reply) → IsAsked (plan_of routes) past x q → fits q a ≡ true → end_asked (Some q) ≡ Some e
-        → Stands routes workers limit ((record { worker = w; kind = Answer x a }) ∷ past)
-        (record t { rows = put_at t.rows (x - 1) (ended_by e a r); turns = t.turns + 1; taken = t.taken - 1; live = t.live - 1 })
-    stands-settle-end q e a asks fit ends =
-        let s = plan_of routes in
-        let k = held-asks q asks in
-        let c = in-hand.0 in
-        let y = asks-to-end q e k.outside ends in
-        let fit' : fits (request.Finish e y.message true) a ≡ true = rw y.is at fit in
-        let now = ended-by-state e y.message a r fit' in
-        let b : row_held (ended_by e a r) ≡ false = ap state_held now in
-        let l : row_live (ended_by e a r) ≡ false = ap state_live now in
-        let n = taken-above in
-        let m = held-live in
-        rw (no-notes q a k, append-nil t.notes) at
-        (stands-one routes workers limit past t w x (x - 1) (Answer x a) r (ended_by e a r) t.ready (t.taken - 1) (t.live - 1) st lw (may-answer q a k fit) (of-answer w x a (fits-simple q a k.simple fit)) (above (place_is.InHand w) placed) row
-        (λ d d_at h. record {
-          born = subst (λ (i : ℕ). IsBornAt s ((record { worker = w; kind = Answer x a }) ∷ past) i d) (ended-by-born e a r) (born-stays s (record { worker = w; kind = Answer x a }) past r.born d h.born);
-          stands =
-              rw now (subst (λ (m : ℕ). HasEnded routes ((record { worker = w; kind = Answer m a }) ∷ past) d (closing_by e a)) (number-of (place_is.InHand w) placed d d_at)
-              (has-ended-by routes past w d c e y.message a (Some w) fit' (subst (λ (z : Request). IsAsking routes past d c z (Some w)) y.is (asking-of q d k d_at))));
-        })
-        (st.ready ∙ sym (numbers-stay row_ready 1 t.rows (x - 1) r (ended_by e a r) row (ap state_ready in-hand.1 ∙ sym (ap state_ready now))))
-        (rw (was-held, b) (omega (arith, n))) (rw (was-live, l) (omega (arith, m))))
+    module _ (q : Request) (e : End) (a : Reply) (asks : IsAsked (plan_of routes) past x q) (fit : fits q a ≡ true) (ends : end_asked (Some q) ≡ Some e) where
+      told-end : HeldAsks q
+      told-end = held-asks q asks
+
+      to-end : AsksToEnd q e
+      to-end = asks-to-end q e told-end.outside ends
+
+      fitting-end : fits (request.Finish e to-end.message true) a ≡ true
+      fitting-end = rw to-end.is at fit
+
+      now-over : state_of (ended_by e a r) ≡ state.Ended (closing_by e a)
+      now-over = ended-by-state e to-end.message a r fitting-end
+
+      is-over : (d : Birth) → slice_get (births (plan_of routes) past) (x - 1) ≡ Some d → HasEnded routes ((record { worker = w; kind = Answer x a }) ∷ past) d (closing_by e a)
+      is-over d d_at =
+          subst (λ (m : ℕ). HasEnded routes ((record { worker = w; kind = Answer m a }) ∷ past) d (closing_by e a)) (number-of (place_is.InHand w) placed d d_at)
+          (has-ended-by routes past w d in-hand.0 e to-end.message a (Some w) fitting-end (subst (λ (z : Request). IsAsking routes past d in-hand.0 z (Some w)) to-end.is (asking-of q d told-end d_at)))
+
+      over-some : is_some (ended (plan_of routes) ((record { worker = w; kind = Answer x a }) ∷ past) x) ≡ true
+      over-some =
+          let h = here (place_is.InHand w) placed in
+          let at : slice_get (births (plan_of routes) past) (x - 1) ≡ Some h.birth = subst (λ (n : ℕ). numbered (births (plan_of routes) past) n ≡ Some h.birth) (sym (above (place_is.InHand w) placed)) h.at in
+          let o = is-over h.birth at in
+          ends-some (plan_of routes) (record { worker = w; kind = Answer x a }) past x h.birth (closed_end h.birth (closing_by e a)) o.message h.at o.ends
+
+      pub end-leaves : MayLeave r.born t.queues
+      end-leaves =
+          let h = here (place_is.InHand w) placed in
+          let legal = legal-add (plan_of routes) workers limit (record { worker = w; kind = Answer x a }) past st.legal lw (may-answer q a told-end fit) in
+          may-leave workers limit w x (Answer x a) h.birth t.queues (leaving-answer x a (outside-unqueued q a told-end.outside fit)) legal.entries h.at over-some st.queues r.born h.stands.born
+
+      pub stands-settle-end : (queues : List QueueView) → Leaves r.born t.queues queues
+          → Stands routes workers limit ((record { worker = w; kind = Answer x a }) ∷ past)
+          (record t { rows = put_at t.rows (x - 1) (ended_by e a r); turns = t.turns + 1; taken = t.taken - 1; live = t.live - 1; queues = queues })
+      stands-settle-end queues leaves =
+          let h = here (place_is.InHand w) placed in
+          let b : row_held (ended_by e a r) ≡ false = ap state_held now-over in
+          let l : row_live (ended_by e a r) ≡ false = ap state_live now-over in
+          let n = taken-above in
+          let m = held-live in
+          rw (no-notes q a told-end, append-nil t.notes) at
+          (stands-one routes workers limit past t w x (x - 1) (Answer x a) r (ended_by e a r) t.ready (t.taken - 1) (t.live - 1) queues st lw (may-answer q a told-end fit)
+          (of-answer w x a (fits-simple q a told-end.simple fit) (outside-unqueued q a told-end.outside fit)) (above (place_is.InHand w) placed) row
+          (λ d d_at g. row-ended routes (record { worker = w; kind = Answer x a }) past d r (ended_by e a r) g (sym (ended-by-born e a r)) l (rw now-over (is-over d d_at)))
+          (st.ready ∙ sym (numbers-stay row_ready 1 t.rows (x - 1) r (ended_by e a r) row (ap state_ready in-hand.1 ∙ sym (ap state_ready now-over))))
+          (rw (was-held, b) (omega (arith, n))) (rw (was-live, l) (omega (arith, m)))
+          (λ legal. queues-ended workers limit w x (Answer x a) h.birth t.queues (leaving-answer x a (outside-unqueued q a told-end.outside fit)) legal h.at over-some st.queues r.born queues h.stands.born leaves))
 
     pub end-not-outside : (q : Request) (e : End) (a : Reply) → IsAsked (plan_of routes) past x q → fits q a ≡ true → end_asked (Some q) ≡ Some e → row_outside (ended_by e a r) ≡ false
     end-not-outside q e a asks fit ends =
@@ -404,16 +451,29 @@ module _ {routes : RouteSet} {workers limit : ℕ} {past : Past} (t : Tables) (w
         ended-by-not-outside e y.message a r (rw y.is at fit)
 
     -- it is ended for want of memory
-    pub stands-give-up : Stands routes workers limit ((record { worker = w; kind = Starve x }) ∷ past) (record t { rows = put_at t.rows (x - 1) (closed stage.Starved r); taken = t.taken - 1; live = t.live - 1 })
-    stands-give-up =
-        let s = plan_of routes in
+    gone-some : is_some (ended (plan_of routes) ((record { worker = w; kind = Starve x }) ∷ past) x) ≡ true
+    gone-some =
+        let h = here (place_is.InHand w) placed in
+        let o = subst (λ (n : ℕ). HasEnded routes ((record { worker = w; kind = Starve n }) ∷ past) h.birth closing.Starved) h.number (has-starved routes past w h.birth) in
+        ends-some (plan_of routes) (record { worker = w; kind = Starve x }) past x h.birth (closed_end h.birth closing.Starved) o.message h.at o.ends
+
+    pub give-up-leaves : MayLeave r.born t.queues
+    give-up-leaves =
+        let h = here (place_is.InHand w) placed in
+        let legal = legal-add (plan_of routes) workers limit (record { worker = w; kind = Starve x }) past st.legal lw (inr placed) in
+        may-leave workers limit w x (Starve x) h.birth t.queues (leaving-starve x) legal.entries h.at gone-some st.queues r.born h.stands.born
+
+    pub stands-give-up : (queues : List QueueView) → Leaves r.born t.queues queues
+        → Stands routes workers limit ((record { worker = w; kind = Starve x }) ∷ past) (record t { rows = put_at t.rows (x - 1) (closed stage.Starved r); taken = t.taken - 1; live = t.live - 1; queues = queues })
+    stands-give-up queues leaves =
+        let h = here (place_is.InHand w) placed in
         let n = taken-above in
         let m = held-live in
         rw (append-nil t.notes, add-zero t.turns) at
-        (stands-one routes workers limit past t w x (x - 1) (Starve x) r (closed stage.Starved r) t.ready (t.taken - 1) (t.live - 1) st lw (inr placed) (of-starve w x) (above (place_is.InHand w) placed) row
-        (λ d d_at h. record {
-          born = born-stays s (record { worker = w; kind = Starve x }) past r.born d h.born;
-          stands = subst (λ (n : ℕ). HasEnded routes ((record { worker = w; kind = Starve n }) ∷ past) d closing.Starved) (number-of (place_is.InHand w) placed d d_at) (has-starved routes past w d);
-        })
+        (stands-one routes workers limit past t w x (x - 1) (Starve x) r (closed stage.Starved r) t.ready (t.taken - 1) (t.live - 1) queues st lw (inr placed) (of-starve w x) (above (place_is.InHand w) placed) row
+        (λ d d_at g.
+        row-ended routes (record { worker = w; kind = Starve x }) past d r (closed stage.Starved r) g refl refl
+        (subst (λ (n : ℕ). HasEnded routes ((record { worker = w; kind = Starve n }) ∷ past) d closing.Starved) (number-of (place_is.InHand w) placed d d_at) (has-starved routes past w d)))
         (st.ready ∙ sym (numbers-stay row_ready 1 t.rows (x - 1) r (closed stage.Starved r) row (ap state_ready in-hand.1)))
-        (rw was-held (omega (arith, n))) (rw was-live (omega (arith, m))))
+        (rw was-held (omega (arith, n))) (rw was-live (omega (arith, m)))
+        (λ legal. queues-ended workers limit w x (Starve x) h.birth t.queues (leaving-starve x) legal h.at gone-some st.queues r.born queues h.stands.born leaves))

@@ -17,6 +17,7 @@ use Rattle.eip_tables.specs.Stands.{Tables, Stands}
 use Rattle.eip_table_laws.proofs.LookCalls.{known-state}
 use Rattle.eip_table_laws.proofs.OwnCalls.{asked-there}
 use Rattle.eip_tables.specs.declared.asking.Asked.TheVariants as kind
+use Rattle.eip_tables.specs.Offers.{AsksOffer, AsksCall}
 use Rattle.eip_tables.specs.Asking.{asked_kind, is_outside_kind, AsksLine, AsksEnd}
 
 pub kind-outside : (q : Request) → is_outside_kind (asked_kind q) ≡ is_outside q
@@ -46,6 +47,24 @@ kind-end known x (request.Send t m) at h = absurd (cc h)
 kind-end known x (request.Process n m) at h = absurd (cc h)
 kind-end known x (request.Test n m) at h = absurd (cc h)
 kind-end known x _ at h = absurd (cc h)
+
+pub kind-copy : (known : List (Option Request)) (x : ℕ) (q : Request) → slice_get known (x - 1) ≡ Some (Some q) → asked_kind q ≡ kind.Copy → AsksOffer known x
+kind-copy known x (request.Offer u d m) at h = record { queue = u; discard = d; message = m; asks = at }
+kind-copy known x (request.Finish e m true) at h = absurd (cc h)
+kind-copy known x (request.Finish e m false) at h = absurd (cc h)
+kind-copy known x (request.Send t m) at h = absurd (cc h)
+kind-copy known x (request.Process n m) at h = absurd (cc h)
+kind-copy known x (request.Test n m) at h = absurd (cc h)
+kind-copy known x _ at h = absurd (cc h)
+
+pub kind-route : (known : List (Option Request)) (x : ℕ) (q : Request) → slice_get known (x - 1) ≡ Some (Some q) → asked_kind q ≡ kind.Route → AsksCall known x
+kind-route known x (request.Call r) at h = record { route = r; asks = at }
+kind-route known x (request.Finish e m true) at h = absurd (cc h)
+kind-route known x (request.Finish e m false) at h = absurd (cc h)
+kind-route known x (request.Send t m) at h = absurd (cc h)
+kind-route known x (request.Process n m) at h = absurd (cc h)
+kind-route known x (request.Test n m) at h = absurd (cc h)
+kind-route known x _ at h = absurd (cc h)
 
 pub outside-of : (o : Option HasAsked) (k : HasAsked) (q : Request) → o ≡ Some k → k.request ≡ q → outside_asked o ≡ is_outside q
 outside-of o k q h e = rw h (ap is_outside e)

@@ -5,7 +5,13 @@ pub mod SourceEvents
 pub mod OwnEvents
 pub mod SourceCalls
 pub mod OwnCalls
+pub mod QueueCalls
+pub mod QueueStarts
+pub mod FirstQueue
+pub mod Leaving
+pub mod CopyCalls
 pub mod LookCalls
+pub mod OfferCalls
 pub mod InnerCalls
 pub mod StopCalls
 pub mod Bounds

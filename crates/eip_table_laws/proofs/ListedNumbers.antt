@@ -145,7 +145,3 @@ if-no-first None xs e = first-none xs (sym e)
 -- the row of a number passes no longer
 pub leave-at : {R : Type 0} (p : R → Bool) (rs : List R) (x : ℕ) (new : R) → 0 < x → p new ≡ false → row_numbers p 1 (set rs (x - 1) new) ≡ without x (row_numbers p 1 rs)
 leave-at p rs x new l gone = let e : 1 + (x - 1) ≡ x = omega (arith, l) in rw e at (numbers-leave p 1 rs (x - 1) new gone)
-
--- a row that doesn't pass comes behind the others
-pub push-none : {R : Type 0} (p : R → Bool) (rs : List R) (new : R) → p new ≡ false → row_numbers p 1 (rs ++ new ∷ []) ≡ row_numbers p 1 rs
-push-none p rs new gone = numbers-push p 1 rs new ∙ rw gone (append-nil (row_numbers p 1 rs))

@@ -1,5 +1,5 @@
 -- The tables behind a look at an exchange.
-use Rattle.std.proofs.Common.{◌≡◌, ℕ, zero, suc, ◌-◌, ◌<◌, true, List, [], ◌∷◌, length, map, reverse, set as put_at, Option, Some, None, refl, sym, ap, subst, ◌∙◌, arith, ◌⊎◌, inl, inr, get_or, Result, Ok, Err}
+use Rattle.std.proofs.Common.{◌≡◌, ℕ, zero, suc, ◌-◌, ◌<◌, Bool, true, false, List, [], ◌∷◌, length, map, reverse, set as put_at, Option, Some, None, refl, sym, ap, subst, ◌∙◌, arith, ◌⊎◌, inl, inr, get_or, Result, Ok, Err}
 use Rattle.std.specs.List.{slice_get}
 use Rattle.std.specs.Result.{OnOk, OnErr}
 use Rattle.std.proofs.lemmas.Option.{slice_get_within, slice_get_read}
@@ -21,15 +21,18 @@ use Rattle.eip_plan.specs.Plan.{plan_of}
 use Rattle.eip_meaning.specs.Meaning.{mean}
 use Rattle.eip_progress.specs.declared.cursor.Cursor.{Cursor}
 use Rattle.eip_progress.specs.Rest.{rest}
+use Rattle.eip_tables.specs.declared.row.Born.{Born}
+use Rattle.eip_tables.specs.declared.row.Born.TheVariants as made
 use Rattle.eip_tables.specs.declared.row.Stage.{Stage}
 use Rattle.eip_tables.specs.declared.row.Stage.TheVariants as stage
 use Rattle.eip_tables.specs.declared.row.Row.{Row}
 use Rattle.eip_tables.specs.Moves.{begun}
 use Rattle.eip_tables.specs.State as state
 use Rattle.eip_tables.specs.State.{State, state_of, state_by, known_in, known_of}
-use Rattle.eip_tables.specs.Look.{FirstLook, LookedAt, HasCursor, CanTake, Stepped, birth_in}
-use Rattle.eip_tables.specs.Rows.{entry_at, Follows, HasAnswer, StateStands, RowStands, row_held, row_live, state_ready}
+use Rattle.eip_tables.specs.Look.{FirstLook, LookedAt, HasCursor, CanTake, Stepped, birth_in, birth_by, birth_of}
+use Rattle.eip_tables.specs.Rows.{entry_at, ComesFrom, Keeps, IsUnasked, Follows, HasAnswer, StateStands, RowStands, row_held, row_live, state_ready}
 use Rattle.eip_tables.specs.Stands.{Tables, Stands}
+use Rattle.eip_table_laws.proofs.RowPlaces.{row-looked}
 use Rattle.eip_table_laws.proofs.RowSteps.{looked-new, looked-answer, can-take}
 use Rattle.eip_table_laws.proofs.OwnEvents.{stands-look}
 use Rattle.eip_table_laws.proofs.OwnCalls.{row-within, is-at, IsAt, ready-row, asks-fields}
@@ -59,9 +62,17 @@ answered-fields i None oq f set past b h = absurd h
 answered-row : (set : RouteSet) (past : Past) (b : Birth) (r : Row) (i : ℕ) → r.stage ≡ stage.Answered i → RowStands set past b r → (c : Cursor) × ((r.cursor ≡ Some c) × HasAnswer set past b c i)
 answered-row set past b r i g h = answered-fields i r.cursor r.request r.fault set past b (rw g at h.stands)
 
--- a row that is new has a birth with no entry
-new-row : (set : RouteSet) (past : Past) (b : Birth) (r : Row) → r.stage ≡ stage.New → RowStands set past b r → own b.number past ≡ []
+-- a row that is new has a birth of which nothing was asked
+new-row : (set : RouteSet) (past : Past) (b : Birth) (r : Row) → r.stage ≡ stage.New → RowStands set past b r → IsUnasked past b
 new-row set past b r g h = rw g at h.stands
+
+-- the birth of a live exchange is the one that its row tells
+told-by : (set : RouteSet) (past : Past) (x : ℕ) (b : Birth) (o : Born) (live : Bool) (kept : Option Birth) → b.number ≡ x → ComesFrom (plan_of set) past o b → Keeps o live b kept → live ≡ true
+    → birth_by set (reverse past) x o kept ≡ Some b
+told-by set past x b (made.Item i) live kept n h k l =
+    ap (birth_in set x) (entry-there past i _ h.entry) ∙ ap Some (sym (h.birth ∙ ap (λ (m : ℕ). item_birth (plan_of set) m h.source h.item h.message) n))
+told-by set past x b (made.Copy q) true kept n h k l = k
+told-by set past x b (made.Copy q) false kept n h k l = absurd (cc l)
 
 -- a ready row is new, asks, or has an answer to come
 module _ {routes : RouteSet} {workers limit : ℕ} {past : Past} (t : Tables) (x : ℕ) (r : Row) (st : Stands routes workers limit past t)
@@ -72,17 +83,12 @@ module _ {routes : RouteSet} {workers limit : ℕ} {past : Past} (t : Tables) (x
   number-of : (b : Birth) → slice_get (births (plan_of routes) past) (x - 1) ≡ Some b → b.number ≡ x
   number-of b at = let h = row-within t x place_is.Ready st ready in numbered-at 1 (births (plan_of routes) past) (x - 1) b (births-numbered (plan_of routes) past) at ∙ omega (arith, h.0)
 
-  pub born-within : r.born < length (reverse past)
-  born-within = entry-within past r.born _ here.stands.born.entry
+  -- the birth of an exchange that nobody has looked at is the one that its row tells
+  born-told : r.stage ≡ stage.New → birth_of routes (reverse past) x r ≡ Some here.birth
+  born-told g = told-by routes past x here.birth r.born (row_live r) r.birth here.number here.stands.born here.stands.kept (rw g refl)
 
-  -- the birth of the exchange is the one that its entry makes
-  pub born-birth : (b : Birth) × (birth_in routes x (slice_get (reverse past) r.born) ≡ Some b)
-  born-birth =
-      let h = here.stands.born in (
-        here.birth,
-        ap (birth_in routes x) (entry-there past r.born _ h.entry)
-            ∙ ap Some (sym (h.birth ∙ ap (λ (n : ℕ). item_birth (plan_of routes) n h.source h.item h.message) here.number)),
-      )
+  pub born-birth : r.stage ≡ stage.New → (b : Birth) × (birth_of routes (reverse past) x r ≡ Some b)
+  born-birth g = (here.birth, born-told g)
 
   pub answer-within : (i : ℕ) → r.stage ≡ stage.Answered i → i < length (reverse past)
   answer-within i g = let h = answered-row routes past here.birth r i g here.stands in entry-within past i _ h.1.1.entry
@@ -109,18 +115,15 @@ module _ {routes : RouteSet} {workers limit : ℕ} {past : Past} (t : Tables) (x
       record { cursor = h.0; has = h.1.0; can = subst (λ (z : Reply). CanTake routes z h.0) same (can-take routes past here.birth h.0 i h.1.1) }
 
   -- the row of a new exchange has its first cursor
-  pub new-looked : (c : Cursor) (q : Request) → r.stage ≡ stage.New → FirstLook routes (reverse past) x r.born c q → Stands routes workers limit past (record t { rows = put_at t.rows (x - 1) (begun c q r) })
+  pub new-looked : (c : Cursor) (q : Request) → r.stage ≡ stage.New → FirstLook routes (reverse past) x r c q → Stands routes workers limit past (record t { rows = put_at t.rows (x - 1) (begun c q r) })
   new-looked c q g f =
       stands-look routes workers limit past t (x - 1) r (begun c q r) st row
-      (λ b b_at h. record {
-        born = record { worker = h.born.worker; source = h.born.source; item = h.born.item; message = h.born.message; entry = h.born.entry; birth = h.born.birth };
-        stands =
-            let made : birth_in routes x (slice_get (reverse past) r.born) ≡ Some (item_birth (plan_of routes) x h.born.source h.born.item h.born.message) = ap (birth_in routes x) (entry-there past r.born _ h.born.entry) in
-            let is : b ≡ item_birth (plan_of routes) x h.born.source h.born.item h.born.message = h.born.birth ∙ ap (λ (n : ℕ). item_birth (plan_of routes) n h.born.source h.born.item h.born.message) (number-of b b_at) in
-            let two = f.made in
-            let same : f.birth ≡ b = cc in
-            looked-new routes past b c q (new-row routes past b r g h) (subst (λ (d : Birth). Stepped routes (mean routes d) [] c q) same f.stepped);
-      })
+      (λ b b_at h.
+      row-looked routes past b r (begun c q r) h refl refl (rw g refl)
+      (let made : birth_of routes (reverse past) x r ≡ Some b = told-by routes past x b r.born (row_live r) r.birth (number-of b b_at) h.born h.kept (rw g refl) in
+      let two = f.made in
+      let same : f.birth ≡ b = cc in
+      looked-new routes past b c q (new-row routes past b r g h) (subst (λ (d : Birth). Stepped routes (mean routes d) [] c q) same f.stepped)))
       (ready-row routes past x r here) (rw g refl) (rw g refl)
 
   -- the row behind an answer that its cursor was given
@@ -128,17 +131,15 @@ module _ {routes : RouteSet} {workers limit : ℕ} {past : Past} (t : Tables) (x
       → Stands routes workers limit past (record t { rows = put_at t.rows (x - 1) r' })
   answer-looked i w n a r' g at l =
       rw l.row (stands-look routes workers limit past t (x - 1) r (begun l.now l.request r) st row
-      (λ b b_at h. record {
-        born = record { worker = h.born.worker; source = h.born.source; item = h.born.item; message = h.born.message; entry = h.born.entry; birth = h.born.birth };
-        stands =
-            let k = answered-row routes past b r i g h in
-            let there = entry-there past i _ k.1.1.entry in
-            let had = l.had in
-            let same = same-answer (slice_get (reverse past) i) k.1.1.worker b.number w n k.1.1.answer a there at in
-            let cursor : l.was ≡ k.0 = let has = k.1.0 in cc in
-            let f = subst (λ (z : Reply). Follows routes past b k.0 (z ∷ []) None) same k.1.1.follows in
-            looked-answer routes past b k.0 l.now l.request a f (subst (λ (z : Cursor). Stepped routes (rest routes z) (a ∷ []) l.now l.request) cursor l.stepped);
-      })
+      (λ b b_at h.
+      row-looked routes past b r (begun l.now l.request r) h refl refl (live l.had)
+      (let k = answered-row routes past b r i g h in
+      let there = entry-there past i _ k.1.1.entry in
+      let had = l.had in
+      let same = same-answer (slice_get (reverse past) i) k.1.1.worker b.number w n k.1.1.answer a there at in
+      let cursor : l.was ≡ k.0 = let has = k.1.0 in cc in
+      let f = subst (λ (z : Reply). Follows routes past b k.0 (z ∷ []) None) same k.1.1.follows in
+      looked-answer routes past b k.0 l.now l.request a f (subst (λ (z : Cursor). Stepped routes (rest routes z) (a ∷ []) l.now l.request) cursor l.stepped)))
       (ready-row routes past x r here) (facts l.had) (live l.had))
     where
       facts : r.cursor ≡ Some l.was → row_held r ≡ row_held (begun l.now l.request r)
@@ -155,6 +156,7 @@ known-at (y ∷ rows) (suc i) r o h k = known-at rows i r o h k
 
 known-asks : (g : State) (q : Request) → known_in g ≡ Some q → (c : Cursor) × (g ≡ state.Asks c q)
 known-asks (state.Asks c q') q h = (c, let e : q' ≡ q = cc in ap (state.Asks c) e)
+known-asks state.Queued q h = absurd (cc h)
 known-asks state.New q h = absurd (cc h)
 known-asks (state.Held c w) q h = absurd (cc h)
 known-asks (state.Answered c i) q h = absurd (cc h)
@@ -181,6 +183,7 @@ known-there (y ∷ rows) (suc i) r q h k = known-there rows i r q h k
 -- a ready row that is neither new nor answered asks
 asking-fields : (g : Stage) (oc : Option Cursor) (oq : Option Request) (f : Option Fault) → (g ≡ stage.New → ⊥) → ((i : ℕ) → g ≡ stage.Answered i → ⊥) → state_ready (state_by g oc oq f) ≡ true
     → (q : Request) × (known_in (state_by g oc oq f) ≡ Some q)
+asking-fields stage.Queued oc oq f n a h = absurd (cc h)
 asking-fields stage.New oc oq f n a h = absurd (n refl)
 asking-fields (stage.Answered i) oc oq f n a h = absurd (a i refl)
 asking-fields stage.Asks (Some c) (Some q) f n a h = (q, refl)

@@ -14,13 +14,15 @@ use Rattle.eip_history.specs.Place.{place, place_of}
 use Rattle.eip_history.specs.BookText.{origin_of, origin_at}
 use Rattle.eip_history.proofs.Lists.{related-at, slice_get-some}
 use Rattle.eip_plan.specs.Plan.{plan_of}
+use Rattle.eip_tables.specs.declared.row.Born.{Born}
+use Rattle.eip_tables.specs.declared.row.Born.TheVariants as made
 use Rattle.eip_tables.specs.declared.row.Stage.{Stage}
 use Rattle.eip_tables.specs.declared.row.Stage.TheVariants as stage
 use Rattle.eip_tables.specs.declared.row.Row.{Row}
 use Rattle.eip_tables.specs.State.{state_by}
-use Rattle.eip_tables.specs.Rows.{RowStands, entry_at}
+use Rattle.eip_tables.specs.Rows.{ComesFrom, RowStands, entry_at}
 use Rattle.eip_tables.specs.Stands.{Tables, Stands}
-use Rattle.eip_tables.specs.Origin.{origin_in, ending_at, stage_ending}
+use Rattle.eip_tables.specs.Origin.{origin_in, origin_born, ending_at, stage_ending}
 use Rattle.eip_table_laws.proofs.RowPlaces.{Placed, row-place, born-origin}
 use Rattle.eip_table_laws.proofs.Bounds.{rows-are}
 use Rattle.eip_table_laws.proofs.StopCalls.{beyond, place-zero, place-beyond, place-here}
@@ -35,6 +37,7 @@ numbered-beyond xs (suc i) l = beyond xs i (omega (arith, l))
 
 -- a state's place ends as its stage does
 ending-by : (b : Birth) (p : Place) (g : Stage) (oc : Option Cursor) (oq : Option Request) (f : Option Fault) → Placed b (state_by g oc oq f) p → stage_ending g ≡ ending_at (Some p)
+ending-by b p stage.Queued oc oq f h = rw h.2 refl
 ending-by b p stage.New oc oq f h = rw h refl
 ending-by b p stage.Asks (Some c) (Some q) f h = rw h refl
 ending-by b p stage.Asks (Some c) None f h = absurd h
@@ -56,6 +59,13 @@ origin-zero set past x h = rw h refl
 pub ending-zero : (set : RouteSet) (past : Past) (x : ℕ) → x ≡ 0 → None ≡ ending_at (place (plan_of set) past x)
 ending-zero set past x h = ap ending_at (place-zero (plan_of set) past x h)
 
+told-origin : (set : RouteSet) (past : Past) (b : Birth) (o : Born) → ComesFrom (plan_of set) past o b → origin_born (reverse past) o ≡ Some b.origin
+unfolding entry_at
+told-origin set past b (made.Item i) h =
+    let at : slice_get (reverse past) i ≡ _ = h.entry in
+    ap origin_in at ∙ ap (λ o. Some o) (sym (born-origin (plan_of set) past i b h))
+told-origin set past b (made.Copy q) h = ap (λ o. Some o) (sym h)
+
 module _ {set : RouteSet} {workers limit : ℕ} {past : Past} (t : Tables) (st : Stands set workers limit past t) (x : ℕ) where
   pub origin-beyond : length t.rows < x → None ≡ origin_at (plan_of set) past x
   origin-beyond l = sym (ap (option_map origin_of) (numbered-beyond (births (plan_of set) past) x (omega (arith, rows-are t st, l))))
@@ -69,15 +79,11 @@ module _ {set : RouteSet} {workers limit : ℕ} {past : Past} (t : Tables) (st :
       let b = slice_get-some (births (plan_of set) past) (x - 1) (omega (arith, l, m, rows-are t st)) in
       (b.0, b.1, related-at (RowStands set past) (births (plan_of set) past) t.rows (x - 1) b.0 r st.rows b.1 row)
 
-  -- the origin is told by the entry that the row names
-  pub origin-is : (r : Row) → 0 < x → x ≤ length t.rows → slice_get t.rows (x - 1) ≡ Some r → origin_in (slice_get (reverse past) r.born) ≡ origin_at (plan_of set) past x
-  unfolding entry_at
+  -- the origin is told by the row
+  pub origin-is : (r : Row) → 0 < x → x ≤ length t.rows → slice_get t.rows (x - 1) ≡ Some r → origin_born (reverse past) r.born ≡ origin_at (plan_of set) past x
   origin-is r l m row =
       let b = born r l m row in
-      let at : slice_get (reverse past) r.born ≡ _ = b.2.born.entry in
-      ap origin_in at
-      ∙ (sym (ap (λ o. Some o) (born-origin (plan_of set) past r.born b.0 b.2.born))
-      ∙ sym (ap (option_map origin_of) (numbered-here (births (plan_of set) past) x b.0 l b.1)))
+      told-origin set past b.0 r.born b.2.born ∙ sym (ap (option_map origin_of) (numbered-here (births (plan_of set) past) x b.0 l b.1))
 
   -- the end is told by the stage
   pub ending-is : (r : Row) → 0 < x → x ≤ length t.rows → slice_get t.rows (x - 1) ≡ Some r → stage_ending r.stage ≡ ending_at (place (plan_of set) past x)

@@ -1,5 +1,5 @@
 -- The tables behind each entry of an exchange.
-use Rattle.std.proofs.Common.{◌≡◌, ℕ, zero, suc, ◌+◌, ◌-◌, ◌<◌, ◌≤◌, true, false, List, [], ◌∷◌, ◌++◌, length, set as put_at, Option, Some, None, refl, sym, ap, subst, ◌∙◌, arith, add-zero, inl}
+use Rattle.std.proofs.Common.{◌≡◌, ◌≢◌, ℕ, zero, suc, ◌+◌, ◌-◌, ◌<◌, ◌≤◌, Bool, true, false, List, [], ◌∷◌, ◌++◌, length, set as put_at, Option, Some, None, is_some, refl, sym, ap, subst, ◌∙◌, arith, add-zero, inl}
 use Rattle.std.specs.List.{slice_get}
 use Rattle.std.proofs.lemmas.Option.{slice_get_within}
 use Rattle.eip_exchange.specs.declared.birth.Birth.{Birth}
@@ -12,33 +12,53 @@ use Rattle.eip_route.specs.declared.route.RouteSet.{RouteSet}
 use Rattle.eip_frames.specs.declared.request.At.{At}
 use Rattle.eip_frames.specs.declared.request.Request.{Request}
 use Rattle.eip_frames.specs.declared.request.Request.TheVariants as request
+use Rattle.eip_frames.specs.declared.answer.Answer.{Answer as Reply}
 use Rattle.eip_frames.specs.declared.answer.Answer.TheVariants as reply
 use Rattle.eip_frames.specs.Fate.{AsksNext}
+use Rattle.eip_frames.specs.Fits.{fits, is_outside}
+use Rattle.eip_ledger.specs.declared.entry.Entry.{Entry}
 use Rattle.eip_ledger.specs.declared.entry.Kind.TheVariants.{Answer, Starve}
+use Rattle.eip_ledger.specs.declared.place.Note.{Note}
 use Rattle.eip_ledger.specs.declared.place.Place.{Place}
 use Rattle.eip_ledger.specs.declared.place.Place.TheVariants as place_is
-use Rattle.eip_history.specs.Own.{Past, numbered}
-use Rattle.eip_history.specs.Births.{births, fate, asked, Asked}
-use Rattle.eip_history.specs.Place.{place, place_of}
-use Rattle.eip_history.specs.Rules.{IsBelow}
+use Rattle.eip_history.specs.Own.{Past, own, answers, concerns, numbered}
+use Rattle.eip_history.specs.Births.{births, fate, asked, Asked, story, made_by}
+use Rattle.eip_history.specs.Place.{place, place_of, ended, waiting}
+use Rattle.eip_history.specs.Rules.{IsBelow, KeepsRules, May, MayAct, Content}
+use Rattle.eip_history.specs.Texts.{notes}
 use Rattle.eip_history.specs.Tables.{without, bit}
-use Rattle.eip_history.proofs.Lists.{related-at, related-length, numbered-at, slice_get-some}
-use Rattle.eip_history.proofs.Told.{births-numbered}
-use Rattle.eip_history.proofs.Unborn.{place-born}
+use Rattle.eip_history.proofs.Limit.{not-same, pulls-same, source-after, turns-more}
+use Rattle.eip_history.proofs.Lists.{related-at, related-length, related-push, related-set, numbered-at, slice_get-some}
+use Rattle.eip_history.proofs.Told.{births-more, births-numbered}
+use Rattle.eip_history.proofs.Main.{legal-add}
+use Rattle.eip_history.proofs.Places.{ended-is}
+use Rattle.eip_history.proofs.Unborn.{place-born, birth-stays, newborn-own}
 use Rattle.eip_plan.specs.Plan.{plan_of}
+use Rattle.eip_plan.specs.Simple.{IsSimpleAnswer}
+use Rattle.eip_plan.proofs.Items.{is_queued}
+use Rattle.eip_plan.proofs.Laws.{plan-laws}
+use Rattle.eip_seda.specs.Consuming as seda
+use Rattle.eip_seda.specs.Consuming.{Call, Offered, QueueView}
 use Rattle.eip_progress.specs.declared.cursor.Cursor.{Cursor}
+use Rattle.eip_tables.specs.declared.row.Born.{Born}
+use Rattle.eip_tables.specs.declared.row.Born.TheVariants as made
 use Rattle.eip_tables.specs.declared.row.Stage.{Stage}
 use Rattle.eip_tables.specs.declared.row.Stage.TheVariants as stage
 use Rattle.eip_tables.specs.declared.row.Row.{Row}
-use Rattle.eip_tables.specs.Moves.{answered, finished, closed}
+use Rattle.eip_tables.specs.Moves.{answered, copy_row, finished, closed}
+use Rattle.eip_tables.specs.Offers.{hops_by, copy_birth, refusal}
 use Rattle.eip_tables.specs.Closing as closing
 use Rattle.eip_tables.specs.State as state
 use Rattle.eip_tables.specs.State.{State, state_of, state_by}
-use Rattle.eip_tables.specs.Rows.{RowStands, IsAsking, HasAnswer, HasEnded, row_ready, row_held, row_live, state_ready, state_held, state_live}
+use Rattle.eip_tables.specs.Queues.{QueuesStand, MayLeave, Leaves}
+use Rattle.eip_tables.specs.Rows.{ComesFrom, Keeps, RowStands, IsAsking, HasAnswer, HasEnded, closed_end, row_ready, row_held, row_live, state_ready, state_held, state_live}
 use Rattle.eip_tables.specs.Stands.{Tables, Stands}
-use Rattle.eip_table_laws.proofs.RowNumbers.{numbers-stay, numbers-leave, count-set}
-use Rattle.eip_table_laws.proofs.RowPlaces.{row-is_ready, born-stays, fate-asks}
-use Rattle.eip_table_laws.proofs.RowSteps.{has-answer, has-finished, has-starved, closing_of}
+use Rattle.eip_table_laws.proofs.RowNumbers.{numbers-stay, numbers-leave, count-set, count-push, push-none}
+use Rattle.eip_table_laws.proofs.RowPlaces.{plan-mean, row-is_ready, row-on, row-ended, row-other, fate-asks}
+use Rattle.eip_table_laws.proofs.RowSteps.{mean-asks, has-answer, has-finished, has-starved, closing_of, IsNoFinish}
+use Rattle.eip_table_laws.proofs.QueueCalls.{queues-on, queues-offered, leaving-answer, leaving-starve}
+use Rattle.eip_table_laws.proofs.Leaving.{ends-some, may-leave, queues-ended}
+use Rattle.eip_table_laws.proofs.SourceEvents.{sources-same, fault-none, notes-more}
 use Rattle.eip_table_laws.proofs.OwnEvents.{stands-one, notes_in, of-answer, of-starve}
 
 -- an exchange with a place has its row
@@ -48,6 +68,9 @@ row-within {set} {workers} {limit} {past} t (suc i) p st h =
     let r = place-born (plan_of set) past (suc i) p h in
     let at : slice_get (births (plan_of set) past) i ≡ Some r.0 = r.1 in
     (omega arith, omega (arith, slice_get_within (births (plan_of set) past) i r.0 at, related-length (RowStands set past) (births (plan_of set) past) t.rows st.rows))
+
+pub rows-many : {set : RouteSet} {workers limit : ℕ} {past : Past} (t : Tables) → Stands set workers limit past t → length t.rows ≡ length (births (plan_of set) past)
+rows-many {set} {workers} {limit} {past} t st = sym (related-length (RowStands set past) (births (plan_of set) past) t.rows st.rows)
 
 -- an exchange that has a row at an index
 pub record IsAt (set : RouteSet) (past : Past) (x : ℕ) (r : Row) (p : Place) : Type 0 where
@@ -77,6 +100,7 @@ ready-row set past x r h = sym (row-is_ready set past h.birth r h.stands) ∙ rw
 
 -- a state that is ready is in nobody's hand, and has not ended
 ready-facts : (g : State) → state_ready g ≡ true → (state_held g ≡ false) × (state_live g ≡ true)
+ready-facts state.Queued h = absurd (cc h)
 ready-facts state.New h = (refl, refl)
 ready-facts (state.Asks c q) h = (refl, refl)
 ready-facts (state.Answered c i) h = (refl, refl)
@@ -160,71 +184,264 @@ module _ {routes : RouteSet} {workers limit : ℕ} {past : Past} (t : Tables) (w
     live-counts : 1 ≤ t.live
     live-counts = let k = count-set row_live t.rows (x - 1) r (finished end.Completed r) row in let a = ap bit was-live in omega (arith, k, a, st.live)
 
+  has-it : (q : Request) (a : Reply) → state_of r ≡ state.Asks c q → IsSimpleAnswer a → IsNoFinish q → fits q a ≡ true → (d : Birth) → slice_get (births (plan_of routes) past) (x - 1) ≡ Some d → RowStands routes past d r
+      → HasAnswer routes ((record { worker = w; kind = Answer x a }) ∷ past) d c (length past)
+  has-it q a asks simple goes fit d d_at h =
+      subst (λ (n : ℕ). HasAnswer routes ((record { worker = w; kind = Answer n a }) ∷ past) d c (length past)) (number-of d d_at)
+      (has-answer routes past w d c q a None simple goes fit (rw asks at h.stands))
+
+  -- it goes on with an answer that needs nobody outside
+  module _ (q : Request) (a : Reply) (written : List Note) (asks : state_of r ≡ state.Asks c q) (inner : is_outside q ≡ false) (simple : IsSimpleAnswer a)
+      (unqueued : is_queued a ≡ false) (goes : IsNoFinish q) (fit : fits q a ≡ true) where
+    now-answered : state_of (answered (length past) r) ≡ state.Answered c (length past)
+    now-answered = answered-state (length past) r c q asks
+
+    goes-on : ended (plan_of routes) ((record { worker = w; kind = Answer x a }) ∷ past) x ≡ None
+    goes-on =
+        let e : Entry = record { worker = w; kind = Answer x a } in
+        let at : slice_get (births (plan_of routes) past) (x - 1) ≡ Some here.birth = subst (λ (n : ℕ). numbered (births (plan_of routes) past) n ≡ Some here.birth) (sym above) here.at in
+        ended-is (plan_of routes) (e ∷ past) x here.birth (birth-stays (plan_of routes) e past x here.birth here.at) ∙ (has-it q a asks simple goes fit here.birth at here.stands).lives
+
+    stands-on : IsBelow (plan_of routes) limit past → Content (plan_of routes) past (record { birth = here.birth; request = q; at = (asking q asks).at }) q a → notes_in (plan_of routes) past w (Answer x a) ≡ written
+        → Stands routes workers limit ((record { worker = w; kind = Answer x a }) ∷ past)
+        (record t { rows = put_at t.rows (x - 1) (answered (length past) r); turns = t.turns + 1; notes = t.notes ++ written })
+    stands-on below content written_is =
+        let b : row_held (answered (length past) r) ≡ false = ap state_held now-answered in
+        let l : row_live (answered (length past) r) ≡ true = ap state_live now-answered in
+        rw written_is at
+        (stands-one routes workers limit past t w x (x - 1) (Answer x a) r (answered (length past) r) t.ready t.taken t.live t.queues st lw
+        (record {
+          asks = record { birth = here.birth; request = q; at = (asking q asks).at };
+          asked_is = asked-here q asks;
+          fitting = fit;
+          act = subst (λ (v : Bool). MayAct (plan_of routes) limit past w x v) (sym inner) (ready, below);
+          content = content;
+        })
+        (of-answer w x a simple unqueued) above row
+        (λ d d_at h. row-on routes (record { worker = w; kind = Answer x a }) past d r (answered (length past) r) h refl refl (was-live q asks ∙ sym l) (rw now-answered (has-it q a asks simple goes fit d d_at h)))
+        (st.ready ∙ sym (numbers-stay row_ready 1 t.rows (x - 1) r (answered (length past) r) row (still-ready q asks ∙ sym (ap state_ready now-answered))))
+        (rw (not-held q asks, b) refl) (rw (was-live q asks, l) refl)
+        (λ legal. queues-on routes workers limit w x a past here.birth t.queues legal unqueued here.at goes-on st.queues))
+
   -- its line of the log is written
   pub stands-note : (name text : List ℕ) → state_of r ≡ state.Asks c (request.Log name text) → IsBelow (plan_of routes) limit past
       → Stands routes workers limit ((record { worker = w; kind = Answer x reply.Noted }) ∷ past)
       (record t { rows = put_at t.rows (x - 1) (answered (length past) r); turns = t.turns + 1; notes = t.notes ++ (record { number = x; name = name; text = text }) ∷ [] })
   stands-note name text asks below =
       let q : Request = request.Log name text in
-      let s = plan_of routes in
-      let now = answered-state (length past) r c q asks in
-      let written : notes_in s past w (Answer x reply.Noted) ≡ (record { number = x; name = name; text = text }) ∷ [] = rw (asked-here q asks, here.number) refl in
-      let b : row_held (answered (length past) r) ≡ false = ap state_held now in
-      let l : row_live (answered (length past) r) ≡ true = ap state_live now in
-      rw written at
-      (stands-one routes workers limit past t w x (x - 1) (Answer x reply.Noted) r (answered (length past) r) t.ready t.taken t.live st lw
-      (record { asks = record { birth = here.birth; request = q; at = (asking q asks).at }; asked_is = asked-here q asks; fitting = refl; act = (ready, below); content = tt })
-      (of-answer w x reply.Noted tt) above row
-      (λ d d_at h. record {
-        born = born-stays s (record { worker = w; kind = Answer x reply.Noted }) past r.born d h.born;
-        stands = rw now (subst (λ (n : ℕ). HasAnswer routes ((record { worker = w; kind = Answer n reply.Noted }) ∷ past) d c (length past)) (number-of d d_at) (has-answer routes past w d c q reply.Noted None tt tt refl (rw asks at h.stands)));
-      })
-      (st.ready ∙ sym (numbers-stay row_ready 1 t.rows (x - 1) r (answered (length past) r) row (still-ready q asks ∙ sym (ap state_ready now))))
-      (rw (not-held q asks, b) refl) (rw (was-live q asks, l) refl))
+      let written : notes_in (plan_of routes) past w (Answer x reply.Noted) ≡ (record { number = x; name = name; text = text }) ∷ [] = rw (asked-here q asks, here.number) refl in
+      stands-on q reply.Noted ((record { number = x; name = name; text = text }) ∷ []) asks refl tt refl tt refl below tt written
+
+  -- the block of the route that it calls runs
+  pub stands-entered : (route : ℕ) → state_of r ≡ state.Asks c (request.Call route) → IsBelow (plan_of routes) limit past
+      → Stands routes workers limit ((record { worker = w; kind = Answer x reply.Entered }) ∷ past)
+      (record t { rows = put_at t.rows (x - 1) (answered (length past) r); turns = t.turns + 1 })
+  stands-entered route asks below =
+      let q : Request = request.Call route in
+      rw (append-nil t.notes) at (stands-on q reply.Entered [] asks refl tt refl tt refl below tt (rw (asked-here q asks) refl))
+
+  -- the queue that it offers to is full
+  pub stands-full : (queue size : ℕ) (m : Message) → state_of r ≡ state.Asks c (request.Offer queue false m) → IsBelow (plan_of routes) limit past
+      → size ≡ length (waiting (plan_of routes) past queue) → ((plan_of routes).queue queue).size ≤ size
+      → Stands routes workers limit ((record { worker = w; kind = Answer x (reply.Full size) }) ∷ past)
+      (record t { rows = put_at t.rows (x - 1) (answered (length past) r); turns = t.turns + 1 })
+  stands-full queue size m asks below many full =
+      let q : Request = request.Offer queue false m in
+      rw (append-nil t.notes) at (stands-on q (reply.Full size) [] asks refl tt refl tt refl below (many, full) (rw (asked-here q asks) refl))
+
+  -- and drops the copy
+  pub stands-dropped : (queue : ℕ) (m : Message) → state_of r ≡ state.Asks c (request.Offer queue true m) → IsBelow (plan_of routes) limit past
+      → ((plan_of routes).queue queue).size ≤ length (waiting (plan_of routes) past queue)
+      → Stands routes workers limit ((record { worker = w; kind = Answer x reply.Dropped }) ∷ past)
+      (record t { rows = put_at t.rows (x - 1) (answered (length past) r); turns = t.turns + 1 })
+  stands-dropped queue m asks below full =
+      let q : Request = request.Offer queue true m in
+      rw (append-nil t.notes) at (stands-on q reply.Dropped [] asks refl tt refl tt refl below full (rw (asked-here q asks) refl))
+
+  -- the copy is refused by the full queue
+  pub stands-refused : (queue : ℕ) (discard : Bool) (size : ℕ) (m : Message) → state_of r ≡ state.Asks c (request.Offer queue discard m) → IsBelow (plan_of routes) limit past
+      → size ≡ length (waiting (plan_of routes) past queue) → ((plan_of routes).queue queue).size ≤ size
+      → Stands routes workers limit ((record { worker = w; kind = Answer x (refusal discard size) }) ∷ past)
+      (record t { rows = put_at t.rows (x - 1) (answered (length past) r); turns = t.turns + 1 })
+  stands-refused queue true size m asks below many full = stands-dropped queue m asks below (omega (arith, many, full))
+  stands-refused queue false size m asks below many full = stands-full queue size m asks below many full
+
+  -- the queue that it offers to is one of the set's
+  pub offer-within : (queue : ℕ) (discard : Bool) (m : Message) → state_of r ≡ state.Asks c (request.Offer queue discard m) → queue < (plan_of routes).routes
+  offer-within queue discard m asks =
+      let a = asking (request.Offer queue discard m) asks in
+      let laws = plan-laws routes in
+      (laws.offers here.birth (answers (own here.birth.number past)) queue discard m a.at (plan-mean routes here.birth (answers (own here.birth.number past)) ∙ mean-asks routes past here.birth c (request.Offer queue discard m) None a)).0
+
+  -- its row tells how many hops it has
+  hops-told : (o : Born) (kept : Option Birth) (b : Birth) → ComesFrom (plan_of routes) past o b → Keeps o true b kept → hops_by o kept ≡ b.hops
+  hops-told (made.Item i) kept b h k = sym (ap (λ (d : Birth). d.hops) h.birth)
+  hops-told (made.Copy q) kept b h k = rw k refl
+
+  -- and they are few, since each is a turn
+  pub hops-few : (q : Request) → state_of r ≡ state.Asks c q → IsBelow (plan_of routes) limit past → hops_by r.born r.birth < 1000000
+  hops-few q asks below =
+      let hops : hops_by r.born r.birth ≡ here.birth.hops = hops-told r.born r.birth here.birth here.stands.born (subst (λ (v : Bool). Keeps r.born v here.birth r.birth) (ap state_live asks) here.stands.kept) in
+      omega (arith, hops, here.stands.hops, below, st.legal.few_turns)
+
+  -- a copy of its message comes into a queue
+  module _ (queue : ℕ) (discard : Bool) (m : Message) (asks : state_of r ≡ state.Asks c (request.Offer queue discard m)) (below : IsBelow (plan_of routes) limit past)
+      (room : length (waiting (plan_of routes) past queue) < ((plan_of routes).queue queue).size) where
+    may-offer : May (plan_of routes) limit past w (Answer x (reply.Queued (length t.rows + 1)))
+    may-offer = record {
+      asks = record { birth = here.birth; request = request.Offer queue discard m; at = (asking (request.Offer queue discard m) asks).at };
+      asked_is = asked-here (request.Offer queue discard m) asks;
+      fitting = refl;
+      act = (ready, below);
+      content = (ap (λ n. n + 1) (rows-many t st), room);
+    }
+
+    -- the copy is the exchange that the entry makes
+    copy-made : births (plan_of routes) ((record { worker = w; kind = Answer x (reply.Queued (length t.rows + 1)) }) ∷ past)
+        ≡ births (plan_of routes) past ++ copy_birth routes (length t.rows + 1) queue (hops_by r.born r.birth) m ∷ []
+    copy-made =
+        let s = plan_of routes in
+        let e : Entry = record { worker = w; kind = Answer x (reply.Queued (length t.rows + 1)) } in
+        let hops : hops_by r.born r.birth ≡ here.birth.hops = hops-told r.born r.birth here.birth here.stands.born (subst (λ (v : Bool). Keeps r.born v here.birth r.birth) (ap state_live asks) here.stands.kept) in
+        births-more s e past
+        ∙ (ap (λ o. births s past ++ made_by s (story s past) past o (reply.Queued (length t.rows + 1))) (asked-here (request.Offer queue discard m) asks)
+        ∙ rw (hops, rows-many t st) refl)
+
+    copy-row : KeepsRules (plan_of routes) workers limit ((record { worker = w; kind = Answer x (reply.Queued (length t.rows + 1)) }) ∷ past)
+        → RowStands routes ((record { worker = w; kind = Answer x (reply.Queued (length t.rows + 1)) }) ∷ past) (copy_birth routes (length t.rows + 1) queue (hops_by r.born r.birth) m)
+        (copy_row queue (copy_birth routes (length t.rows + 1) queue (hops_by r.born r.birth) m))
+    copy-row legal =
+        let e : Entry = record { worker = w; kind = Answer x (reply.Queued (length t.rows + 1)) } in
+        let hops : hops_by r.born r.birth ≡ here.birth.hops = hops-told r.born r.birth here.birth here.stands.born (subst (λ (v : Bool). Keeps r.born v here.birth r.birth) (ap state_live asks) here.stands.kept) in
+        let many = rows-many t st in
+        record {
+          born = refl;
+          kept = refl;
+          hops = omega (arith, hops, here.stands.hops, turns-more e past);
+          stands = record { queue = queue; origin = refl; none = newborn-own (plan_of routes) workers limit e past (length t.rows + 1) legal (omega (arith, many)) };
+        }
+
+    pub stands-queued : (queues : List QueueView) → ((limits : List (ℕ × ℕ)) (calls : List Call) → seda.Stands limits calls t.queues → seda.Stands limits (Offered queue (length t.rows + 1) ∷ calls) queues)
+        → Stands routes workers limit ((record { worker = w; kind = Answer x (reply.Queued (length t.rows + 1)) }) ∷ past)
+        (record t {
+          rows = put_at t.rows (x - 1) (answered (length past) r) ++ (copy_row queue (copy_birth routes (length t.rows + 1) queue (hops_by r.born r.birth) m)) ∷ [];
+          turns = t.turns + 1;
+          live = t.live + 1;
+          queues = queues;
+        })
+    stands-queued queues offers =
+        let s = plan_of routes in
+        let q : Request = request.Offer queue discard m in
+        let a : Reply = reply.Queued (length t.rows + 1) in
+        let e : Entry = record { worker = w; kind = Answer x a } in
+        let new : Row = answered (length past) r in
+        let copy : Row = copy_row queue (copy_birth routes (length t.rows + 1) queue (hops_by r.born r.birth) m) in
+        let legal = legal-add s workers limit e past st.legal lw may-offer in
+        let now = answered-state (length past) r c q asks in
+        let l : row_live new ≡ true = ap state_live now in
+        let h' : row_held new ≡ false = ap state_held now in
+        let only : (y : ℕ) → y ≢ x → concerns y (Answer x a) ≡ false = λ y ne. not-same y x ne in
+        let suc_is : 1 + (x - 1) ≡ suc (x - 1) = omega arith in
+        let old = related-set (RowStands routes past) (RowStands routes (e ∷ past)) 1 (births s past) t.rows (x - 1) new (births-numbered s past)
+        (λ b d ne h. row-other routes e past b d (only b.number (λ y. ne (y ∙ (sym above ∙ sym suc_is)))) h)
+        (λ b b_at.
+        row-on routes e past b r new (related-at (RowStands routes past) (births s past) t.rows (x - 1) b r st.rows b_at row) refl refl (was-live q asks ∙ sym l)
+        (rw now (has-it q a asks tt tt refl b b_at (related-at (RowStands routes past) (births s past) t.rows (x - 1) b r st.rows b_at row)))) st.rows in
+        record {
+          legal = legal;
+          simple = (st.simple, tt);
+          rows = rw copy-made (related-push (RowStands routes (e ∷ past)) (births s past) (put_at t.rows (x - 1) new) _ copy old (copy-row legal.entries));
+          ready = st.ready ∙ (sym (numbers-stay row_ready 1 t.rows (x - 1) r new row (still-ready q asks ∙ sym (ap state_ready now))) ∙ sym (push-none row_ready (put_at t.rows (x - 1) new) copy refl));
+          sources = sources-same s e past t.sources (λ u. source-after w u (Answer x a) past) st.sources;
+          turns = ap (λ n. n + 1) st.turns ∙ sym (turns-more e past);
+          fault = st.fault ∙ sym (fault-none e past refl);
+          notes = st.notes ∙ sym (notes-more s e past ∙ (rw (asked-here q asks) (append-nil (notes s past))));
+          taken = let k = count-set row_held t.rows (x - 1) r new row in let p = count-push row_held (put_at t.rows (x - 1) new) copy in let g = ap bit (not-held q asks) in let g' = ap bit h' in omega (arith, k, p, g, g', st.taken);
+          pulled = st.pulled ∙ sym (pulls-same s e past (λ u was. refl));
+          live = let k = count-set row_live t.rows (x - 1) r new row in let p = count-push row_live (put_at t.rows (x - 1) new) copy in let g = ap bit (was-live q asks) in let g' = ap bit l in omega (arith, k, p, g, g', st.live);
+          queues = queues-offered routes workers limit w x (length t.rows + 1) past (record { birth = here.birth; request = q; at = (asking q asks).at }) queue discard m t.queues queues legal.entries (asked-here q asks) refl offers st.queues;
+        }
 
   -- it ends
-  pub stands-finish : (e : End) (m : Message) → state_of r ≡ state.Asks c (request.Finish e m false) → IsBelow (plan_of routes) limit past
-      → Stands routes workers limit ((record { worker = w; kind = Answer x reply.Finished }) ∷ past)
-      (record t { rows = put_at t.rows (x - 1) (finished e r); ready = without x t.ready; turns = t.turns + 1; live = t.live - 1 })
-  stands-finish e m asks below =
-      let q : Request = request.Finish e m false in
-      let s = plan_of routes in
-      let now = ended-state e r in
-      let number : 1 + (x - 1) ≡ x = omega (arith, above) in
-      let none : notes_in s past w (Answer x reply.Finished) ≡ [] = rw (asked-here q asks) refl in
-      let b : row_held (finished e r) ≡ false = ap state_held now in
-      let l : row_live (finished e r) ≡ false = ap state_live now in
-      let some = ap bit (was-live q asks) in
-      rw (none, append-nil t.notes) at
-      (stands-one routes workers limit past t w x (x - 1) (Answer x reply.Finished) r (finished e r) (without x t.ready) t.taken (t.live - 1) st lw
-      (record { asks = record { birth = here.birth; request = q; at = (asking q asks).at }; asked_is = asked-here q asks; fitting = refl; act = (ready, below); content = tt })
-      (of-answer w x reply.Finished tt) above row
-      (λ d d_at h. record {
-        born = born-stays s (record { worker = w; kind = Answer x reply.Finished }) past r.born d h.born;
-        stands = rw now (subst (λ (n : ℕ). HasEnded routes ((record { worker = w; kind = Answer n reply.Finished }) ∷ past) d (closing_of e)) (number-of d d_at) (has-finished routes past w d c e m false None (rw asks at h.stands)));
-      })
-      (ap (without x) st.ready ∙ sym (rw number at (numbers-leave row_ready 1 t.rows (x - 1) (finished e r) (ap state_ready now))))
-      (rw (not-held q asks, b) refl) (let n = live-counts q asks in rw (was-live q asks, l) (omega (arith, n))))
+  module _ (e : End) (m : Message) (asks : state_of r ≡ state.Asks c (request.Finish e m false)) where
+    now-ended : state_of (finished e r) ≡ state.Ended (closing_of e)
+    now-ended = ended-state e r
+
+    has-done : (d : Birth) → slice_get (births (plan_of routes) past) (x - 1) ≡ Some d → RowStands routes past d r → HasEnded routes ((record { worker = w; kind = Answer x reply.Finished }) ∷ past) d (closing_of e)
+    has-done d d_at h =
+        subst (λ (n : ℕ). HasEnded routes ((record { worker = w; kind = Answer n reply.Finished }) ∷ past) d (closing_of e)) (number-of d d_at)
+        (has-finished routes past w d c e m false None (rw asks at h.stands))
+
+    may-finish : IsBelow (plan_of routes) limit past → May (plan_of routes) limit past w (Answer x reply.Finished)
+    may-finish below = record {
+      asks = record { birth = here.birth; request = request.Finish e m false; at = (asking (request.Finish e m false) asks).at };
+      asked_is = asked-here (request.Finish e m false) asks;
+      fitting = refl;
+      act = (ready, below);
+      content = tt;
+    }
+
+    done-some : is_some (ended (plan_of routes) ((record { worker = w; kind = Answer x reply.Finished }) ∷ past) x) ≡ true
+    done-some =
+        let at : slice_get (births (plan_of routes) past) (x - 1) ≡ Some here.birth = subst (λ (n : ℕ). numbered (births (plan_of routes) past) n ≡ Some here.birth) (sym above) here.at in
+        let h = has-done here.birth at here.stands in
+        ends-some (plan_of routes) (record { worker = w; kind = Answer x reply.Finished }) past x here.birth (closed_end here.birth (closing_of e)) h.message here.at h.ends
+
+    -- where it came through a queue, it is at work on it
+    pub finish-leaves : IsBelow (plan_of routes) limit past → MayLeave r.born t.queues
+    finish-leaves below =
+        let legal = legal-add (plan_of routes) workers limit (record { worker = w; kind = Answer x reply.Finished }) past st.legal lw (may-finish below) in
+        may-leave workers limit w x (Answer x reply.Finished) here.birth t.queues (leaving-answer x reply.Finished refl) legal.entries here.at done-some st.queues r.born here.stands.born
+
+    pub stands-finish : (queues : List QueueView) → IsBelow (plan_of routes) limit past → Leaves r.born t.queues queues
+        → Stands routes workers limit ((record { worker = w; kind = Answer x reply.Finished }) ∷ past)
+        (record t { rows = put_at t.rows (x - 1) (finished e r); ready = without x t.ready; turns = t.turns + 1; live = t.live - 1; queues = queues })
+    stands-finish queues below leaves =
+        let q : Request = request.Finish e m false in
+        let number : 1 + (x - 1) ≡ x = omega (arith, above) in
+        let none : notes_in (plan_of routes) past w (Answer x reply.Finished) ≡ [] = rw (asked-here q asks) refl in
+        let b : row_held (finished e r) ≡ false = ap state_held now-ended in
+        let l : row_live (finished e r) ≡ false = ap state_live now-ended in
+        rw (none, append-nil t.notes) at
+        (stands-one routes workers limit past t w x (x - 1) (Answer x reply.Finished) r (finished e r) (without x t.ready) t.taken (t.live - 1) queues st lw (may-finish below)
+        (of-answer w x reply.Finished tt refl) above row
+        (λ d d_at h. row-ended routes (record { worker = w; kind = Answer x reply.Finished }) past d r (finished e r) h refl l (rw now-ended (has-done d d_at h)))
+        (ap (without x) st.ready ∙ sym (rw number at (numbers-leave row_ready 1 t.rows (x - 1) (finished e r) (ap state_ready now-ended))))
+        (rw (not-held q asks, b) refl) (let n = live-counts q asks in rw (was-live q asks, l) (omega (arith, n)))
+        (λ legal. queues-ended workers limit w x (Answer x reply.Finished) here.birth t.queues (leaving-answer x reply.Finished refl) legal here.at done-some st.queues r.born queues here.stands.born leaves))
 
 -- a Ready exchange is starved
-pub stands-starve : {routes : RouteSet} {workers limit : ℕ} {past : Past} (t : Tables) (w x : ℕ) (r : Row) → Stands routes workers limit past t → w ≤ workers
-    → place (plan_of routes) past x ≡ Some place_is.Ready → slice_get t.rows (x - 1) ≡ Some r
-    → Stands routes workers limit ((record { worker = w; kind = Starve x }) ∷ past) (record t { rows = put_at t.rows (x - 1) (closed stage.Starved r); ready = without x t.ready; live = t.live - 1 })
-stands-starve {routes} {workers} {limit} {past} t w x r st lw ready row =
-    let s = plan_of routes in
-    let here = is-at t x place_is.Ready r st ready row in
-    let within = row-within t x place_is.Ready st ready in
-    let above : suc (x - 1) ≡ x = omega (arith, within.0) in
-    let number : 1 + (x - 1) ≡ x = omega (arith, within.0) in
-    let was = ready-row routes past x r here in
-    let facts = ready-facts (state_of r) was in
-    let count = count-set row_live t.rows (x - 1) r (closed stage.Starved r) row in
-    let live = ap bit facts.1 in
-    rw (append-nil t.notes, add-zero t.turns) at
-    (stands-one routes workers limit past t w x (x - 1) (Starve x) r (closed stage.Starved r) (without x t.ready) t.taken (t.live - 1) st lw (inl ready) (of-starve w x) above row
-    (λ d d_at h. record {
-      born = born-stays s (record { worker = w; kind = Starve x }) past r.born d h.born;
-      stands = subst (λ (n : ℕ). HasEnded routes ((record { worker = w; kind = Starve n }) ∷ past) d closing.Starved) (numbered-at 1 (births s past) (x - 1) d (births-numbered s past) d_at ∙ number) (has-starved routes past w d);
-    })
-    (ap (without x) st.ready ∙ sym (rw number at (numbers-leave row_ready 1 t.rows (x - 1) (closed stage.Starved r) refl)))
-    (rw facts.0 refl) (omega (arith, count, live, st.live)))
+module _ {routes : RouteSet} {workers limit : ℕ} {past : Past} (t : Tables) (w x : ℕ) (r : Row) (st : Stands routes workers limit past t) (lw : w ≤ workers)
+    (ready : place (plan_of routes) past x ≡ Some place_is.Ready) (row : slice_get t.rows (x - 1) ≡ Some r) where
+  starving : IsAt routes past x r place_is.Ready
+  starving = is-at t x place_is.Ready r st ready row
+
+  starved-some : is_some (ended (plan_of routes) ((record { worker = w; kind = Starve x }) ∷ past) x) ≡ true
+  starved-some =
+      let h = subst (λ (n : ℕ). HasEnded routes ((record { worker = w; kind = Starve n }) ∷ past) starving.birth closing.Starved) starving.number (has-starved routes past w starving.birth) in
+      ends-some (plan_of routes) (record { worker = w; kind = Starve x }) past x starving.birth (closed_end starving.birth closing.Starved) h.message starving.at h.ends
+
+  pub starve-leaves : MayLeave r.born t.queues
+  starve-leaves =
+      let legal = legal-add (plan_of routes) workers limit (record { worker = w; kind = Starve x }) past st.legal lw (inl ready) in
+      may-leave workers limit w x (Starve x) starving.birth t.queues (leaving-starve x) legal.entries starving.at starved-some st.queues r.born starving.stands.born
+
+  pub stands-starve : (queues : List QueueView) → Leaves r.born t.queues queues
+      → Stands routes workers limit ((record { worker = w; kind = Starve x }) ∷ past) (record t { rows = put_at t.rows (x - 1) (closed stage.Starved r); ready = without x t.ready; live = t.live - 1; queues = queues })
+  stands-starve queues leaves =
+      let s = plan_of routes in
+      let within = row-within t x place_is.Ready st ready in
+      let above : suc (x - 1) ≡ x = omega (arith, within.0) in
+      let number : 1 + (x - 1) ≡ x = omega (arith, within.0) in
+      let was = ready-row routes past x r starving in
+      let facts = ready-facts (state_of r) was in
+      let count = count-set row_live t.rows (x - 1) r (closed stage.Starved r) row in
+      let live = ap bit facts.1 in
+      rw (append-nil t.notes, add-zero t.turns) at
+      (stands-one routes workers limit past t w x (x - 1) (Starve x) r (closed stage.Starved r) (without x t.ready) t.taken (t.live - 1) queues st lw (inl ready) (of-starve w x) above row
+      (λ d d_at h.
+      row-ended routes (record { worker = w; kind = Starve x }) past d r (closed stage.Starved r) h refl refl
+      (subst (λ (n : ℕ). HasEnded routes ((record { worker = w; kind = Starve n }) ∷ past) d closing.Starved) (numbered-at 1 (births s past) (x - 1) d (births-numbered s past) d_at ∙ number) (has-starved routes past w d)))
+      (ap (without x) st.ready ∙ sym (rw number at (numbers-leave row_ready 1 t.rows (x - 1) (closed stage.Starved r) refl)))
+      (rw facts.0 refl) (omega (arith, count, live, st.live))
+      (λ legal. queues-ended workers limit w x (Starve x) starving.birth t.queues (leaving-starve x) legal starving.at starved-some st.queues r.born queues starving.stands.born leaves))

@@ -6,12 +6,12 @@ use Rattle.eip_route.specs.declared.route.RouteSet.{RouteSet}
 use Rattle.eip_frames.specs.declared.answer.Answer.{Answer as Reply}
 use Rattle.eip_ledger.specs.declared.entry.Entry.{Entry}
 use Rattle.eip_ledger.specs.declared.entry.Kind.{Kind}
-use Rattle.eip_ledger.specs.declared.entry.Kind.TheVariants.{Take, Answer, Starve}
+use Rattle.eip_ledger.specs.declared.entry.Kind.TheVariants.{Start, Take, Answer, Starve}
 use Rattle.eip_ledger.specs.declared.place.Note.{Note}
 use Rattle.eip_history.specs.Plan.{Plan}
 use Rattle.eip_history.specs.Own.{Past, concerns, moved, turns_in, SourceState, source_state}
 use Rattle.eip_history.specs.Births.{births}
-use Rattle.eip_history.specs.Rules.{May, Served, served_in}
+use Rattle.eip_history.specs.Rules.{KeepsRules, May, Served, served_in}
 use Rattle.eip_history.specs.Stop.{fault_in}
 use Rattle.eip_history.specs.Tables.{bit}
 use Rattle.eip_history.specs.Texts.{note_for}
@@ -21,9 +21,11 @@ use Rattle.eip_history.proofs.Main.{legal-add}
 use Rattle.eip_history.proofs.Told.{births-numbered}
 use Rattle.eip_plan.specs.Plan.{plan_of}
 use Rattle.eip_plan.specs.Simple.{IsSimpleAnswer, IsSimpleEntry, AnswersSimply}
-use Rattle.eip_plan.proofs.Items.{item_births}
+use Rattle.eip_plan.proofs.Items.{simple_births, is_queued, unqueued-births}
+use Rattle.eip_seda.specs.Consuming.{QueueView}
 use Rattle.eip_tables.specs.declared.row.Row.{Row}
 use Rattle.eip_tables.specs.Numbers.{row_numbers}
+use Rattle.eip_tables.specs.Queues.{QueuesStand}
 use Rattle.eip_tables.specs.Rows.{RowStands, row_ready, row_held, row_live}
 use Rattle.eip_tables.specs.Stands.{Tables, Stands}
 use Rattle.eip_table_laws.proofs.RowNumbers.{numbers-stay, count-set}
@@ -36,13 +38,16 @@ pub record IsOfOne (w x : ℕ) (k : Kind) : Type 0 where
   pub unmoved : (u : ℕ) (was : SourceState) → moved w u k was ≡ was
   pub no_fault : fault_in k ≡ None
   pub simple : IsSimpleEntry k
-  pub no_birth : (s : Plan) (past : Past) → item_births s past k ≡ []
+  pub no_birth : (s : Plan) (past : Past) → simple_births s past k ≡ []
 
 pub of-take : (w x : ℕ) → IsOfOne w x (Take x)
 of-take w x = record { only = λ y ne. not-same y x ne; unmoved = λ u was. refl; no_fault = refl; simple = tt; no_birth = λ s past. refl }
 
-pub of-answer : (w x : ℕ) (a : Reply) → IsSimpleAnswer a → IsOfOne w x (Answer x a)
-of-answer w x a i = record { only = λ y ne. not-same y x ne; unmoved = λ u was. refl; no_fault = refl; simple = i; no_birth = λ s past. refl }
+pub of-answer : (w x : ℕ) (a : Reply) → IsSimpleAnswer a → is_queued a ≡ false → IsOfOne w x (Answer x a)
+of-answer w x a i n = record { only = λ y ne. not-same y x ne; unmoved = λ u was. refl; no_fault = refl; simple = i; no_birth = λ s past. unqueued-births s past x a n }
+
+pub of-start : (w q x : ℕ) → IsOfOne w x (Start q x)
+of-start w q x = record { only = λ y ne. not-same y x ne; unmoved = λ u was. refl; no_fault = refl; simple = tt; no_birth = λ s past. refl }
 
 pub of-starve : (w x : ℕ) → IsOfOne w x (Starve x)
 of-starve w x = record { only = λ y ne. not-same y x ne; unmoved = λ u was. refl; no_fault = refl; simple = tt; no_birth = λ s past. refl }
@@ -52,14 +57,15 @@ abbrev pub notes_in : Plan → Past → ℕ → Kind → List Note
 notes_in s past w k = filter_map (λ (v : Served). note_for v.asked.birth.number v.asked.request v.answer) (served_in s past w k)
 
 -- the tables behind an entry of the exchange at i; its row, and the Ready numbers and counts that follow from it, are told
-pub stands-one : (set : RouteSet) (workers limit : ℕ) (past : Past) (t : Tables) (w x i : ℕ) (k : Kind) (old new : Row) (ready : List ℕ) (taken live : ℕ)
+pub stands-one : (set : RouteSet) (workers limit : ℕ) (past : Past) (t : Tables) (w x i : ℕ) (k : Kind) (old new : Row) (ready : List ℕ) (taken live : ℕ) (queues : List QueueView)
     → Stands set workers limit past t → w ≤ workers → May (plan_of set) limit past w k → IsOfOne w x k → suc i ≡ x
     → slice_get t.rows i ≡ Some old
     → ((b : Birth) → slice_get (births (plan_of set) past) i ≡ Some b → RowStands set past b old → RowStands set ((record { worker = w; kind = k }) ∷ past) b new)
     → ready ≡ row_numbers row_ready 1 (put_at t.rows i new) → taken + bit (row_held old) ≡ t.taken + bit (row_held new) → live + bit (row_live old) ≡ t.live + bit (row_live new)
+    → (KeepsRules (plan_of set) workers limit ((record { worker = w; kind = k }) ∷ past) → QueuesStand set ((record { worker = w; kind = k }) ∷ past) queues)
     → Stands set workers limit ((record { worker = w; kind = k }) ∷ past)
-    (record t { rows = put_at t.rows i new; ready = ready; turns = t.turns + turns_in k; notes = t.notes ++ notes_in (plan_of set) past w k; taken = taken; live = live })
-stands-one routes workers limit past t w x i k old new ready taken live st lw may of x_is at here ready_is taken_is live_is =
+    (record t { rows = put_at t.rows i new; ready = ready; turns = t.turns + turns_in k; notes = t.notes ++ notes_in (plan_of set) past w k; taken = taken; live = live; queues = queues })
+stands-one routes workers limit past t w x i k old new ready taken live queues st lw may of x_is at here ready_is taken_is live_is queues_are =
     let e : Entry = record { worker = w; kind = k } in
     let s = plan_of routes in
     let legal = legal-add s workers limit e past st.legal lw may in
@@ -80,6 +86,7 @@ stands-one routes workers limit past t w x i k old new ready taken live st lw ma
       taken = let c = count-set row_held t.rows i old new at in omega (arith, c, taken_is, st.taken);
       pulled = st.pulled ∙ sym (pulls-same s e past of.unmoved);
       live = let c = count-set row_live t.rows i old new at in omega (arith, c, live_is, st.live);
+      queues = queues_are legal.entries;
     }
 
 -- a look at the exchange at i, which leaves its place: no entry comes
@@ -101,4 +108,5 @@ stands-look routes workers limit past t i old new st at here ready held live =
       taken = let c = count-set row_held t.rows i old new at in let h = ap bit held in omega (arith, c, h, st.taken);
       pulled = st.pulled;
       live = let c = count-set row_live t.rows i old new at in let h = ap bit live in omega (arith, c, h, st.live);
+      queues = st.queues;
     }

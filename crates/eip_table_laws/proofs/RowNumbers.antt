@@ -1,6 +1,7 @@
 -- How the numbers and the counts of rows change where one row changes.
 use Rattle.std.proofs.Common.{◌≡◌, ℕ, zero, suc, ◌+◌, ◌<◌, ◌≤◌, Bool, true, false, cond, List, [], ◌∷◌, ◌++◌, length, set, filter, map, Some, refl, sym, ap, ◌∙◌, arith, eq-eqb}
 use Rattle.std.specs.List.{slice_get}
+use Rattle.std.proofs.lemmas.List.{append-nil}
 use Rattle.std.proofs.lemmas.Bool.{cases_Bool, ne_eqb, lt-ltb, ltb-true}
 use Rattle.std.proofs.Common.{inl, inr, nat_lt}
 use Rattle.eip_exchange.specs.declared.birth.Birth.{Birth}
@@ -125,3 +126,7 @@ count-set p (x ∷ rs) zero old new at =
 count-set p (x ∷ rs) (suc i) old new at =
     let ih = count-set p rs i old new at in
     elim (p x) as (λ v. length (cond v (x ∷ filter p (set rs i new)) (filter p (set rs i new))) + bit (p old) ≡ length (cond v (x ∷ filter p rs) (filter p rs)) + bit (p new)) [ true ↦ omega (arith, ih) | false ↦ ih ]
+
+-- a row that doesn't pass comes behind the others
+pub push-none : {R : Type 0} (p : R → Bool) (rs : List R) (new : R) → p new ≡ false → row_numbers p 1 (rs ++ new ∷ []) ≡ row_numbers p 1 rs
+push-none p rs new gone = numbers-push p 1 rs new ∙ rw gone (append-nil (row_numbers p 1 rs))

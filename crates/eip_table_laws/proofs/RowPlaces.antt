@@ -1,8 +1,9 @@
 -- Where an exchange stands by its row, and what an entry of another one leaves of it.
-use Rattle.std.proofs.Common.{◌≡◌, ℕ, zero, suc, ◌+◌, Bool, false, not, List, [], ◌∷◌, ◌++◌, length, reverse, Option, Some, None, refl, sym, ap, ◌∙◌, arith}
+use Rattle.std.proofs.Common.{◌≡◌, ℕ, zero, suc, ◌+◌, ◌≤◌, ◌||◌, Bool, true, false, not, List, [], ◌∷◌, ◌++◌, length, reverse, Option, Some, None, refl, sym, ap, subst, ◌∙◌, arith}
 use Rattle.std.specs.List.{slice_get}
 use Rattle.std.proofs.lemmas.List.{append-nil, reverse-append, length-reverse}
 use Rattle.eip_exchange.specs.declared.birth.Birth.{Birth}
+use Rattle.eip_exchange.specs.declared.birth.Origin.{Origin}
 use Rattle.eip_exchange.specs.declared.birth.Origin.TheVariants as from
 use Rattle.eip_exchange.specs.declared.message.Message.{Message}
 use Rattle.eip_route.specs.declared.route.RouteSet.{RouteSet}
@@ -17,18 +18,21 @@ use Rattle.eip_meaning.specs.Meaning.{mean}
 use Rattle.eip_progress.specs.declared.cursor.Cursor.{Cursor}
 use Rattle.eip_progress.specs.Rest.{rest}
 use Rattle.eip_history.specs.Plan.{Plan}
-use Rattle.eip_history.specs.Own.{Past, own, concerns, answers, starved, taker, last_answer, clock}
+use Rattle.eip_history.specs.Own.{Past, own, concerns, answers, starved, started, taker, last_answer, clock, turns}
 use Rattle.eip_history.specs.Births.{fate}
-use Rattle.eip_history.specs.Place.{place_of, place_by, pause_of, Runs, end_of, in_hand, is_ready, is_held, is_ended, is_taken, all_ended}
+use Rattle.eip_history.specs.Place.{place_of, place_by, pause_of, Runs, end_of, in_hand, queued, is_ready, is_held, is_ended, is_taken, all_ended}
 use Rattle.eip_meaning.proofs.Laws.{starts}
+use Rattle.eip_history.proofs.Limit.{turns-more}
 use Rattle.eip_history.proofs.Unborn.{slice-right}
 use Rattle.eip_history.proofs.Told.{own-other}
 use Rattle.eip_history.proofs.Places.{fate-other}
 use Rattle.eip_plan.specs.Plan.{plan_of}
 use Rattle.eip_tables.specs.State.{State, state_of}
 use Rattle.eip_tables.specs.State as state
+use Rattle.eip_tables.specs.declared.row.Born.{Born}
+use Rattle.eip_tables.specs.declared.row.Born.TheVariants as made
 use Rattle.eip_tables.specs.declared.row.Row.{Row}
-use Rattle.eip_tables.specs.Rows.{entry_at, IsBornAt, Follows, IsAsking, StateStands, RowStands, closed_end, row_ready, row_held, row_live, state_ready, state_held, state_live}
+use Rattle.eip_tables.specs.Rows.{entry_at, IsBornAt, ComesFrom, Keeps, has_left, Follows, IsAsking, StateStands, RowStands, closed_end, row_ready, row_held, row_live, state_ready, state_held, state_live}
 
 -- the meaning of a set is that of its plan
 pub plan-mean : (set : RouteSet) (b : Birth) (given : List Reply) → (plan_of set).mean b given ≡ mean set b given
@@ -49,32 +53,57 @@ fate-follows set past b c more t f =
 pub fate-asks : (set : RouteSet) (past : Past) (b : Birth) (c : Cursor) (q : Request) (t : Option ℕ) (a : IsAsking set past b c q t) → fate (plan_of set) past b ≡ AsksNext q a.at
 fate-asks set past b c q t a = fate-follows set past b c [] t a.follows ∙ a.asks
 
-place-by-runs : (now : ℕ) (all : ℕ → ℕ → Bool) (b : Birth) (o : Past) (f : Fate) (t : Option ℕ) (r : ℕ) (i : List ℕ) → b.origin ≡ from.Source r i → end_of f ≡ None → taker o ≡ t → pause_of (last_answer o) ≡ Runs
+-- who has left its queue stands where it would stand without one
+left-queued : (o : Origin) (v : Bool) (p : Place) → has_left o v ≡ true → queued o v p ≡ p
+left-queued (from.Queue q) true p h = refl
+left-queued (from.Queue q) false p h = absurd (cc h)
+left-queued (from.Source r i) v p h = refl
+left-queued (from.Part x i) v p h = refl
+left-queued (from.Group g) v p h = refl
+
+-- and has left it behind each later entry
+pub left-more : (o : Origin) (w v : Bool) → has_left o v ≡ true → has_left o (w || v) ≡ true
+left-more (from.Queue q) true v h = refl
+left-more (from.Queue q) false v h = h
+left-more (from.Source r i) w v h = refl
+left-more (from.Part x i) w v h = refl
+left-more (from.Group g) w v h = refl
+
+place-by-runs : (now : ℕ) (all : ℕ → ℕ → Bool) (b : Birth) (o : Past) (f : Fate) (t : Option ℕ) → has_left b.origin (started o) ≡ true → end_of f ≡ None → taker o ≡ t → pause_of (last_answer o) ≡ Runs
     → place_by now all b o f ≡ in_hand t place_is.Ready
-place-by-runs now all b o (Ends e m) t r i origin live taken runs = absurd (cc live)
-place-by-runs now all b o (AsksNext q p) t r i origin live taken runs = rw (origin, taken, runs) refl
-place-by-runs now all b o Strays t r i origin live taken runs = rw (origin, taken, runs) refl
+place-by-runs now all b o (Ends e m) t left live taken runs = absurd (cc live)
+place-by-runs now all b o (AsksNext q p) t left live taken runs = left-queued b.origin (started o) _ left ∙ rw (taken, runs) refl
+place-by-runs now all b o Strays t left live taken runs = left-queued b.origin (started o) _ left ∙ rw (taken, runs) refl
 
 pub born-origin : (s : Plan) (past : Past) (i : ℕ) (b : Birth) (h : IsBornAt s past i b) → b.origin ≡ from.Source h.source h.item
 born-origin s past i b h = ap (λ (d : Birth). d.origin) h.birth
 
--- a live exchange of an item is in hand or ready
-pub place-runs : (s : Plan) (past : Past) (i : ℕ) (b : Birth) (t : Option ℕ) → IsBornAt s past i b → end_of (fate s past b) ≡ None → taker (own b.number past) ≡ t → pause_of (last_answer (own b.number past)) ≡ Runs
+-- a live exchange that has left its queue is in hand or ready
+pub place-runs : (s : Plan) (past : Past) (b : Birth) (t : Option ℕ) → has_left b.origin (started (own b.number past)) ≡ true → end_of (fate s past b) ≡ None → taker (own b.number past) ≡ t → pause_of (last_answer (own b.number past)) ≡ Runs
     → place_of s past b ≡ in_hand t place_is.Ready
 unfolding place_of
-place-runs s past i b t born live taken runs =
-    place-by-runs (clock past) (all_ended s past) b (own b.number past) (fate s past b) t born.source born.item (born-origin s past i b born) live taken runs
+place-runs s past b t left live taken runs = place-by-runs (clock past) (all_ended s past) b (own b.number past) (fate s past b) t left live taken runs
+
+place-by-waits : (now : ℕ) (all : ℕ → ℕ → Bool) (b : Birth) (o : Past) (f : Fate) (q : ℕ) → b.origin ≡ from.Queue q → o ≡ [] → end_of f ≡ None → place_by now all b o f ≡ place_is.Queue q
+place-by-waits now all b o (Ends e m) q origin none live = absurd (cc live)
+place-by-waits now all b o (AsksNext r p) q origin none live = rw (origin, none) refl
+place-by-waits now all b o Strays q origin none live = rw (origin, none) refl
+
+-- a copy that has no entry of its own waits in its queue
+place-waits : (s : Plan) (past : Past) (b : Birth) (q : ℕ) → b.origin ≡ from.Queue q → own b.number past ≡ [] → end_of (fate s past b) ≡ None → place_of s past b ≡ place_is.Queue q
+unfolding place_of
+place-waits s past b q origin none live = place-by-waits (clock past) (all_ended s past) b (own b.number past) (fate s past b) q origin none live
 
 place-ends : (s : Plan) (past : Past) (b : Birth) (e : _) (m : Message) → fate s past b ≡ Ends e m → place_of s past b ≡ place_is.Ended e
 unfolding place_of
 place-ends s past b e m h = rw h refl
 
-new-fate : (set : RouteSet) (past : Past) (b : Birth) → own b.number past ≡ [] → fate (plan_of set) past b ≡ mean set b []
-unfolding fate plan_of
-new-fate set past b h = rw h refl
+silent-fate : (set : RouteSet) (past : Past) (b : Birth) → starved (own b.number past) ≡ false → answers (own b.number past) ≡ [] → fate (plan_of set) past b ≡ mean set b []
+silent-fate set past b fed h = fate-fed set past b fed ∙ ap (mean set b) h
 
 -- the place that a state stands for
 abbrev pub Placed : Birth → State → Place → Type 0
+Placed b state.Queued p = (q : ℕ) × (b.origin ≡ from.Queue q) × (p ≡ place_is.Queue q)
 Placed b state.New p = p ≡ place_is.Ready
 Placed b (state.Asks c q) p = p ≡ place_is.Ready
 Placed b (state.Held c w) p = p ≡ place_is.InHand w
@@ -94,18 +123,21 @@ no-end set b Strays h = refl
 pub lives-first : (set : RouteSet) (b : Birth) → end_of (mean set b []) ≡ None
 lives-first set b = no-end set b (mean set b []) refl
 
-pub state-place : (set : RouteSet) (past : Past) (i : ℕ) (b : Birth) (st : State) → IsBornAt (plan_of set) past i b → StateStands set past b st → Placed b st (place_of (plan_of set) past b)
-state-place set past i b state.New born o =
-    place-runs (plan_of set) past i b None born (ap end_of (new-fate set past b o) ∙ lives-first set b) (rw o refl) (rw o refl)
-state-place set past i b (state.Asks c q) born a =
-    place-runs (plan_of set) past i b None born (asks-live _ q a.at (fate-asks set past b c q None a)) a.follows.taken a.follows.runs
-state-place set past i b (state.Held c w) born h =
-    place-runs (plan_of set) past i b (Some w) born (asks-live _ h.0 h.1.at (fate-asks set past b c h.0 (Some w) h.1)) h.1.follows.taken h.1.follows.runs
-state-place set past i b (state.Answered c j) born h = place-runs (plan_of set) past i b None born h.lives h.follows.taken h.follows.runs
-state-place set past i b (state.Ended c) born h = place-ends (plan_of set) past b (closed_end b c) h.message h.ends
-state-place set past i b state.Broken born h = h
+pub state-place : (set : RouteSet) (past : Past) (b : Birth) (st : State) → StateStands set past b st → Placed b st (place_of (plan_of set) past b)
+state-place set past b state.Queued h =
+    (h.queue, h.origin, place-waits (plan_of set) past b h.queue h.origin h.none (ap end_of (silent-fate set past b (rw h.none refl) (rw h.none refl)) ∙ lives-first set b))
+state-place set past b state.New h =
+    place-runs (plan_of set) past b None h.left (ap end_of (silent-fate set past b h.fed h.silent) ∙ lives-first set b) h.taken h.runs
+state-place set past b (state.Asks c q) a =
+    place-runs (plan_of set) past b None a.follows.left (asks-live _ q a.at (fate-asks set past b c q None a)) a.follows.taken a.follows.runs
+state-place set past b (state.Held c w) h =
+    place-runs (plan_of set) past b (Some w) h.1.follows.left (asks-live _ h.0 h.1.at (fate-asks set past b c h.0 (Some w) h.1)) h.1.follows.taken h.1.follows.runs
+state-place set past b (state.Answered c j) h = place-runs (plan_of set) past b None h.follows.left h.lives h.follows.taken h.follows.runs
+state-place set past b (state.Ended c) h = place-ends (plan_of set) past b (closed_end b c) h.message h.ends
+state-place set past b state.Broken h = h
 
 placed-ready : (b : Birth) (st : State) (p : Place) → Placed b st p → is_ready p ≡ state_ready st
+placed-ready b state.Queued p h = ap is_ready h.2
 placed-ready b state.New p h = ap is_ready h
 placed-ready b (state.Asks c q) p h = ap is_ready h
 placed-ready b (state.Held c w) p h = ap is_ready h
@@ -114,6 +146,7 @@ placed-ready b (state.Ended c) p h = ap is_ready h
 placed-ready b state.Broken p h = absurd h
 
 placed-live : (b : Birth) (st : State) (p : Place) → Placed b st p → not (is_ended p) ≡ state_live st
+placed-live b state.Queued p h = ap (λ p. not (is_ended p)) h.2
 placed-live b state.New p h = ap (λ p. not (is_ended p)) h
 placed-live b (state.Asks c q) p h = ap (λ p. not (is_ended p)) h
 placed-live b (state.Held c w) p h = ap (λ p. not (is_ended p)) h
@@ -122,6 +155,7 @@ placed-live b (state.Ended c) p h = ap (λ p. not (is_ended p)) h
 placed-live b state.Broken p h = absurd h
 
 placed-held : (b : Birth) (st : State) (p : Place) → Placed b st p → is_held p ≡ state_held st
+placed-held b state.Queued p h = ap is_held h.2
 placed-held b state.New p h = ap is_held h
 placed-held b (state.Asks c q) p h = ap is_held h
 placed-held b (state.Held c w) p h = ap is_held h
@@ -130,7 +164,8 @@ placed-held b (state.Ended c) p h = ap is_held h
 placed-held b state.Broken p h = absurd h
 
 state-taken : (set : RouteSet) (past : Past) (b : Birth) (st : State) → StateStands set past b st → is_taken past b ≡ state_held st
-state-taken set past b state.New o = rw o refl
+state-taken set past b state.Queued h = rw h.none refl
+state-taken set past b state.New h = rw h.taken refl
 state-taken set past b (state.Asks c q) a = rw a.follows.taken refl
 state-taken set past b (state.Held c w) h = rw h.1.follows.taken refl
 state-taken set past b (state.Answered c i) h = rw h.follows.taken refl
@@ -140,7 +175,7 @@ state-taken set past b state.Broken h = absurd h
 -- the tests of a row are those of its exchange's place
 module _ (set : RouteSet) (past : Past) (b : Birth) (r : Row) (h : RowStands set past b r) where
   pub row-place : Placed b (state_of r) (place_of (plan_of set) past b)
-  row-place = state-place set past r.born b (state_of r) h.born h.stands
+  row-place = state-place set past b (state_of r) h.stands
 
   pub row-is_ready : is_ready (place_of (plan_of set) past b) ≡ row_ready r
   row-is_ready = placed-ready b (state_of r) _ row-place
@@ -177,13 +212,18 @@ pub born-stays : (s : Plan) (e : Entry) (past : Past) (i : ℕ) (b : Birth) → 
 born-stays s e past i b h = record { worker = h.worker; source = h.source; item = h.item; message = h.message; entry = entry-stays e past i _ h.entry; birth = h.birth }
 
 follows-other : (set : RouteSet) (e : Entry) (past : Past) (b : Birth) (c : Cursor) (more : List Reply) (t : Option ℕ) → concerns b.number e.kind ≡ false → Follows set past b c more t → Follows set (e ∷ past) b c more t
-follows-other set e past b c more t n f = let o = own-other b.number e past n in record { later = f.later; fed = rw o f.fed; taken = rw o f.taken; runs = rw o f.runs; rests = λ A. rw o (f.rests A) }
+follows-other set e past b c more t n f =
+    let o = own-other b.number e past n in
+    record { later = f.later; fed = rw o f.fed; taken = rw o f.taken; runs = rw o f.runs; left = rw o f.left; rests = λ A. rw o (f.rests A) }
 
 asking-other : (set : RouteSet) (e : Entry) (past : Past) (b : Birth) (c : Cursor) (q : Request) (t : Option ℕ) → concerns b.number e.kind ≡ false → IsAsking set past b c q t → IsAsking set (e ∷ past) b c q t
 asking-other set e past b c q t n a = record { follows = follows-other set e past b c [] t n a.follows; at = a.at; asks = a.asks }
 
 state-other : (set : RouteSet) (e : Entry) (past : Past) (b : Birth) (st : State) → concerns b.number e.kind ≡ false → StateStands set past b st → StateStands set (e ∷ past) b st
-state-other set e past b state.New n o = own-other b.number e past n ∙ o
+state-other set e past b state.Queued n h = record { queue = h.queue; origin = h.origin; none = own-other b.number e past n ∙ h.none }
+state-other set e past b state.New n h =
+    let o = own-other b.number e past n in
+    record { fed = rw o h.fed; taken = rw o h.taken; silent = rw o h.silent; runs = rw o h.runs; left = rw o h.left }
 state-other set e past b (state.Asks c q) n a = asking-other set e past b c q None n a
 state-other set e past b (state.Held c w) n h = (h.0, asking-other set e past b c h.0 (Some w) n h.1, h.2)
 state-other set e past b (state.Answered c i) n h = record {
@@ -197,6 +237,68 @@ state-other set e past b (state.Answered c i) n h = record {
 state-other set e past b (state.Ended c) n h = record { taken = rw (own-other b.number e past n) h.taken; message = h.message; ends = fate-other (plan_of set) e past b n ∙ h.ends }
 state-other set e past b state.Broken n h = h
 
+pub comes-stays : (s : Plan) (e : Entry) (past : Past) (o : Born) (b : Birth) → ComesFrom s past o b → ComesFrom s (e ∷ past) o b
+comes-stays s e past (made.Item i) b h = born-stays s e past i b h
+comes-stays s e past (made.Copy q) b h = h
+
+pub turns-rise : (e : Entry) (past : Past) → turns past ≤ turns (e ∷ past)
+turns-rise e past = omega (arith, turns-more e past)
+
 -- an entry that doesn't concern the exchange leaves its row standing
 pub row-other : (set : RouteSet) (e : Entry) (past : Past) (b : Birth) (r : Row) → concerns b.number e.kind ≡ false → RowStands set past b r → RowStands set (e ∷ past) b r
-row-other set e past b r n h = record { born = born-stays (plan_of set) e past r.born b h.born; stands = state-other set e past b (state_of r) n h.stands }
+row-other set e past b r n h = record {
+  born = comes-stays (plan_of set) e past r.born b h.born;
+  kept = h.kept;
+  hops = omega (arith, h.hops, turns-rise e past);
+  stands = state-other set e past b (state_of r) n h.stands;
+}
+
+-- ---- a row that moves on
+
+-- what is kept of the birth of who lives on, and of who has ended
+keeps-on : (o : Born) (v w : Bool) (b : Birth) (kept : Option Birth) → v ≡ w → Keeps o v b kept → Keeps o w b kept
+keeps-on o v w b kept same k = subst (λ (u : Bool). Keeps o u b kept) same k
+
+keeps-none : (o : Born) (b : Birth) (kept : Option Birth) → Keeps o false b kept
+keeps-none (made.Item i) b kept = tt
+keeps-none (made.Copy q) b kept = tt
+
+-- a row of the same birth, which lives where the one before it did
+pub row-kept : (old new : Row) (b : Birth) → new.born ≡ old.born → new.birth ≡ old.birth → row_live old ≡ row_live new → Keeps old.born (row_live old) b old.birth → Keeps new.born (row_live new) b new.birth
+row-kept old new b born birth lives k =
+    subst (λ (o : Born). Keeps o (row_live new) b new.birth) (sym born)
+    (subst (λ (h : Option Birth). Keeps old.born (row_live new) b h) (sym birth) (keeps-on old.born (row_live old) (row_live new) b old.birth lives k))
+
+-- and one that has ended
+pub row-spent : (new : Row) (b : Birth) → row_live new ≡ false → Keeps new.born (row_live new) b new.birth
+row-spent new b ends = keeps-on new.born false (row_live new) b new.birth (sym ends) (keeps-none new.born b new.birth)
+
+-- the row behind an own entry by which its exchange lives on
+pub row-on : (set : RouteSet) (e : Entry) (past : Past) (b : Birth) (old new : Row) → RowStands set past b old → new.born ≡ old.born → new.birth ≡ old.birth → row_live old ≡ row_live new
+    → StateStands set (e ∷ past) b (state_of new) → RowStands set (e ∷ past) b new
+row-on set e past b old new h born birth lives stands = record {
+  born = subst (λ (o : Born). ComesFrom (plan_of set) (e ∷ past) o b) (sym born) (comes-stays (plan_of set) e past old.born b h.born);
+  kept = row-kept old new b born birth lives h.kept;
+  hops = omega (arith, h.hops, turns-rise e past);
+  stands = stands;
+}
+
+-- and one by which it ends
+pub row-ended : (set : RouteSet) (e : Entry) (past : Past) (b : Birth) (old new : Row) → RowStands set past b old → new.born ≡ old.born → row_live new ≡ false
+    → StateStands set (e ∷ past) b (state_of new) → RowStands set (e ∷ past) b new
+row-ended set e past b old new h born ends stands = record {
+  born = subst (λ (o : Born). ComesFrom (plan_of set) (e ∷ past) o b) (sym born) (comes-stays (plan_of set) e past old.born b h.born);
+  kept = row-spent new b ends;
+  hops = omega (arith, h.hops, turns-rise e past);
+  stands = stands;
+}
+
+-- a row that was looked at
+pub row-looked : (set : RouteSet) (past : Past) (b : Birth) (old new : Row) → RowStands set past b old → new.born ≡ old.born → new.birth ≡ old.birth → row_live old ≡ row_live new
+    → StateStands set past b (state_of new) → RowStands set past b new
+row-looked set past b old new h born birth lives stands = record {
+  born = subst (λ (o : Born). ComesFrom (plan_of set) past o b) (sym born) h.born;
+  kept = row-kept old new b born birth lives h.kept;
+  hops = h.hops;
+  stands = stands;
+}

@@ -1,7 +1,9 @@
 -- What an exchange's own entry makes of its row.
-use Rattle.std.proofs.Common.{◌≡◌, ℕ, Bool, true, false, [], ◌∷◌, ◌++◌, length, Option, Some, None, refl, sym, ap, ◌∙◌, eq-eqb, append_assoc}
+use Rattle.std.proofs.Common.{◌≡◌, ℕ, Bool, true, false, List, [], ◌∷◌, ◌++◌, length, Option, Some, None, refl, sym, ap, ◌∙◌, eq-eqb, append_assoc}
 use Rattle.std.proofs.lemmas.List.{append-nil}
 use Rattle.eip_exchange.specs.declared.birth.Birth.{Birth}
+use Rattle.eip_exchange.specs.declared.birth.Origin.{Origin}
+use Rattle.eip_exchange.specs.declared.birth.Origin.TheVariants as from
 use Rattle.eip_exchange.specs.declared.message.Message.{Message}
 use Rattle.eip_exchange.specs.declared.end.End.{End}
 use Rattle.eip_exchange.specs.declared.end.End.TheVariants as end
@@ -14,7 +16,7 @@ use Rattle.eip_frames.specs.Fate.{Fate, AsksNext, Ends, Strays}
 use Rattle.eip_frames.specs.Fits.{fits}
 use Rattle.eip_tables.specs.Look.{Stepped, CanTake}
 use Rattle.eip_ledger.specs.declared.entry.Entry.{Entry}
-use Rattle.eip_ledger.specs.declared.entry.Kind.TheVariants.{Take, Answer, Starve}
+use Rattle.eip_ledger.specs.declared.entry.Kind.TheVariants.{Start, Take, Answer, Starve}
 use Rattle.eip_meaning.specs.Meaning.{mean, is_committed}
 use Rattle.eip_meaning.proofs.Laws.{ends, finished-ends, commit_failed-ends}
 use Rattle.eip_progress.specs.declared.cursor.Cursor.{Cursor}
@@ -27,11 +29,11 @@ use Rattle.eip_plan.specs.Plan.{plan_of}
 use Rattle.eip_plan.specs.Simple.{IsSimpleAnswer}
 use Rattle.eip_tables.specs.Closing.{Closing}
 use Rattle.eip_tables.specs.Closing as closing
-use Rattle.eip_tables.specs.Rows.{Follows, IsAsking, HasAnswer, HasEnded, closed_end}
+use Rattle.eip_tables.specs.Rows.{Follows, IsAsking, IsUnasked, HasAnswer, HasEnded, closed_end, has_left}
 use Rattle.eip_table_laws.proofs.RowPlaces.{entry-new, fate-fed, fate-asks, fate-follows}
 
 -- the meaning so far of an exchange that asks
-mean-asks : (set : RouteSet) (past : Past) (b : Birth) (c : Cursor) (q : Request) (t : Option ℕ) (a : IsAsking set past b c q t) → mean set b (answers (own b.number past)) ≡ AsksNext q a.at
+pub mean-asks : (set : RouteSet) (past : Past) (b : Birth) (c : Cursor) (q : Request) (t : Option ℕ) (a : IsAsking set past b c q t) → mean set b (answers (own b.number past)) ≡ AsksNext q a.at
 mean-asks set past b c q t a = sym (fate-fed set past b a.follows.fed) ∙ fate-asks set past b c q t a
 
 -- a Take puts an exchange in hand
@@ -45,6 +47,7 @@ held-by set past w b c q a =
         fed = rw o a.follows.fed;
         taken = rw o refl;
         runs = rw o a.follows.runs;
+        left = rw o a.follows.left;
         rests = λ A. rw (o, append-nil (answers (own b.number past))) (a.follows.rests A);
       };
       at = a.at;
@@ -58,6 +61,10 @@ runs-simple reply.Exists i = refl
 runs-simple (reply.Became m) i = refl
 runs-simple (reply.Raised f) i = refl
 runs-simple (reply.Holds b) i = refl
+runs-simple (reply.Queued n) i = refl
+runs-simple (reply.Full l) i = refl
+runs-simple reply.Dropped i = refl
+runs-simple reply.Entered i = refl
 runs-simple reply.Noted i = refl
 runs-simple reply.Finished i = refl
 runs-simple reply.CommitFailed i = refl
@@ -73,6 +80,7 @@ follows-answer set past w b c a t i f =
       fed = rw o f.fed;
       taken = rw o refl;
       runs = rw o (runs-simple a i);
+      left = rw o f.left;
       rests = λ A. rw (o, append_assoc (answers (own b.number past)) (a ∷ []) A) (f.rests (a ∷ A));
     }
 
@@ -151,17 +159,29 @@ has-starved set past w b =
 -- looking at an exchange gives its cursor what it has not been given yet
 pub looked-answer : (set : RouteSet) (past : Past) (b : Birth) (c c' : Cursor) (q : Request) (a : Reply) → Follows set past b c (a ∷ []) None → Stepped set (rest set c) (a ∷ []) c' q → IsAsking set past b c' q None
 looked-answer set past b c c' q a f step = record {
-  follows = record { later = step.later; fed = f.fed; taken = f.taken; runs = f.runs; rests = λ A. step.rests A ∙ f.rests A };
+  follows = record { later = step.later; fed = f.fed; taken = f.taken; runs = f.runs; left = f.left; rests = λ A. step.rests A ∙ f.rests A };
   at = step.at;
   asks = step.asks;
 }
 
-pub looked-new : (set : RouteSet) (past : Past) (b : Birth) (c : Cursor) (q : Request) → own b.number past ≡ [] → Stepped set (mean set b) [] c q → IsAsking set past b c q None
-looked-new set past b c q o step = record {
-  follows = record { later = step.later; fed = rw o refl; taken = rw o refl; runs = rw o refl; rests = λ A. rw o (step.rests A) };
+pub looked-new : (set : RouteSet) (past : Past) (b : Birth) (c : Cursor) (q : Request) → IsUnasked past b → Stepped set (mean set b) [] c q → IsAsking set past b c q None
+looked-new set past b c q h step = record {
+  follows = record { later = step.later; fed = h.fed; taken = h.taken; runs = h.runs; left = h.left; rests = λ A. step.rests A ∙ ap (λ (given : List Reply). mean set b (given ++ A)) (sym h.silent) };
   at = step.at;
   asks = step.asks;
 }
+
+-- a copy that leaves its queue may act
+pub unasked-started : (past : Past) (w q : ℕ) (b : Birth) → own b.number past ≡ [] → IsUnasked ((record { worker = w; kind = Start q b.number }) ∷ past) b
+unasked-started past w q b none =
+    let o = own-here b.number (record { worker = w; kind = Start q b.number }) past (eq-eqb b.number b.number refl) in
+    record { fed = rw (o, none) refl; taken = rw o refl; silent = rw (o, none) refl; runs = rw (o, none) refl; left = rw o (left-started b.origin) }
+  where
+    left-started : (o : Origin) → has_left o true ≡ true
+    left-started (from.Queue r) = refl
+    left-started (from.Source r i) = refl
+    left-started (from.Part x i) = refl
+    left-started (from.Group g) = refl
 
 -- an answer that waits for its cursor may be given to it
 pub can-take : (set : RouteSet) (past : Past) (b : Birth) (c : Cursor) (i : ℕ) (h : HasAnswer set past b c i) → CanTake set h.answer c

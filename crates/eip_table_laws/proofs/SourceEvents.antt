@@ -19,6 +19,7 @@ use Rattle.eip_history.specs.Place.{pulls_out}
 use Rattle.eip_history.specs.Rules.{KeepsRules, May, Served, served, served_in}
 use Rattle.eip_history.specs.Stop.{first_fault, fault_in, or_else}
 use Rattle.eip_history.specs.Tables.{Related, bit}
+use Rattle.eip_history.specs.TableWords.{moves_waiting, moves_busy}
 use Rattle.eip_history.specs.Texts.{notes, note_for}
 use Rattle.eip_history.proofs.Lists.{related-all, related-push, related-length}
 use Rattle.eip_history.proofs.Limit.{source-after, pulls-change, turns-more, not-same}
@@ -26,7 +27,7 @@ use Rattle.eip_history.proofs.Main.{legal-add}
 use Rattle.eip_history.proofs.Unborn.{newborn-own}
 use Rattle.eip_plan.specs.Plan.{plan_of}
 use Rattle.eip_plan.specs.Simple.{IsSimpleEntry, AnswersSimply}
-use Rattle.eip_plan.proofs.Items.{item_births, births-items}
+use Rattle.eip_plan.proofs.Items.{simple_births, births-simply}
 use Rattle.eip_tables.specs.declared.row.Row.{Row}
 use Rattle.eip_tables.specs.Moves.{new_row}
 use Rattle.eip_tables.specs.declared.row.SourceState.{SourceState as Kept}
@@ -35,6 +36,7 @@ use Rattle.eip_tables.specs.Numbers.{row_numbers}
 use Rattle.eip_tables.specs.Rows.{RowStands, SourcesStand, source_row, kept_state, row_ready, row_held, row_live}
 use Rattle.eip_tables.specs.Stands.{Tables, Stands}
 use Rattle.eip_table_laws.proofs.RowNumbers.{numbers-push, count-push}
+use Rattle.eip_table_laws.proofs.QueueCalls.{queues-stay}
 use Rattle.eip_table_laws.proofs.RowPlaces.{row-other, entry-new}
 
 pub get-set-same : {A : Type 0} (xs : List A) (i : ℕ) (x : A) → i < length xs → slice_get (put_at xs i x) i ≡ Some x
@@ -86,15 +88,17 @@ fault-more e past = refl
 pub fault-none : (e : Entry) (past : Past) → fault_in e.kind ≡ None → first_fault (e ∷ past) ≡ first_fault past
 fault-none e past h = fault-more e past ∙ (ap (or_else (first_fault past)) h ∙ or_else-none (first_fault past))
 
-pub births-same : (set : RouteSet) (w limit : ℕ) (e : Entry) (past : Past) → KeepsRules (plan_of set) w limit (e ∷ past) → AnswersSimply (e ∷ past) → item_births (plan_of set) past e.kind ≡ [] → births (plan_of set) (e ∷ past) ≡ births (plan_of set) past
+pub births-same : (set : RouteSet) (w limit : ℕ) (e : Entry) (past : Past) → KeepsRules (plan_of set) w limit (e ∷ past) → AnswersSimply (e ∷ past) → simple_births (plan_of set) past e.kind ≡ [] → births (plan_of set) (e ∷ past) ≡ births (plan_of set) past
 births-same set w limit e past legal simple none =
-    births-items (plan_of set) w limit e past legal simple ∙ (ap (λ bs. births (plan_of set) past ++ bs) none ∙ append-nil (births (plan_of set) past))
+    births-simply (plan_of set) w limit e past legal simple ∙ (ap (λ bs. births (plan_of set) past ++ bs) none ∙ append-nil (births (plan_of set) past))
 
 -- an entry of a source: it concerns no exchange, and no other source, and answers no request
 pub record IsOfSource (w t : ℕ) (k : Kind) : Type 0 where
   pub nobody : (x : ℕ) → concerns x k ≡ false
   pub others : (u : ℕ) (was : SourceState) → u ≢ t → moved w u k was ≡ was
   pub simple : IsSimpleEntry k
+  pub waits : moves_waiting k ≡ false
+  pub works : moves_busy k ≡ false
 
 rows-quiet : (set : RouteSet) (e : Entry) (past : Past) (bs : List Birth) (rows : List Row) → ((x : ℕ) → concerns x e.kind ≡ false) → Related (RowStands set past) bs rows → Related (RowStands set (e ∷ past)) bs rows
 rows-quiet set e past bs rows nobody rel = related-all (RowStands set past) (RowStands set (e ∷ past)) bs rows (λ b r. row-other set e past b r (nobody b.number)) rel
@@ -118,7 +122,7 @@ pulled-here s w t k past was after l of before now =
 -- the tables behind an entry of a source that makes no exchange
 pub stands-source : (set : RouteSet) (workers limit : ℕ) (past : Past) (t : Tables) (w r : ℕ) (k : Kind) (was after : SourceState) (pulled : ℕ)
     → Stands set workers limit past t → w ≤ workers → May (plan_of set) limit past w k → r < (plan_of set).routes → (plan_of set).is_source r ≡ true → IsOfSource w r k
-    → item_births (plan_of set) past k ≡ [] → served_in (plan_of set) past w k ≡ []
+    → simple_births (plan_of set) past k ≡ [] → served_in (plan_of set) past w k ≡ []
     → source_state r past ≡ was → moved w r k (source_state r past) ≡ after → pulled + bit (is_out was) ≡ t.pulled + bit (is_out after)
     → Stands set workers limit ((record { worker = w; kind = k }) ∷ past) (record t { sources = put_at t.sources r (kept_state after); turns = t.turns + turns_in k; fault = or_else t.fault (fault_in k); pulled = pulled })
 stands-source routes workers limit past t w r k was after pulled st lw may within is of none unserved before now count =
@@ -139,22 +143,23 @@ stands-source routes workers limit past t w r k was after pulled st lw may withi
       taken = st.taken;
       pulled = let c = pulled-here s w r k past was after within of before now in omega (arith, c, count, st.pulled);
       live = st.live;
+      queues = queues-stay routes workers limit w k past t.queues legal.entries of.waits of.works st.queues;
     }
 
 pub of-pull : (w t : ℕ) → IsOfSource w t (Pull t)
-of-pull w t = record { nobody = λ x. refl; others = λ u was ne. rw (not-same u t ne) refl; simple = tt }
+of-pull w t = record { nobody = λ x. refl; others = λ u was ne. rw (not-same u t ne) refl; simple = tt; waits = refl; works = refl }
 
 pub of-accept : (w t : ℕ) (item : List ℕ) (m : Message) → IsOfSource w t (Accept t item m)
-of-accept w t item m = record { nobody = λ x. refl; others = λ u was ne. rw (not-same u t ne) refl; simple = tt }
+of-accept w t item m = record { nobody = λ x. refl; others = λ u was ne. rw (not-same u t ne) refl; simple = tt; waits = refl; works = refl }
 
 pub of-refuse : (w t : ℕ) (item : List ℕ) (c : Refused) → IsOfSource w t (Refuse t item c)
-of-refuse w t item c = record { nobody = λ x. refl; others = λ u was ne. rw (not-same u t ne) refl; simple = tt }
+of-refuse w t item c = record { nobody = λ x. refl; others = λ u was ne. rw (not-same u t ne) refl; simple = tt; waits = refl; works = refl }
 
 pub of-end : (w t : ℕ) → IsOfSource w t (SourceEnd t)
-of-end w t = record { nobody = λ x. refl; others = λ u was ne. rw (not-same u t ne) refl; simple = tt }
+of-end w t = record { nobody = λ x. refl; others = λ u was ne. rw (not-same u t ne) refl; simple = tt; waits = refl; works = refl }
 
 pub of-fault : (w t : ℕ) → IsOfSource w t (SourceFault t)
-of-fault w t = record { nobody = λ x. refl; others = λ u was ne. rw (not-same u t ne) refl; simple = tt }
+of-fault w t = record { nobody = λ x. refl; others = λ u was ne. rw (not-same u t ne) refl; simple = tt; waits = refl; works = refl }
 
 -- the row of a newborn stands for it
 newborn-row : (set : RouteSet) (workers limit : ℕ) (past : Past) (w r : ℕ) (item : List ℕ) (m : Message) → KeepsRules (plan_of set) workers limit ((record { worker = w; kind = Accept r item m }) ∷ past)
@@ -163,7 +168,11 @@ newborn-row set workers limit past w r item m legal =
     let e : Entry = record { worker = w; kind = Accept r item m } in
     record {
       born = record { worker = w; source = r; item = item; message = m; entry = entry-new e past; birth = refl };
-      stands = newborn-own (plan_of set) workers limit e past (length (births (plan_of set) past) + 1) legal (omega arith);
+      kept = tt;
+      hops = omega arith;
+      stands =
+          let o = newborn-own (plan_of set) workers limit e past (length (births (plan_of set) past) + 1) legal (omega arith) in
+          record { fed = rw o refl; taken = rw o refl; silent = rw o refl; runs = rw o refl; left = refl };
     }
 
 -- the tables behind an accepted item
@@ -187,7 +196,7 @@ stands-accept routes workers limit past t w r item m st lw may =
     record {
       legal = legal;
       simple = simple;
-      rows = rw (births-items s workers limit e past legal.entries simple) (related-push (RowStands routes (e ∷ past)) (births s past) t.rows _ row old (newborn-row routes workers limit past w r item m legal.entries));
+      rows = rw (births-simply s workers limit e past legal.entries simple) (related-push (RowStands routes (e ∷ past)) (births s past) t.rows _ row old (newborn-row routes workers limit past w r item m legal.entries));
       ready = ap (λ xs. xs ++ (length t.rows + 1) ∷ []) st.ready ∙ sym (numbers-push row_ready 1 t.rows row ∙ ap (λ n. row_numbers row_ready 1 t.rows ++ n ∷ []) number);
       sources = sources-set s e past t.sources r kept.Idle within (state-others w r k past of) (kept-here s w r k past Idle may.0.1 idle) st.sources;
       turns = ap (λ n. n + 1) st.turns ∙ sym (turns-more e past);
@@ -196,4 +205,5 @@ stands-accept routes workers limit past t w r item m st lw may =
       taken = let c = count-push row_held t.rows row in omega (arith, c, st.taken);
       pulled = let c = pulled-here s w r k past (Out w) Idle within of may.1 idle in omega (arith, c, st.pulled);
       live = let c = count-push row_live t.rows row in omega (arith, c, st.live);
+      queues = queues-stay routes workers limit w k past t.queues legal.entries refl refl st.queues;
     }

@@ -4,6 +4,7 @@ use Rattle.std.specs.List.{slice_get, list_all, position_from}
 use Rattle.std.proofs.lemmas.Option.{slice_get_within}
 use Rattle.std.proofs.lemmas.Bool.{and_parts, eqb-true, cases_Bool}
 use Rattle.eip_exchange.specs.declared.birth.Birth.{Birth}
+use Rattle.eip_exchange.specs.declared.birth.Origin.TheVariants as from
 use Rattle.eip_exchange.specs.declared.end.Fault.{Fault}
 use Rattle.eip_exchange.specs.Ends.{commit_failed}
 use Rattle.eip_route.specs.declared.route.RouteSet.{RouteSet}
@@ -24,14 +25,16 @@ use Rattle.eip_history.proofs.Lists.{related-at, slice_get-some}
 use Rattle.eip_history.proofs.Stuck.{below-none}
 use Rattle.eip_plan.specs.Plan.{plan_of}
 use Rattle.eip_plan.proofs.Items.{no-groups}
+use Rattle.eip_tables.specs.declared.row.Born.{Born}
+use Rattle.eip_tables.specs.declared.row.Born.TheVariants as made
 use Rattle.eip_tables.specs.declared.row.Stage.{Stage}
 use Rattle.eip_tables.specs.declared.row.Stage.TheVariants as stage
 use Rattle.eip_tables.specs.declared.row.Row.{Row}
 use Rattle.eip_tables.specs.declared.row.SourceState.{SourceState}
 use Rattle.eip_tables.specs.declared.row.SourceState.TheVariants as source
 use Rattle.eip_tables.specs.State.{state_by}
-use Rattle.eip_tables.specs.Rows.{RowStands, SourcesStand, source_row, kept_state, is_idle, is_done_row, are_done, row_live, IsIdleSource}
-use Rattle.eip_tables.specs.Places.{item_at, stage_place, shown}
+use Rattle.eip_tables.specs.Rows.{ComesFrom, RowStands, SourcesStand, source_row, kept_state, is_idle, is_done_row, are_done, row_live, IsIdleSource}
+use Rattle.eip_tables.specs.Places.{item_at, item_born, queue_place, stage_place, shown}
 use Rattle.eip_tables.specs.Stands.{Tables, Stands}
 use Rattle.eip_table_laws.proofs.RowNumbers.{count-related}
 use Rattle.eip_table_laws.proofs.RowPlaces.{Placed, row-place, row-is_live, born-origin}
@@ -194,28 +197,41 @@ place-here s past zero b p l at e = absurd (omega (arith, l))
 place-here s past (suc i) b p l at e = let same : suc i - 1 ≡ i = omega arith in rw (rw same at at, e) refl
 
 -- the place of a state is the one that its stage shows
-shown-by : (b : Birth) (p : Place) (item : List ℕ) (g : Stage) (oc : Option Cursor) (oq : Option Request) (f : Option Fault) → item ≡ item_of b.origin → Placed b (state_by g oc oq f) p → stage_place item f g ≡ p
-shown-by b p item stage.New oc oq f e h = sym h
-shown-by b p item stage.Asks (Some c) (Some q) f e h = sym h
-shown-by b p item stage.Asks (Some c) None f e h = absurd h
-shown-by b p item stage.Asks None oq f e h = absurd h
-shown-by b p item (stage.Held w) (Some c) oq f e h = sym h
-shown-by b p item (stage.Held w) None oq f e h = absurd h
-shown-by b p item (stage.Answered i) (Some c) oq f e h = sym h
-shown-by b p item (stage.Answered i) None oq f e h = absurd h
-shown-by b p item stage.Completed oc oq f e h = sym h
-shown-by b p item stage.Handled oc oq f e h = sym h
-shown-by b p item stage.Failed oc oq (Some f) e h = sym h
-shown-by b p item stage.Failed oc oq None e h = absurd h
-shown-by b p item stage.Starved oc oq f e h = sym h
-shown-by b p item stage.NotCommitted oc oq f e h = ap (λ (i : List ℕ). place_is.Ended (commit_failed i)) e ∙ sym h
+shown-by : (b : Birth) (p : Place) (o : Born) (item : List ℕ) (g : Stage) (oc : Option Cursor) (oq : Option Request) (f : Option Fault) → item ≡ item_of b.origin → ((q : ℕ) → b.origin ≡ from.Queue q → queue_place o ≡ place_is.Queue q)
+    → Placed b (state_by g oc oq f) p → stage_place o item f g ≡ p
+shown-by b p o item stage.Queued oc oq f e w h = w h.0 h.1 ∙ sym h.2
+shown-by b p o item stage.New oc oq f e w h = sym h
+shown-by b p o item stage.Asks (Some c) (Some q) f e w h = sym h
+shown-by b p o item stage.Asks (Some c) None f e w h = absurd h
+shown-by b p o item stage.Asks None oq f e w h = absurd h
+shown-by b p o item (stage.Held v) (Some c) oq f e w h = sym h
+shown-by b p o item (stage.Held v) None oq f e w h = absurd h
+shown-by b p o item (stage.Answered i) (Some c) oq f e w h = sym h
+shown-by b p o item (stage.Answered i) None oq f e w h = absurd h
+shown-by b p o item stage.Completed oc oq f e w h = sym h
+shown-by b p o item stage.Handled oc oq f e w h = sym h
+shown-by b p o item stage.Failed oc oq (Some f) e w h = sym h
+shown-by b p o item stage.Failed oc oq None e w h = absurd h
+shown-by b p o item stage.Starved oc oq f e w h = sym h
+shown-by b p o item stage.NotCommitted oc oq f e w h = ap (λ (i : List ℕ). place_is.Ended (commit_failed i)) e ∙ sym h
+
+-- the item that a row tells is that of its exchange
+told-item : (set : RouteSet) (past : Past) (b : Birth) (o : Born) → ComesFrom (plan_of set) past o b → item_born (reverse past) o ≡ item_of b.origin
+unfolding Rattle.eip_tables.specs.Rows.entry_at
+told-item set past b (made.Item i) h =
+    let at : slice_get (reverse past) i ≡ _ = h.entry in
+    ap item_at at ∙ sym (ap item_of (born-origin (plan_of set) past i b h))
+told-item set past b (made.Copy q) h = sym (ap item_of h)
+
+-- and so is the queue
+told-queue : (set : RouteSet) (past : Past) (b : Birth) (o : Born) (q : ℕ) → ComesFrom (plan_of set) past o b → b.origin ≡ from.Queue q → queue_place o ≡ place_is.Queue q
+told-queue set past b (made.Item i) q h e = let was = born-origin (plan_of set) past i b h in absurd (cc (sym was ∙ e))
+told-queue set past b (made.Copy r) q h e = let same : from.Queue r ≡ from.Queue q = sym h ∙ e in let is : r ≡ q = cc in ap place_is.Queue is
 
 shown-place : (set : RouteSet) (past : Past) (b : Birth) (r : Row) → RowStands set past b r → shown (reverse past) r ≡ place_of (plan_of set) past b
-unfolding Rattle.eip_tables.specs.Rows.entry_at
 shown-place set past b r h =
-    let at : slice_get (reverse past) r.born ≡ _ = h.born.entry in
-    let item : item_at (slice_get (reverse past) r.born) ≡ item_of b.origin = ap item_at at ∙ sym (ap item_of (born-origin (plan_of set) past r.born b h.born)) in
-    shown-by b (place_of (plan_of set) past b) (item_at (slice_get (reverse past) r.born)) r.stage r.cursor r.request r.fault item (row-place set past b r h)
+    shown-by b (place_of (plan_of set) past b) r.born (item_born (reverse past) r.born) r.stage r.cursor r.request r.fault (told-item set past b r.born h.born) (λ q e. told-queue set past b r.born q h.born e)
+    (row-place set past b r h)
 
 module _ {set : RouteSet} {workers limit : ℕ} {past : Past} (t : Tables) (st : Stands set workers limit past t) (x : ℕ) where
   pub unborn-beyond : length t.rows < x → None ≡ place (plan_of set) past x

@@ -10,6 +10,8 @@ use Rattle.eip_tables.specs.declared.asking.Asked.TheVariants as asked
 
 abbrev pub inner_kind : Request → Asked
 inner_kind (request.Log n t) = asked.Line
+inner_kind (request.Call r) = asked.Route
+inner_kind (request.Offer q discard m) = asked.Copy
 inner_kind (request.Finish e m commit) = asked.End
 inner_kind _ = asked.Other
 

@@ -1,9 +1,11 @@
 pub mod Numbers
 pub mod Moves
+pub mod Offers
 pub mod Closing
 pub mod State
 pub mod Look
 pub mod Rows
+pub mod Queues
 pub mod Stands
 pub mod Asking
 pub mod Outside

@@ -15,6 +15,8 @@ use Rattle.eip_progress.specs.Rest.{rest, IsFirst, AnswerFits}
 use Rattle.eip_history.specs.Births.{item_birth}
 use Rattle.eip_history.specs.Place.{end_of}
 use Rattle.eip_plan.specs.Plan.{plan_of}
+use Rattle.eip_tables.specs.declared.row.Born.{Born}
+use Rattle.eip_tables.specs.declared.row.Born.TheVariants as born
 use Rattle.eip_tables.specs.declared.row.Row.{Row}
 use Rattle.eip_tables.specs.Moves.{begun}
 
@@ -46,7 +48,7 @@ pub record LookedAt (set : RouteSet) (a : Reply) (old new : Row) : Type 0 where
   pub row : new ≡ begun now request old
   pub stepped : Stepped set (rest set was) (a ∷ []) now request
 
--- the birth that an entry makes, as the exchange with this number
+-- the birth of the exchange with this number, by what made it: an accepted item, or the birth that its row keeps
 abbrev pub birth_at : RouteSet → ℕ → Kind → Option Birth
 birth_at set number (Accept source item m) = Some (item_birth (plan_of set) number source item m)
 birth_at set number _ = None
@@ -55,8 +57,15 @@ abbrev pub birth_in : RouteSet → ℕ → Option Entry → Option Birth
 birth_in set number (Some e) = birth_at set number e.kind
 birth_in set number None = None
 
--- the first cursor of the exchange that the entry at an index makes, with what it asks
-pub record FirstLook (set : RouteSet) (entries : List Entry) (number born : ℕ) (c : Cursor) (q : Request) : Type 0 where
+abbrev pub birth_by : RouteSet → List Entry → ℕ → Born → Option Birth → Option Birth
+birth_by set entries number (born.Item i) kept = birth_in set number (slice_get entries i)
+birth_by set entries number (born.Copy q) kept = kept
+
+abbrev pub birth_of : RouteSet → List Entry → ℕ → Row → Option Birth
+birth_of set entries number r = birth_by set entries number r.born r.birth
+
+-- the first cursor of the exchange with this number and row, with what it asks
+pub record FirstLook (set : RouteSet) (entries : List Entry) (number : ℕ) (r : Row) (c : Cursor) (q : Request) : Type 0 where
   pub birth : Birth
-  pub made : birth_in set number (slice_get entries born) ≡ Some birth
+  pub made : birth_of set entries number r ≡ Some birth
   pub stepped : Stepped set (mean set birth) [] c q

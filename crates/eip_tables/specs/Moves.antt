@@ -8,12 +8,23 @@ use Rattle.eip_frames.specs.declared.request.Request.{Request}
 use Rattle.eip_frames.specs.declared.request.Request.TheVariants as request
 use Rattle.eip_frames.specs.declared.answer.Answer.{Answer as Reply}
 use Rattle.eip_frames.specs.declared.answer.Answer.TheVariants as reply
+use Rattle.eip_exchange.specs.declared.birth.Birth.{Birth}
+use Rattle.eip_tables.specs.declared.row.Born.TheVariants as born
 use Rattle.eip_tables.specs.declared.row.Stage.{Stage}
 use Rattle.eip_tables.specs.declared.row.Stage.TheVariants as stage
 use Rattle.eip_tables.specs.declared.row.Row.{Row}
 
+-- the exchange of an accepted item
 abbrev pub new_row : ℕ → Row
-new_row i = record { born = i; stage = stage.New; cursor = None; request = None; fault = None }
+new_row i = record { born = born.Item i; stage = stage.New; birth = None; cursor = None; request = None; fault = None }
+
+-- a copy in a queue
+abbrev pub copy_row : ℕ → Birth → Row
+copy_row q b = record { born = born.Copy q; stage = stage.Queued; birth = Some b; cursor = None; request = None; fault = None }
+
+-- a copy has left its queue
+abbrev pub started : Row → Row
+started r = record r { stage = stage.New }
 
 abbrev pub begun : Cursor → Request → Row → Row
 begun c q r = record r { stage = stage.Asks; cursor = Some c; request = Some q }
@@ -25,7 +36,7 @@ abbrev pub held : ℕ → Row → Row
 held w r = record r { stage = stage.Held w; request = None }
 
 abbrev pub closed : Stage → Row → Row
-closed g r = record r { stage = g; cursor = None; request = None }
+closed g r = record r { stage = g; birth = None; cursor = None; request = None }
 
 abbrev pub stage_of : End → Stage
 stage_of end.Completed = stage.Completed
@@ -38,7 +49,7 @@ fault_of end.Handled = None
 fault_of (end.Failed f) = Some f
 
 abbrev pub finished : End → Row → Row
-finished e r = record r { stage = stage_of e; cursor = None; request = None; fault = fault_of e }
+finished e r = record r { stage = stage_of e; birth = None; cursor = None; request = None; fault = fault_of e }
 
 -- the end that is asked for
 abbrev pub end_asked : Option Request → Option End

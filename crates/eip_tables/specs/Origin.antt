@@ -1,5 +1,5 @@
 -- Where an exchange comes from, and how it ended, as the books lend it.
-use Rattle.std.specs.Prelude.{Option, Some, None}
+use Rattle.std.specs.Prelude.{List, Option, Some, None, slice_get}
 use Rattle.eip_exchange.specs.declared.birth.Origin.{Origin}
 use Rattle.eip_exchange.specs.declared.birth.Origin.TheVariants as from
 use Rattle.eip_exchange.specs.declared.end.Ending.{Ending}
@@ -12,6 +12,8 @@ use Rattle.eip_ledger.specs.declared.place.Place.{Place}
 use Rattle.eip_ledger.specs.declared.place.Place.TheVariants.{Ended}
 use Rattle.eip_tables.specs.declared.origin.OriginView.{OriginView}
 use Rattle.eip_tables.specs.declared.origin.OriginView.TheVariants as view
+use Rattle.eip_tables.specs.declared.row.Born.{Born}
+use Rattle.eip_tables.specs.declared.row.Born.TheVariants as born
 use Rattle.eip_tables.specs.declared.row.Stage.{Stage}
 use Rattle.eip_tables.specs.declared.row.Stage.TheVariants as stage
 
@@ -30,6 +32,11 @@ origin_by _ = None
 abbrev pub origin_in : Option Entry → Option Origin
 origin_in (Some e) = origin_by e.kind
 origin_in None = None
+
+-- the origin of an exchange, by what made it
+abbrev pub origin_born : List Entry → Born → Option Origin
+origin_born entries (born.Item i) = origin_in (slice_get entries i)
+origin_born entries (born.Copy q) = Some (from.Queue q)
 
 -- how an exchange that stands here ended
 abbrev pub ending_at : Option Place → Option Ending

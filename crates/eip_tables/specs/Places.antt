@@ -10,6 +10,8 @@ use Rattle.eip_ledger.specs.declared.place.Place.{Place}
 use Rattle.eip_ledger.specs.declared.place.Place.TheVariants as place_is
 use Rattle.eip_tables.specs.declared.asking.Inner.{Inner}
 use Rattle.eip_tables.specs.declared.asking.Inner.TheVariants.{Did, Outside}
+use Rattle.eip_tables.specs.declared.row.Born.{Born}
+use Rattle.eip_tables.specs.declared.row.Born.TheVariants as born
 use Rattle.eip_tables.specs.declared.row.Stage.{Stage}
 use Rattle.eip_tables.specs.declared.row.Stage.TheVariants as stage
 use Rattle.eip_tables.specs.declared.row.Row.{Row}
@@ -27,19 +29,30 @@ abbrev pub failed_place : Option Fault → Place
 failed_place (Some f) = place_is.Ended (end.Failed f)
 failed_place None = place_is.Ready
 
--- the place of a stage, with the item of the exchange and its fault
-abbrev pub stage_place : List ℕ → Option Fault → Stage → Place
-stage_place item f (stage.Held w) = place_is.InHand w
-stage_place item f stage.Completed = place_is.Ended end.Completed
-stage_place item f stage.Handled = place_is.Ended end.Handled
-stage_place item f stage.Failed = failed_place f
-stage_place item f stage.Starved = place_is.Ended out_of_memory
-stage_place item f stage.NotCommitted = place_is.Ended (commit_failed item)
-stage_place item f _ = place_is.Ready
+-- the item of an exchange, by what made it
+abbrev pub item_born : List Entry → Born → List ℕ
+item_born entries (born.Item i) = item_at (slice_get entries i)
+item_born entries (born.Copy q) = []
+
+-- a copy waits in the queue that it was born into
+abbrev pub queue_place : Born → Place
+queue_place (born.Copy q) = place_is.Queue q
+queue_place (born.Item i) = place_is.Ready
+
+-- the place of a stage, with what made the exchange, its item and its fault
+abbrev pub stage_place : Born → List ℕ → Option Fault → Stage → Place
+stage_place o item f stage.Queued = queue_place o
+stage_place o item f (stage.Held w) = place_is.InHand w
+stage_place o item f stage.Completed = place_is.Ended end.Completed
+stage_place o item f stage.Handled = place_is.Ended end.Handled
+stage_place o item f stage.Failed = failed_place f
+stage_place o item f stage.Starved = place_is.Ended out_of_memory
+stage_place o item f stage.NotCommitted = place_is.Ended (commit_failed item)
+stage_place o item f _ = place_is.Ready
 
 -- the place that a row shows, with the journal's entries
 abbrev pub shown : List Entry → Row → Place
-shown entries r = stage_place (item_at (slice_get entries r.born)) r.fault r.stage
+shown entries r = stage_place r.born (item_born entries r.born) r.fault r.stage
 
 -- what a look at an exchange answers, by whether it asks somebody outside
 abbrev pub inner_of : Bool → Inner

@@ -1,7 +1,9 @@
 -- How a row stands for an exchange, by the exchange's own entries and its cursor.
-use Rattle.std.specs.Prelude.{ℕ, ◌≡◌, ◌<◌, Bool, true, false, cond, List, [], ◌∷◌, ◌++◌, Option, Some, None, is_some, reverse, slice_get, length}
+use Rattle.std.specs.Prelude.{ℕ, ◌≡◌, ◌<◌, ◌≤◌, Bool, true, false, cond, List, [], ◌∷◌, ◌++◌, Option, Some, None, is_some, reverse, slice_get, length}
 use Rattle.std.specs.List.{list_all}
 use Rattle.eip_exchange.specs.declared.birth.Birth.{Birth}
+use Rattle.eip_exchange.specs.declared.birth.Origin.{Origin}
+use Rattle.eip_exchange.specs.declared.birth.Origin.TheVariants as from
 use Rattle.eip_exchange.specs.declared.message.Message.{Message}
 use Rattle.eip_exchange.specs.declared.end.End.{End}
 use Rattle.eip_exchange.specs.declared.end.End.TheVariants as end
@@ -20,7 +22,7 @@ use Rattle.eip_meaning.specs.Meaning.{mean, item_of}
 use Rattle.eip_progress.specs.declared.cursor.Cursor.{Cursor}
 use Rattle.eip_progress.specs.Rest.{rest, IsFirst, AnswerFits}
 use Rattle.eip_history.specs.Plan.{Plan}
-use Rattle.eip_history.specs.Own.{Past, own, answers, starved, taker, last_answer, source_state}
+use Rattle.eip_history.specs.Own.{Past, own, answers, starved, started, taker, last_answer, source_state, turns}
 use Rattle.eip_history.specs.Own as own_of
 use Rattle.eip_history.specs.Births.{fate, item_birth}
 use Rattle.eip_history.specs.Place.{pause_of, Runs, end_of}
@@ -30,6 +32,8 @@ use Rattle.eip_tables.specs.Closing.{Closing}
 use Rattle.eip_tables.specs.Closing as closing
 use Rattle.eip_tables.specs.State.{State, state_of}
 use Rattle.eip_tables.specs.State as state
+use Rattle.eip_tables.specs.declared.row.Born.{Born}
+use Rattle.eip_tables.specs.declared.row.Born.TheVariants as born
 use Rattle.eip_tables.specs.declared.row.Row.{Row}
 use Rattle.eip_tables.specs.declared.row.SourceState.{SourceState}
 use Rattle.eip_tables.specs.declared.row.SourceState.TheVariants as source
@@ -47,6 +51,35 @@ pub record IsBornAt (s : Plan) (past : Past) (i : ℕ) (b : Birth) : Type 0 wher
   pub entry : entry_at past i ≡ Some (record { worker = worker; kind = Accept source item message })
   pub birth : b ≡ item_birth s b.number source item message
 
+-- what made the exchange, as its row says it
+abbrev pub ComesFrom : Plan → Past → Born → Birth → Type 0
+ComesFrom s past (born.Item i) b = IsBornAt s past i b
+ComesFrom s past (born.Copy q) b = b.origin ≡ from.Queue q
+
+-- what a row keeps of a birth, by whether the exchange lives: that of a copy, until it has ended
+abbrev pub Keeps : Born → Bool → Birth → Option Birth → Type 0
+Keeps (born.Copy q) true b o = o ≡ Some b
+Keeps _ _ b o = Unit {0}
+
+-- it has left its queue, by whether it has started, or was born into none
+abbrev pub has_left : Origin → Bool → Bool
+has_left (from.Queue q) has_started = has_started
+has_left _ has_started = true
+
+-- it waits in the queue that it was born into
+pub record IsWaiting (past : Past) (b : Birth) : Type 0 where
+  pub queue : ℕ
+  pub origin : b.origin ≡ from.Queue queue
+  pub none : own b.number past ≡ []
+
+-- it may act, and nothing has been answered yet
+pub record IsUnasked (past : Past) (b : Birth) : Type 0 where
+  pub fed : starved (own b.number past) ≡ false
+  pub taken : taker (own b.number past) ≡ None
+  pub silent : answers (own b.number past) ≡ []
+  pub runs : pause_of (last_answer (own b.number past)) ≡ Runs
+  pub left : has_left b.origin (started (own b.number past)) ≡ true
+
 -- the end that a closing stands for
 abbrev pub closed_end : Birth → Closing → End
 closed_end b closing.Completed = end.Completed
@@ -61,6 +94,7 @@ pub record Follows (set : RouteSet) (past : Past) (b : Birth) (c : Cursor) (more
   pub fed : starved (own b.number past) ≡ false
   pub taken : taker (own b.number past) ≡ t
   pub runs : pause_of (last_answer (own b.number past)) ≡ Runs
+  pub left : has_left b.origin (started (own b.number past)) ≡ true
   pub rests : (A : List Reply) → rest set c (more ++ A) ≡ mean set b (answers (own b.number past) ++ A)
 
 -- it asks this request
@@ -85,19 +119,17 @@ pub record HasEnded (set : RouteSet) (past : Past) (b : Birth) (c : Closing) : T
   pub ends : fate (plan_of set) past b ≡ Ends (closed_end b c) message
 
 abbrev pub StateStands : RouteSet → Past → Birth → State → Type 0
-StateStands set past b state.New = own b.number past ≡ []
+StateStands set past b state.Queued = IsWaiting past b
+StateStands set past b state.New = IsUnasked past b
 StateStands set past b (state.Asks c q) = IsAsking set past b c q None
 StateStands set past b (state.Held c w) = (q : Request) × IsAsking set past b c q (Some w) × (is_outside q ≡ true)
 StateStands set past b (state.Answered c i) = HasAnswer set past b c i
 StateStands set past b (state.Ended c) = HasEnded set past b c
 StateStands set past b state.Broken = ⊥
 
-pub record RowStands (set : RouteSet) (past : Past) (b : Birth) (r : Row) : Type 0 where
-  pub born : IsBornAt (plan_of set) past r.born b
-  pub stands : StateStands set past b (state_of r)
-
 -- the rows by the place of their exchange
 abbrev pub state_ready : State → Bool
+state_ready state.Queued = false
 state_ready state.New = true
 state_ready (state.Asks c q) = true
 state_ready (state.Held c w) = false
@@ -120,6 +152,13 @@ row_held r = state_held (state_of r)
 
 abbrev pub row_live : Row → Bool
 row_live r = state_live (state_of r)
+
+-- a row stands for an exchange; no exchange has more hops than turns were taken, since each hop is the answer to an offer
+pub record RowStands (set : RouteSet) (past : Past) (b : Birth) (r : Row) : Type 0 where
+  pub born : ComesFrom (plan_of set) past r.born b
+  pub kept : Keeps r.born (row_live r) b r.birth
+  pub hops : b.hops ≤ turns past
+  pub stands : StateStands set past b (state_of r)
 
 -- where a source stands, as the books keep it
 abbrev pub kept_state : own_of.SourceState → SourceState

@@ -11,6 +11,7 @@ use Rattle.eip_tables.specs.Closing.{Closing}
 use Rattle.eip_tables.specs.Closing as closing
 
 pub data State : Type 0 where
+  Queued : State
   New : State
   Asks : Cursor → Request → State
   Held : Cursor → ℕ → State
@@ -20,6 +21,7 @@ pub data State : Type 0 where
   Broken : State
 
 abbrev pub state_by : Stage → Option Cursor → Option Request → Option Fault → State
+state_by stage.Queued c q f = Queued
 state_by stage.New c q f = New
 state_by stage.Asks (Some c) (Some q) f = Asks c q
 state_by (stage.Held w) (Some c) q f = Held c w

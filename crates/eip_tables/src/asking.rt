@@ -9,6 +9,10 @@ use eip_frames::{Request, is_outside};
 pub enum Asked {
     /// A line of the log is to be written.
     Line,
+    /// The block of a route is to run.
+    Route,
+    /// A copy is to be put into a queue.
+    Copy,
     /// It is to end.
     End,
     /// Somebody outside is to answer.
@@ -34,6 +38,8 @@ fn kind_of(request: &Request) -> Asked
     }
     match request {
         Request::Log { .. } => Asked::Line,
+        Request::Call { .. } => Asked::Route,
+        Request::Offer { .. } => Asked::Copy,
         Request::Finish { .. } => Asked::End,
         _ => Asked::Other,
     }

@@ -1,7 +1,7 @@
 ghost use Rattle.std.specs.Prelude.{◌≡◌, option_map, slice_get};
-ghost use Rattle.eip_tables.specs.Origin.{origin_seen, origin_in, stage_ending};
+ghost use Rattle.eip_tables.specs.Origin.{origin_seen, origin_in, origin_born, stage_ending};
 
-use crate::row::Stage;
+use crate::row::{Born, Stage};
 use eip_exchange::Ending;
 use eip_ledger::{Entry, Kind};
 use eip_text::Text;
@@ -20,7 +20,7 @@ pub enum OriginView<'a> {
 }
 
 /// The origin of the exchange that the entry with this index made; None where that entry makes none.
-pub fn origin_in(entries: &[Entry], born: usize) -> Option<OriginView<'_>>
+fn origin_in(entries: &[Entry], born: usize) -> Option<OriginView<'_>>
     ensures { option_map origin_seen result ≡ origin_in (slice_get entries.now born) }
 {
     let entry = entries.get(born)?;
@@ -33,6 +33,16 @@ pub fn origin_in(entries: &[Entry], born: usize) -> Option<OriginView<'_>>
     }
 }
 
+/// The origin of an exchange, by what made it; None where that is an entry that makes none.
+pub fn origin_born(entries: &[Entry], born: Born) -> Option<OriginView<'_>>
+    ensures { option_map origin_seen result ≡ origin_born entries.now born }
+{
+    match born {
+        Born::Item(entry) => origin_in(entries, entry),
+        Born::Copy(route) => Some(OriginView::Queue { route }),
+    }
+}
+
 /// How an exchange at this stage ended; None where it has not.
 pub fn ending_of(stage: Stage) -> Option<Ending>
     ensures { result ≡ stage_ending stage }
@@ -41,6 +51,6 @@ pub fn ending_of(stage: Stage) -> Option<Ending>
         Stage::Completed => Some(Ending::Completed),
         Stage::Handled => Some(Ending::Handled),
         Stage::Failed | Stage::Starved | Stage::NotCommitted => Some(Ending::Failed),
-        Stage::New | Stage::Asks | Stage::Held(_) | Stage::Answered(_) => None,
+        Stage::Queued | Stage::New | Stage::Asks | Stage::Held(_) | Stage::Answered(_) => None,
     }
 }

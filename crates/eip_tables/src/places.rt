@@ -1,8 +1,8 @@
 ghost use Rattle.std.specs.Prelude.{◌≡◌, IfOk, Some, slice_get, codes, [], List, ℕ};
 ghost use Rattle.eip_exchange.specs.Ends.{fault};
-ghost use Rattle.eip_tables.specs.Places.{item_at, failed_place, shown};
+ghost use Rattle.eip_tables.specs.Places.{item_at, item_born, queue_place, failed_place, shown};
 
-use crate::row::{Row, Stage};
+use crate::row::{Born, Row, Stage};
 use eip_exchange::{End, Fault};
 use eip_ledger::{Entry, Kind, Place};
 use eip_text::{NoMemory, Text};
@@ -18,6 +18,26 @@ fn item_of(alloc: Global, entries: &[Entry], born: usize) -> Result<Text, NoMemo
     match &entry.kind {
         Kind::Accept { item, .. } => item.copy(),
         _ => Text::of_str(alloc, ""),
+    }
+}
+
+/// The item of an exchange, by what made it.
+fn item_born(alloc: Global, entries: &[Entry], born: Born) -> Result<Text, NoMemory>
+    ensures { IfOk result (λ t. t ≡ item_born entries.now born) }
+{
+    match born {
+        Born::Item(entry) => item_of(alloc, entries, entry),
+        Born::Copy(_) => Text::of_str(alloc, ""),
+    }
+}
+
+/// The place of an exchange that has not left its queue.
+fn queue_place(born: Born) -> Place
+    ensures { result ≡ queue_place born }
+{
+    match born {
+        Born::Copy(queue) => Place::Queue(queue),
+        Born::Item(_) => Place::Ready,
     }
 }
 
@@ -44,6 +64,7 @@ pub fn place_of(alloc: Global, row: &Row, entries: &[Entry]) -> Result<Place, No
     ensures { IfOk result (λ p. p ≡ shown entries.now row.now) }
 {
     match row.stage {
+        Stage::Queued => Ok(queue_place(row.born)),
         Stage::Held(worker) => Ok(Place::InHand(worker)),
         Stage::Completed => Ok(Place::Ended(End::Completed)),
         Stage::Handled => Ok(Place::Ended(End::Handled)),
@@ -54,7 +75,7 @@ pub fn place_of(alloc: Global, row: &Row, entries: &[Entry]) -> Result<Place, No
             Ok(Place::Ended(End::Failed(fault)))
         }
         Stage::NotCommitted => {
-            let item = item_of(alloc, entries, row.born)?;
+            let item = item_born(alloc, entries, row.born)?;
             let fault = fault_of(alloc, "CommitFailed", item)?;
             Ok(Place::Ended(End::Failed(fault)))
         }

@@ -1,17 +1,29 @@
 ghost use Rattle.std.specs.Prelude.{◌≡◌, Some, None};
-ghost use Rattle.eip_tables.specs.Moves.{new_row, begun, answered, held, closed, stage_of, fault_of, finished, end_asked, line_asked, finished_asked, ended_by};
+ghost use Rattle.eip_tables.specs.Moves.{new_row, copy_row, started, begun, answered, held, closed, stage_of, fault_of, finished, end_asked, line_asked, finished_asked, ended_by};
 ghost use Rattle.eip_tables.specs.State.{row_outside};
+ghost use Rattle.eip_tables.specs.Offers.{hops_by, offer_asked, offered_message};
 
-use eip_exchange::{End, Fault};
+use eip_exchange::{Birth, End, Fault, Message};
 use eip_frames::{Answer, Request, is_outside};
 use eip_progress::Cursor;
 use eip_text::Text;
 use std::mem;
 
+/// What made an exchange.
+#[derive(Clone, Copy, Debug, PartialEq, Eq)]
+pub enum Born {
+    /// The item that the journal entry with this index accepted.
+    Item(usize),
+    /// An offer to the queue of this route.
+    Copy(u32),
+}
+
 /// How far an exchange is.
 #[derive(Clone, Copy, Debug, PartialEq, Eq)]
 pub enum Stage {
-    /// It was born and nobody has looked at what it asks.
+    /// It waits in the queue that it was born into.
+    Queued,
+    /// It was born, has left its queue where it had one, and nobody has looked at what it asks.
     New,
     /// It asks the request of its row.
     Asks,
@@ -32,9 +44,10 @@ pub enum Stage {
 /// What the books keep of one exchange.
 #[derive(Drop)]
 pub struct Row {
-    /// The index of the journal entry that made it.
-    pub born: usize,
+    pub born: Born,
     pub stage: Stage,
+    /// What a copy was born as, until it has ended; an item's birth is read from the journal.
+    pub birth: Option<Birth>,
     /// Its cursor, from the first look until it has ended.
     pub cursor: Option<Cursor>,
     /// What it asks, while it asks.
@@ -56,16 +69,41 @@ pub enum SourceState {
 }
 
 impl Row {
-    /// The row of an exchange that this journal entry made.
-    pub fn new(born: usize) -> Row
-        ensures { result ≡ new_row born }
+    /// The row of an exchange whose item this journal entry accepted.
+    pub fn new(entry: usize) -> Row
+        ensures { result ≡ new_row entry }
     {
         Row {
-            born,
+            born: Born::Item(entry),
             stage: Stage::New,
+            birth: None,
             cursor: None,
             request: None,
             fault: None,
+        }
+    }
+
+    /// The row of a copy that waits in the queue of this route.
+    pub fn queued(queue: u32, birth: Birth) -> Row
+        ensures { result ≡ copy_row queue birth }
+    {
+        Row {
+            born: Born::Copy(queue),
+            stage: Stage::Queued,
+            birth: Some(birth),
+            cursor: None,
+            request: None,
+            fault: None,
+        }
+    }
+
+    /// How many queues its lineage has passed.
+    pub fn hops(&self) -> u32
+        ensures { result ≡ hops_by self.now.born self.now.birth }
+    {
+        match (self.born, &self.birth) {
+            (Born::Copy(_), Some(birth)) => birth.hops,
+            _ => 0,
         }
     }
 
@@ -78,6 +116,13 @@ impl Row {
             _ => false,
         }
     }
+}
+
+/// A copy leaves its queue.
+pub fn start(row: &mut Row)
+    ensures { row.new ≡ started row.old }
+{
+    row.stage = Stage::New;
 }
 
 /// A first cursor and what it asks.
@@ -112,6 +157,7 @@ pub fn close(row: &mut Row, stage: Stage)
     ensures { row.new ≡ closed stage row.old }
 {
     row.stage = stage;
+    drop(row.birth.take());
     drop(row.cursor.take());
     drop(row.request.take());
 }
@@ -135,6 +181,7 @@ pub fn finish(row: &mut Row, end: End)
     let (stage, fault) = ended(end);
     row.stage = stage;
     drop(mem::replace(&mut row.fault, fault));
+    drop(row.birth.take());
     drop(row.cursor.take());
     drop(row.request.take());
 }
@@ -161,6 +208,29 @@ pub fn line_asked(request: Option<Request>) -> Option<(Text, Text)>
 {
     match request {
         Some(Request::Log { name, text }) => Some((name, text)),
+        other => {
+            drop(other);
+            None
+        }
+    }
+}
+
+/// The queue that is offered to, and whether the copy is dropped where the queue is full; None for any other request.
+pub fn offer_asked(request: &Option<Request>) -> Option<(u32, bool)>
+    ensures { result ≡ offer_asked request.now }
+{
+    match request {
+        Some(Request::Offer { queue, discard, .. }) => Some((*queue, *discard)),
+        _ => None,
+    }
+}
+
+/// The message that is offered to a queue, handed out; any other request is dropped.
+pub fn offered_message(request: Option<Request>) -> Option<Message>
+    ensures { result ≡ offered_message request }
+{
+    match request {
+        Some(Request::Offer { message, .. }) => Some(message),
         other => {
             drop(other);
             None

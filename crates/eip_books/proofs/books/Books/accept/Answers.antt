@@ -6,7 +6,7 @@ use Rattle.eip_table_laws.proofs.SourceCalls.{source-within, out-pulled}
 use Rattle.eip_tables.specs.Moves.{new_row}
 use Rattle.eip_table_laws.proofs.SourceEvents.{stands-accept}
 use Rattle.eip_tables.specs.State.{row_outside}
-use Rattle.eip_table_laws.proofs.ListedNumbers.{push-none}
+use Rattle.eip_table_laws.proofs.RowNumbers.{push-none}
 use Rattle.eip_books.proofs.books.Books.accept.Goals as goal
 
 pub set-requires : goal.set-requires

@@ -6,23 +6,32 @@ use Rattle.eip_tables.specs.Moves.{closed}
 use Rattle.eip_tables.specs.declared.row.Stage.TheVariants as stage
 use Rattle.eip_table_laws.proofs.OwnCalls.{row-within, placed-some}
 use Rattle.eip_table_laws.proofs.RowNumbers.{numbers-stay}
-use Rattle.eip_table_laws.proofs.HandCalls.{stands-give-up, taken-above, held-live, held-not-outside}
+use Rattle.eip_table_laws.proofs.HandCalls.{stands-give-up, give-up-leaves, taken-above, held-live, held-not-outside}
 use Rattle.eip_books.proofs.books.Books.give_up.Goals as goal
 
 pub invariant_of-self : goal.invariant_of-self
 invariant_of-self c =
     let placed = rw (← c.self.view_is) at c.requires.place in
-    let r = placed-some (tables_of c.self.inside) c.args.ticket.number (InHand c.args.ticket.worker) c.self.invariant.stands placed in
-    let n = taken-above (tables_of c.self.inside) c.args.ticket.worker c.args.ticket.number c.self.invariant.stands (rw (← c.self.view_is) at c.requires.worker) r.0 r.1 placed in
+    let n = taken-above (tables_of c.self.inside) c.args.ticket.worker c.args.ticket.number c.self.invariant.stands (rw (← c.self.view_is) at c.requires.worker) c.get.result.now c.get.ensures placed in
     record {
-      stands = rw (c.append_reserved.ensures.past, c.append_reserved.ensures.workers, c.append_reserved.ensures.turns, c.close.ensures.items r.0 r.1)
-          (stands-give-up (tables_of c.self.inside) c.args.ticket.worker c.args.ticket.number c.self.invariant.stands (rw (← c.self.view_is) at c.requires.worker) r.0 r.1 placed);
+      stands = rw (c.append_reserved.ensures.past, c.append_reserved.ensures.workers, c.append_reserved.ensures.turns, c.close.ensures.items c.get.result.now c.get.ensures)
+          (stands-give-up (tables_of c.self.inside) c.args.ticket.worker c.args.ticket.number c.self.invariant.stands (rw (← c.self.view_is) at c.requires.worker) c.get.result.now c.get.ensures placed c.leave.new.queues c.leave.ensures.leaves);
       few = c.self.invariant.few;
       room_small = c.self.invariant.room_small;
       room_journal = omega (arith, n);
       room_rows = omega (arith, c.close.ensures.spare);
       room_ready = omega (arith, n);
     }
+
+pub get-requires-clause-above : goal.get-requires-clause-above
+get-requires-clause-above c = (row-within (tables_of c.self.inside) c.args.ticket.number (InHand c.args.ticket.worker) c.self.invariant.stands (rw (← c.self.view_is) at c.requires.place)).0
+
+pub get-requires-clause-within : goal.get-requires-clause-within
+get-requires-clause-within c = (row-within (tables_of c.self.inside) c.args.ticket.number (InHand c.args.ticket.worker) c.self.invariant.stands (rw (← c.self.view_is) at c.requires.place)).1
+
+pub leave-requires : goal.leave-requires
+leave-requires c =
+    give-up-leaves (tables_of c.self.inside) c.args.ticket.worker c.args.ticket.number c.self.invariant.stands (rw (← c.self.view_is) at c.requires.worker) c.get.result.now c.get.ensures (rw (← c.self.view_is) at c.requires.place)
 
 pub close-requires-clause-above : goal.close-requires-clause-above
 close-requires-clause-above c = (row-within (tables_of c.self.inside) c.args.ticket.number (InHand c.args.ticket.worker) c.self.invariant.stands (rw (← c.self.view_is) at c.requires.place)).0

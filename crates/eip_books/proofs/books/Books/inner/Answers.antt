@@ -1,5 +1,5 @@
 use Rattle.std.proofs.Common.{◌∙◌, sym}
-use Rattle.eip_table_laws.proofs.InnerCalls.{kind-line, kind-end}
+use Rattle.eip_table_laws.proofs.InnerCalls.{kind-line, kind-route, kind-copy, kind-end}
 use Rattle.eip_books.proofs.books.Books.inner.Goals as goal
 
 pub note-requires-clause-line : goal.note-requires-clause-line
@@ -7,3 +7,9 @@ note-requires-clause-line c = let known = c.in_ok-look.ensures.known in kind-lin
 
 pub finish-requires-clause-end : goal.finish-requires-clause-end
 finish-requires-clause-end c = let known = c.in_ok-look.ensures.known in kind-end c.look.new.self.known c.args.number known.0 known.1 (sym (c.asked.ensures.kind known.0 known.1) ∙ c.in-End.is)
+
+pub enter-requires-clause-call : goal.enter-requires-clause-call
+enter-requires-clause-call c = let known = c.in_ok-look.ensures.known in kind-route c.look.new.self.known c.args.number known.0 known.1 (sym (c.asked.ensures.kind known.0 known.1) ∙ c.in-Route.is)
+
+pub offer-requires-clause-copy : goal.offer-requires-clause-copy
+offer-requires-clause-copy c = let known = c.in_ok-look.ensures.known in kind-copy c.look.new.self.known c.args.number known.0 known.1 (sym (c.asked.ensures.kind known.0 known.1) ∙ c.in-Copy.is)

@@ -10,8 +10,8 @@ overflow_add-result c = omega (arith, within-limit (tables_of c.self.inside) c.s
 pub overflow_add-result-2 : goal.overflow_add-result-2
 overflow_add-result-2 c = omega (arith, within-limit (tables_of c.self.inside) c.self.invariant.stands, c.self.invariant.stands.legal.few_turns)
 
-pub returns : goal.returns
-returns c =
+pub returns-clause-below : goal.returns-clause-below
+returns-clause-below c =
     let hands = hands-are (tables_of c.self.inside) c.self.invariant.stands in
     let turns = c.self.invariant.stands.turns in
     let limit = c.from.ensures ∙ c.turns.ensures in

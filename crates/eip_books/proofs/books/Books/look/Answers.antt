@@ -6,7 +6,7 @@ use Rattle.eip_tables.specs.Look.{HasCursor}
 use Rattle.eip_books.specs.Facts.{tables_of}
 use Rattle.eip_table_laws.proofs.RowPlaces.{lives-first}
 use Rattle.eip_table_laws.proofs.OwnCalls.{row-within}
-use Rattle.eip_table_laws.proofs.LookCalls.{born-birth, born-within, answer-within, answered-entry, answered-cursor, new-looked, answer-looked, known-now, known-asking, one-of-both, on-ok, answer-there}
+use Rattle.eip_table_laws.proofs.LookCalls.{born-birth, answer-within, answered-entry, answered-cursor, new-looked, answer-looked, known-now, known-asking, one-of-both, on-ok, answer-there}
 use Rattle.eip_table_laws.proofs.LookOutside.{looked-outside, known-outside-already}
 use Rattle.eip_books.proofs.books.Books.look.Goals as goal
 
@@ -28,13 +28,10 @@ look-requires-clause-above c = (row-within (tables_of c.self.inside) c.args.numb
 pub look-requires-clause-within : goal.look-requires-clause-within
 look-requires-clause-within c = (row-within (tables_of c.self.inside) c.args.number Ready c.self.invariant.stands (rw (← c.self.view_is) at c.requires)).1
 
-pub first_look-requires-clause-can_begin : goal.first_look-requires-clause-can_begin
-first_look-requires-clause-can_begin c =
-    let b = born-birth (tables_of c.self.inside) c.args.number c.get-row.result.now c.self.invariant.stands (rw (← c.self.view_is) at c.requires) c.get-row.ensures in
+pub first_look-requires : goal.first_look-requires
+first_look-requires c =
+    let b = born-birth (tables_of c.self.inside) c.args.number c.get-row.result.now c.self.invariant.stands (rw (← c.self.view_is) at c.requires) c.get-row.ensures c.in-New.is in
     record { birth = b.0; made = rw c.entries.ensures b.1; lives = lives-first _ b.0 }
-
-pub first_look-requires-clause-born : goal.first_look-requires-clause-born
-first_look-requires-clause-born c = rw c.entries.ensures (born-within (tables_of c.self.inside) c.args.number c.get-row.result.now c.self.invariant.stands (rw (← c.self.view_is) at c.requires) c.get-row.ensures)
 
 pub invariant_of-self : goal.invariant_of-self
 invariant_of-self c =

@@ -36,7 +36,7 @@ invariant_of-self-2 c =
     let entry : length c.entries-entry.result.now ≡ length c.self.inside.journal.past = ap length c.entries-entry.ensures ∙ (length-reverse _ ∙ ap length c.make_room.ensures.past) in
     let room = c.in_ok-make_room.ensures.journal in
     record {
-      stands = rw (c.append_reserved.ensures.past, c.append_reserved.ensures.workers, c.append_reserved.ensures.turns, c.make_room.ensures.past, c.make_room.ensures.workers, c.make_room.ensures.turns, c.keep_line.ensures c.requires.line.name c.requires.line.text q, c.make_room.ensures.items, c.answer-request.ensures.items r.0 r.1, entry)
+      stands = rw (c.append_answer.ensures.past, c.append_answer.ensures.workers, c.append_answer.ensures.turns, c.make_room.ensures.past, c.make_room.ensures.workers, c.make_room.ensures.turns, c.keep_line.ensures c.requires.line.name c.requires.line.text q, c.make_room.ensures.items, c.answer-request.ensures.items r.0 r.1, entry)
           (stands-note (tables_of c.self.inside) c.args.worker c.args.number c.self.invariant.stands (rw (← c.self.view_is) at c.requires.worker) k.0 r.0 (rw (← c.self.view_is) at c.requires.ready) r.1 c.requires.line.name c.requires.line.text k.1 (rw (← c.self.view_is) at c.requires.below));
       few = c.self.invariant.few;
       room_small = c.self.invariant.room_small;

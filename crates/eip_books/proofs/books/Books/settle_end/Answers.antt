@@ -6,18 +6,17 @@ use Rattle.eip_tables.specs.Moves.{ended_by}
 use Rattle.eip_table_laws.proofs.Bounds.{within-limit}
 use Rattle.eip_table_laws.proofs.OwnCalls.{row-within, placed-some}
 use Rattle.eip_table_laws.proofs.RowNumbers.{numbers-stay}
-use Rattle.eip_table_laws.proofs.HandCalls.{stands-settle-end, end-not-outside, taken-above, held-live, held-not-outside}
+use Rattle.eip_table_laws.proofs.HandCalls.{stands-settle-end, end-leaves, end-not-outside, taken-above, held-live, held-not-outside}
 use Rattle.eip_books.proofs.books.Books.settle_end.Goals as goal
 
 pub invariant_of-self : goal.invariant_of-self
 invariant_of-self c =
     let placed = rw (← c.self.view_is) at c.requires.hand in
     let asked = rw (← c.self.view_is) at c.requires.asked in
-    let r = placed-some (tables_of c.self.inside) c.args.number (InHand c.args.worker) c.self.invariant.stands placed in
-    let n = taken-above (tables_of c.self.inside) c.args.worker c.args.number c.self.invariant.stands (rw (← c.self.view_is) at c.requires.worker) r.0 r.1 placed in
+    let n = taken-above (tables_of c.self.inside) c.args.worker c.args.number c.self.invariant.stands (rw (← c.self.view_is) at c.requires.worker) c.get.result.now c.get.ensures placed in
     record {
-      stands = rw (c.append_reserved.ensures.past, c.append_reserved.ensures.workers, c.append_reserved.ensures.turns, c.end_by.ensures.items r.0 r.1)
-          (stands-settle-end (tables_of c.self.inside) c.args.worker c.args.number c.self.invariant.stands (rw (← c.self.view_is) at c.requires.worker) r.0 r.1 placed asked.0 c.args.end c.args.answer asked.1 asked.2 asked.3);
+      stands = rw (c.append_answer.ensures.past, c.append_answer.ensures.workers, c.append_answer.ensures.turns, c.end_by.ensures.items c.get.result.now c.get.ensures)
+          (stands-settle-end (tables_of c.self.inside) c.args.worker c.args.number c.self.invariant.stands (rw (← c.self.view_is) at c.requires.worker) c.get.result.now c.get.ensures placed asked.0 c.args.end c.args.answer asked.1 asked.2 asked.3 c.leave.new.queues c.leave.ensures.leaves);
       few = c.self.invariant.few;
       room_small = c.self.invariant.room_small;
       room_journal = omega (arith, n);
@@ -25,14 +24,25 @@ invariant_of-self c =
       room_ready = omega (arith, n);
     }
 
+pub get-requires-clause-above : goal.get-requires-clause-above
+get-requires-clause-above c = (row-within (tables_of c.self.inside) c.args.number (InHand c.args.worker) c.self.invariant.stands (rw (← c.self.view_is) at c.requires.hand)).0
+
+pub get-requires-clause-within : goal.get-requires-clause-within
+get-requires-clause-within c = (row-within (tables_of c.self.inside) c.args.number (InHand c.args.worker) c.self.invariant.stands (rw (← c.self.view_is) at c.requires.hand)).1
+
+pub leave-requires : goal.leave-requires
+leave-requires c =
+    let asked = rw (← c.self.view_is) at c.requires.asked in
+    end-leaves (tables_of c.self.inside) c.args.worker c.args.number c.self.invariant.stands (rw (← c.self.view_is) at c.requires.worker) c.get.result.now c.get.ensures (rw (← c.self.view_is) at c.requires.hand) asked.0 c.args.end c.args.answer asked.1 asked.2 asked.3
+
 pub end_by-requires-clause-above : goal.end_by-requires-clause-above
 end_by-requires-clause-above c = (row-within (tables_of c.self.inside) c.args.number (InHand c.args.worker) c.self.invariant.stands (rw (← c.self.view_is) at c.requires.hand)).0
 
 pub end_by-requires-clause-within : goal.end_by-requires-clause-within
 end_by-requires-clause-within c = (row-within (tables_of c.self.inside) c.args.number (InHand c.args.worker) c.self.invariant.stands (rw (← c.self.view_is) at c.requires.hand)).1
 
-pub append_reserved-requires : goal.append_reserved-requires
-append_reserved-requires c =
+pub append_answer-requires : goal.append_answer-requires
+append_answer-requires c =
     let placed = rw (← c.self.view_is) at c.requires.hand in
     let r = placed-some (tables_of c.self.inside) c.args.number (InHand c.args.worker) c.self.invariant.stands placed in
     omega (arith, taken-above (tables_of c.self.inside) c.args.worker c.args.number c.self.invariant.stands (rw (← c.self.view_is) at c.requires.worker) r.0 r.1 placed)

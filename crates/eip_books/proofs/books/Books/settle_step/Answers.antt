@@ -18,7 +18,7 @@ invariant_of-self c =
     let n = taken-above (tables_of c.self.inside) c.args.worker c.args.number c.self.invariant.stands (rw (← c.self.view_is) at c.requires.worker) r.0 r.1 placed in
     let entry : length c.entries-entry.result.now ≡ length c.self.inside.journal.past = ap length c.entries-entry.ensures ∙ length-reverse c.self.inside.journal.past in
     record {
-      stands = rw (c.append_reserved.ensures.past, c.append_reserved.ensures.workers, c.append_reserved.ensures.turns, c.answer.ensures.items r.0 r.1, c.put_in.ensures.numbers, entry)
+      stands = rw (c.append_answer.ensures.past, c.append_answer.ensures.workers, c.append_answer.ensures.turns, c.answer.ensures.items r.0 r.1, c.put_in.ensures.numbers, entry)
           (stands-settle (tables_of c.self.inside) c.args.worker c.args.number c.self.invariant.stands (rw (← c.self.view_is) at c.requires.worker) r.0 r.1 placed asked.0 c.args.answer asked.1 asked.2 asked.3);
       few = c.self.invariant.few;
       room_small = c.self.invariant.room_small;
@@ -39,8 +39,8 @@ put_in-requires c =
     let r = placed-some (tables_of c.self.inside) c.args.number (InHand c.args.worker) c.self.invariant.stands placed in
     omega (arith, c.self.invariant.room_ready, taken-above (tables_of c.self.inside) c.args.worker c.args.number c.self.invariant.stands (rw (← c.self.view_is) at c.requires.worker) r.0 r.1 placed)
 
-pub append_reserved-requires : goal.append_reserved-requires
-append_reserved-requires c =
+pub append_answer-requires : goal.append_answer-requires
+append_answer-requires c =
     let placed = rw (← c.self.view_is) at c.requires.hand in
     let r = placed-some (tables_of c.self.inside) c.args.number (InHand c.args.worker) c.self.invariant.stands placed in
     omega (arith, taken-above (tables_of c.self.inside) c.args.worker c.args.number c.self.invariant.stands (rw (← c.self.view_is) at c.requires.worker) r.0 r.1 placed)
