@@ -1,6 +1,8 @@
-ghost use Rattle.std.specs.Prelude.{◌≡◌, IfOk, [], ◌∷◌, codes};
+ghost use Rattle.std.specs.Prelude.{false, ◌≡◌, IfOk, [], ◌∷◌, codes};
+ghost use Rattle.eip_core.specs.Doors.{CanRun};
 ghost use Rattle.eip_endpoint.specs.Inlets.{inlet_names, inlet_views};
-ghost use Rattle.eip_engine_tests.specs.Rows.{logging};
+ghost use Rattle.eip_engine_tests.specs.Rows.{logging, circling, copying_block};
+ghost use Rattle.eip_uri.specs.declared.uri.Uri.TheVariants as uri;
 
 use eip_core::{Registry, drain_alone};
 use eip_endpoint::{Inlet, Lane, MemoryLane, MemorySource, Source};
@@ -36,6 +38,52 @@ fn logging(alloc: Global) -> Result<RouteSet, NoMemory>
     })
 }
 
+/// The queue `l`.
+fn queue(alloc: Global) -> Result<Uri, NoMemory>
+    ensures { IfOk result (λ u. u ≡ uri.Seda (codes "l") 1000 1 false) }
+{
+    Ok(Uri::Seda {
+        name: Text::of_str(alloc, "l")?,
+        size: 1000,
+        consumers: 1,
+        discard: false,
+    })
+}
+
+/// A block whose one step puts a copy into the queue `l`.
+fn copying(alloc: Global) -> Result<Block, NoMemory>
+    ensures { IfOk result (λ b. b ≡ copying_block) }
+{
+    let step = Step::To(queue(alloc)?);
+    let steps = Series::of(vec![in alloc; step]?);
+    Ok(Block { steps })
+}
+
+/// A route of this name.
+fn route_of(alloc: Global, id: &str, from: Uri, block: u32) -> Result<Route, NoMemory>
+    ensures { IfOk result (λ r. r ≡ record { id = id.now; from = from; block = block }) }
+{
+    let id = Text::of_str(alloc, id)?;
+    Ok(Route { id, from, block })
+}
+
+/// A route from `stream:in` and one from the queue `l`, each of which puts a copy into that queue.
+fn circling(alloc: Global) -> Result<RouteSet, NoMemory>
+    ensures { IfOk result (λ s. s ≡ circling) }
+{
+    let first = route_of(alloc, "route1", Uri::StreamIn, 0)?;
+    let second = route_of(alloc, "route2", queue(alloc)?, 1)?;
+    let routes = Series::of(vec![in alloc; first, second]?);
+    let blocks = Series::of(vec![in alloc; copying(alloc)?, copying(alloc)?]?);
+    Ok(RouteSet {
+        names: Names::none(alloc),
+        routes,
+        blocks,
+        handler: Handler::plain(),
+        clauses: Series::of(Vec::new(alloc)),
+    })
+}
+
 /// A source of the lines `a` and `b`, as the inlet of standard input.
 fn one_inlet(alloc: Global) -> Result<Vec<Inlet<MemorySource>>, NoMemory>
     ensures { IfOk result (λ v. inlet_names (inlet_views ⟦<MemorySource as Source>⟧ v.items) ≡ codes "stream" ∷ []) }
@@ -60,9 +108,16 @@ fn is_ready(place: Option<Place>) -> bool {
     }
 }
 
-/// The stop of a drain of the two lines through the one route.
+fn is_queued(place: Option<Place>) -> bool {
+    match place {
+        Some(Place::Queue(route)) => route == 1,
+        _ => false,
+    }
+}
+
+/// The stop of a drain of the two lines.
 fn drained(alloc: Global, hub: &mut Hub) -> Result<Stop, NoMemory>
-    requires set { hub.old.set ≡ logging }
+    requires can_run { CanRun hub.old.set [] (codes "stream" ∷ []) }
     requires past { hub.old.journal.past ≡ [] }
 {
     let mut inlets = one_inlet(alloc)?;
@@ -86,6 +141,32 @@ fn left(alloc: Global, hub: &mut Hub) -> Result<(Stop, bool, bool), NoMemory>
 fn left_in_four_turns(alloc: Global) -> Result<(Stop, bool, bool), NoMemory> {
     let mut hub = Hub::new(alloc, logging(alloc)?, 0, 4)?;
     left(alloc, &mut hub)
+}
+
+/// The stop of the drain, and whether exchange 25 is ready then, exchange 26 waits in the queue of the second route, and there is no
+/// exchange 27.
+fn left_circling(alloc: Global, hub: &mut Hub) -> Result<(Stop, [bool; 3]), NoMemory>
+    requires set { hub.old.set ≡ circling }
+    requires past { hub.old.journal.past ≡ [] }
+{
+    let stop = drained(alloc, hub)?;
+    let ready = is_ready(hub.place(alloc, 25)?);
+    let queued = is_queued(hub.place(alloc, 26)?);
+    let unborn = hub.place(alloc, 27)?.is_none();
+    Ok((stop, [ready, queued, unborn]))
+}
+
+/// What a drain of at most fifty turns leaves.
+fn left_in_fifty_turns(alloc: Global) -> Result<(Stop, [bool; 3]), NoMemory> {
+    let mut hub = Hub::new(alloc, circling(alloc)?, 0, 50)?;
+    left_circling(alloc, &mut hub)
+}
+
+#[test]
+fn a_drain_of_queues_that_spends_its_turns_leaves_who_waits(rt: HostRuntime) -> Result<(), Fail> {
+    let left = left_in_fifty_turns(rt.alloc())?;
+    assert!(rt; left == (Stop::Spent, [true; 3]));
+    Ok(())
 }
 
 #[test]

@@ -1,5 +1,4 @@
 use Rattle.eip_core.proofs.Turns.{none-out}
-use Rattle.eip_engine_tests.proofs.Rows.{logging-runs}
 use Rattle.eip_engine_tests.proofs.drains.drained.Goals as goal
 
 pub drain_alone-stop-requires-clause-home : goal.drain_alone-stop-requires-clause-home
@@ -7,4 +6,4 @@ drain_alone-stop-requires-clause-home c = none-out c.args.hub.now c.requires.pas
 
 pub drain_alone-stop-requires-clause-can_run : goal.drain_alone-stop-requires-clause-can_run
 drain_alone-stop-requires-clause-can_run c =
-    rw (c.requires.set, c.new-lanes.ensures.items, c.in_ok-inlets.ensures) logging-runs
+    rw (c.new-lanes.ensures.items, c.in_ok-inlets.ensures) c.requires.can_run
