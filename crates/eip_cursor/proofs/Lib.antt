@@ -1,9 +1,5 @@
-mod Falling
-mod Faulting
+mod Answering
 mod Fitting
 mod Following
-mod Keeping
+mod Replying
 mod Staying
-mod Trying
-mod Turning
-mod Weighing

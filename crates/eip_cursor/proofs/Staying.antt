@@ -1,5 +1,5 @@
 -- A sequential fan-out between two of its parts.
-use Rattle.std.proofs.Common.{◌≡◌, ℕ, zero, suc, ◌-◌, Bool, true, false, cond, List, [], ◌∷◌, ◌++◌, length, refl, sym, ◌∙◌, ap, arith, length-append}
+use Rattle.std.proofs.Common.{◌≡◌, ℕ, ◌-◌, Bool, true, false, List, [], ◌∷◌, ◌++◌, length, refl, sym, ◌∙◌, ap, arith, length-append}
 use Rattle.std.specs.Prelude.{Option, Some, None, MatchOption, slice_get, unwrap_or, is_some, ◌&&◌, reverse}
 use Rattle.std.proofs.lemmas.List.{reverse-append, reverse-reverse}
 use Rattle.eip_exchange.specs.declared.message.Message.{Message}
@@ -30,9 +30,10 @@ use Rattle.eip_progress.specs.declared.frame.Task.TheVariants as task
 use Rattle.eip_progress.specs.declared.frame.Wait.TheVariants as wait
 use Rattle.eip_progress.specs.Answered.{next_tried, fan_on, going_on}
 use Rattle.eip_progress.specs.Rest.{tried_mean, guarded_mean, wait_mean}
-use Rattle.eip_cursor.specs.declared.parts.Asking.{Asking}
+use Rattle.eip_progress.specs.declared.tried.Asking.{Asking}
+use Rattle.eip_progress.specs.Tries.{asked}
 use Rattle.eip_cursor.specs.InTurn.{stop_in, step_found, trying, Moves}
-use Rattle.eip_cursor.proofs.Trying.{step_goes_on, answered_none}
+use Rattle.eip_cursor.proofs.Replying.{step_goes_on, answered_none}
 
 none_some : {X : Type 0} {k : X} → None ≡ Some k → ⊥
 none_some e = cc
@@ -62,7 +63,7 @@ first_turned t l o x h e s =
 
 pub next_taken : (s : Strategy) (stop : Bool) (ended parts : List Ended) (k : ℕ) (left l : List Seed) (x : Seed) (m : Message) →
     (stop && is_some (first_fault parts)) ≡ false → left ≡ x ∷ l →
-    next_tried s stop ended k left parts m ≡ tried.Asks (progress.Spawning (next_number k) (ended ++ parts) l) (request.Spawn (x ∷ [])) (next_number k) m
+    next_tried s stop ended k left parts m ≡ asked (progress.Spawning (next_number k) (ended ++ parts) l) (request.Spawn (x ∷ [])) (next_number k) m
 next_taken s stop ended parts k left l x m f e = rw (f, e) refl
 
 -- ---- the wait
@@ -91,7 +92,7 @@ module _ (set : RouteSet) (c : Context) where
 
   module _ (whole : Option Uri) (left : ℕ) (m : Message) (stop : Bool) (x y : Asking) (a : Reply) (A : List Reply) where
     stays_at_step : (b i : ℕ) (o : Option Step) → slice_get (steps_of set b) i ≡ o → stop_in o ≡ Some stop → fits x.request a ≡ true → Moves stop x a y →
-        wait_mean set whole (wait.Trying c (task.Step b i) left m y.progress y.request y.index) A ≡ wait_mean set whole (wait.Trying c (task.Step b i) left m x.progress x.request x.index) (a ∷ A)
+        wait_mean set whole (wait.Trying c (task.Step b i) left m y) A ≡ wait_mean set whole (wait.Trying c (task.Step b i) left m x) (a ∷ A)
     stays_at_step b i None e f h v = absurd (none_some f)
     stays_at_step b i (Some s) e f h v =
         let n : Message = redelivered m (number_of_try left) in
@@ -103,7 +104,7 @@ module _ (set : RouteSet) (c : Context) where
 
     -- at the same try the exchange goes on from one request to the next
     pub stays : (t : Task) → stop_in (step_found set t) ≡ Some stop → fits x.request a ≡ true → Moves stop x a y →
-        wait_mean set whole (wait.Trying c t left m y.progress y.request y.index) A ≡ wait_mean set whole (wait.Trying c t left m x.progress x.request x.index) (a ∷ A)
+        wait_mean set whole (wait.Trying c t left m y) A ≡ wait_mean set whole (wait.Trying c t left m x) (a ∷ A)
     stays (task.Step b i) f h v = stays_at_step b i (slice_get (steps_of set b) i) refl f h v
     stays task.Dead f h v = absurd (none_some f)
     stays task.Whole f h v = absurd (none_some f)

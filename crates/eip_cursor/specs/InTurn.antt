@@ -21,7 +21,8 @@ use Rattle.eip_progress.specs.declared.frame.Task.TheVariants as task
 use Rattle.eip_progress.specs.declared.frame.Wait.{Wait}
 use Rattle.eip_progress.specs.declared.frame.Wait.TheVariants as wait
 use Rattle.eip_progress.specs.Answered.{next_tried, fan_on}
-use Rattle.eip_cursor.specs.declared.parts.Asking.{Asking}
+use Rattle.eip_progress.specs.declared.tried.Asking.{Asking}
+use Rattle.eip_progress.specs.Tries.{asked}
 
 -- whether a fan-out stops at a part that failed
 abbrev pub stop_in : Option Step → Option Bool
@@ -45,14 +46,14 @@ spawning q part ended left = record { progress = progress.Spawning part ended le
 
 -- the wait of a try
 abbrev pub trying : Context → Task → (left : ℕ) → Message → Asking → Wait
-trying c t left m x = wait.Trying c t left m x.progress x.request x.index
+trying c t left m x = wait.Trying c t left m x
 
 -- at a fan-out the answer leads from one request to the next, whatever the message
 abbrev pub Moves : (stop : Bool) → Asking → Reply → Asking → Type 0
 Moves stop x a y =
-    ((set : RouteSet) → fault_in set x.request a ≡ None) × ((s : Strategy) (m : Message) → fan_on s stop x.progress m a ≡ tried.Asks y.progress y.request y.index m)
+    ((set : RouteSet) → fault_in set x.request a ≡ None) × ((s : Strategy) (m : Message) → fan_on s stop x.progress m a ≡ tried.Asks y m)
 
 -- behind the part that ended the next one is asked for, and so many seeds are left
 abbrev pub TakesNext : (stop : Bool) → List Ended → List Seed → Reply → List Ended → List Seed → Request → Type 0
 TakesNext stop ended left a ended' left' q =
-    (s : Strategy) (k : ℕ) (m : Message) → next_tried s stop ended k left (parts_in a) m ≡ tried.Asks (progress.Spawning (next_number k) ended' left') q (next_number k) m
+    (s : Strategy) (k : ℕ) (m : Message) → next_tried s stop ended k left (parts_in a) m ≡ asked (progress.Spawning (next_number k) ended' left') q (next_number k) m

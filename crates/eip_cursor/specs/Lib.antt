@@ -1,5 +1,2 @@
-pub mod Falls
 pub mod Follows
 pub mod InTurn
-pub mod Kept
-pub mod Weights

@@ -5,7 +5,7 @@ ghost use Rattle.eip_meaning.specs.declared.context.Context.{Context as AContext
 ghost use Rattle.eip_progress.specs.declared.frame.Frame.{Frame as AFrame};
 ghost use Rattle.eip_progress.specs.Rest.{rest_of, IsStarting, next_fate, state_place, wait_place};
 
-use crate::copies::copy_request;
+use eip_copies::copy_request;
 use eip_frames::Request;
 use eip_progress::{Next, State, Wait};
 use eip_text::NoMemory;
@@ -22,12 +22,19 @@ pub fn asked(alloc: Global, commit: bool, state: &State) -> Result<Next, NoMemor
             let next = asked_wait(alloc, wait)?;
             Ok(next)
         }
-        State::Finishing(end, message) => Ok(Next::Asks(Request::Finish {
-            end: end.copy()?,
-            message: message.copy(alloc)?,
-            commit,
-        })),
-        State::Over(end, message) => Ok(Next::Ended(end.copy()?, message.copy(alloc)?)),
+        State::Finishing(end, message) => {
+            let message = message.copy(alloc)?;
+            let end = end.copy()?;
+            Ok(Next::Asks(Request::Finish {
+                end,
+                message,
+                commit,
+            }))
+        }
+        State::Over(end, message) => {
+            let message = message.copy(alloc)?;
+            Ok(Next::Ended(end.copy()?, message))
+        }
     }
 }
 
@@ -36,8 +43,8 @@ fn asked_wait(alloc: Global, wait: &Wait) -> Result<Next, NoMemory>
     ensures { IfOk result (λ n. (set : ARouteSet) (commit : Bool) (item : List ℕ) (c : AContext) (whole : Option AUri) (fs : List AFrame) → rest_of set commit item c whole fs (State.Runs wait.now) [] ≡ next_fate (wait_place wait.now) n) }
 {
     match wait {
-        Wait::Trying { request, .. } => {
-            let request = copy_request(alloc, request)?;
+        Wait::Trying { asking, .. } => {
+            let request = copy_request(alloc, &asking.get().request)?;
             Ok(Next::Asks(request))
         }
         Wait::Sleeping { ticks, .. } => Ok(Next::Asks(Request::Wait { ticks: *ticks })),

@@ -1,4 +1,4 @@
-ghost use Rattle.std.specs.Prelude.{◌≡◌, ◌≢◌, ◌++◌, false, List, [], ◌∷◌, IfOk, OnOk, OnErr, MatchOption};
+ghost use Rattle.std.specs.Prelude.{◌≡◌, ◌≢◌, ◌++◌, ℕ, Bool, false, List, [], ◌∷◌, IfOk, OnOk, OnErr, MatchOption};
 ghost use Rattle.eip_uri.specs.declared.fault.UriFault.TheVariants.{NoMemory as NoMemoryLeft};
 ghost use Rattle.eip_route.specs.declared.route.RouteSet.{RouteSet as ARouteSet};
 ghost use Rattle.eip_frames.specs.Fate.{Fate as AFate};
@@ -7,22 +7,22 @@ ghost use Rattle.eip_frames.specs.declared.request.At.{At as APlace};
 ghost use Rattle.eip_uri.specs.Reading.{read};
 ghost use Rattle.eip_cursor.specs.Follows.{Follows};
 ghost use Rattle.std.specs.Option.{option_map};
-ghost use Rattle.eip_meaning.specs.Meaning.{mean, item_of, work_mean, send_to};
-ghost use Rattle.eip_progress.specs.Rest.{rest, rest_of, now_mean, IsFirst, IsStarting, asked_at, state_place, next_fate, answers_of, AnswerFits};
+ghost use Rattle.eip_meaning.specs.Contexts.{place_in};
+ghost use Rattle.eip_meaning.specs.Meaning.{mean, item_of, work_mean, send_to, finished};
+ghost use Rattle.eip_progress.specs.Rest.{rest, rest_of, behind_all, now_mean, IsFirst, IsStarting, asked_at, state_place, next_fate, answers_of, AnswerFits};
 
-use crate::answers::on_answer;
 use crate::asked::asked;
-use crate::attempts::begin_whole;
-use crate::copies::copy_frames;
 use crate::ends::{end_answered, is_told_origin};
 use crate::parts::{between_parts, is_between};
-use crate::turns::run;
+use crate::waits::on_answer;
+use eip_copies::copy_frames;
 use eip_exchange::{Birth, End, Message, Work};
 use eip_frames::{Answer, Request};
 use eip_meaning::Context;
-use eip_progress::{Cursor, Frame, Next, Now, State};
+use eip_progress::{Boxed, Cursor, Frame, Next, Now, State};
 use eip_route::RouteSet;
 use eip_text::{NoMemory, Text};
+use eip_turns::{begin_whole, run};
 use eip_uri::{Uri, UriFault};
 use std::alloc::Global;
 use std::mem;
@@ -38,6 +38,13 @@ pub trait Advance: Sized {
     /// The cursor of a birth, which has asked nothing yet.
     fn start(alloc: Global, birth: Birth, set: &RouteSet) -> Result<Self, NoMemory>
         ensures { IfOk result (λ k. is_first k × ((A : List AnAnswer) → rest set.now k A ≡ mean set.now birth A)) };
+
+    /// The cursor of a birth, with its first request or its end: what `start` and the first `advance` give, without a copy of the
+    /// message.
+    fn begin(alloc: Global, birth: Birth, set: &RouteSet) -> Result<(Self, Next), NoMemory>
+        ensures means { IfOk result (λ p. (A : List AnAnswer) → rest set.now p.0 A ≡ mean set.now birth A) }
+        ensures asks { IfOk result (λ p. rest set.now p.0 [] ≡ next_fate (asked_at p.0) p.1) }
+        ensures later { IfOk result (λ p. is_first p.0 → ⊥) };
 
     /// From one request to the next: `None` at first, later an answer that fits the last request. After an end no call may
     /// come. On `NoMemory` the cursor is as before.
@@ -57,7 +64,7 @@ pub trait Advance: Sized {
 /// Where a cursor comes to: the endpoint of a send that is its whole work, the frames, and the state.
 #[derive(Drop)]
 struct Reached {
-    whole: Option<Uri>,
+    whole: Option<Boxed<Uri>>,
     stack: Vec<Frame>,
     state: State,
 }
@@ -79,6 +86,18 @@ impl Advance for Cursor {
             stack: Vec::new(alloc),
             state: State::Starting(birth.work, birth.message),
         })
+    }
+
+    #[tactic(auto, unfolding(eip_progress::specs::Rest::rest, eip_progress::specs::Rest::IsFirst, eip_progress::specs::Rest::asked_at))]
+    fn begin(alloc: Global, birth: Birth, set: &RouteSet) -> Result<(Cursor, Next), NoMemory> {
+        let cursor = begun_cursor(alloc, birth, set)?;
+        match asked(alloc, cursor.commit, &cursor.state) {
+            Ok(next) => Ok((cursor, next)),
+            Err(NoMemory) => {
+                drop(cursor);
+                Err(NoMemory)
+            }
+        }
     }
 
     #[tactic(auto, unfolding(eip_progress::specs::Rest::rest, eip_progress::specs::Rest::IsFirst, eip_progress::specs::Rest::asked_at))]
@@ -248,7 +267,50 @@ fn opened(cursor: &Cursor, alloc: Global, set: &RouteSet) -> Result<Reached, NoM
     };
     let frames = copy_frames(alloc, &cursor.stack)?;
     let message = message.copy(alloc)?;
-    let first = begun(alloc, set, cursor.context, work, message)?;
+    let reached = first_turns(alloc, set, cursor.context, work, message, frames)?;
+    Ok(reached)
+}
+
+/// The cursor of a birth at its first request or its end.
+#[tactic(auto, unfolding(eip_progress::specs::Rest::rest, eip_progress::specs::Rest::IsFirst, eip_meaning::specs::Meaning::mean))]
+fn begun_cursor(alloc: Global, birth: Birth, set: &RouteSet) -> Result<Cursor, NoMemory>
+    ensures rest { IfOk result (λ k. (A : List AnAnswer) → rest set.now k A ≡ mean set.now birth A) }
+    ensures later { IfOk result (λ k. IsFirst k → ⊥) }
+{
+    let context = Context::of(&birth);
+    let commit = is_told_origin(set, &birth.origin);
+    let frames = Vec::new(alloc);
+    let Birth {
+        origin,
+        work,
+        message,
+        ..
+    } = birth;
+    let reached = first_turns(alloc, set, context, &work, message, frames)?;
+    Ok(Cursor {
+        context,
+        commit,
+        origin,
+        whole: reached.whole,
+        stack: reached.stack,
+        state: reached.state,
+    })
+}
+
+/// The work of a birth up to the first request, before these frames.
+fn first_turns(
+    alloc: Global,
+    set: &RouteSet,
+    context: Context,
+    work: &Work,
+    message: Message,
+    frames: Vec<Frame>,
+) -> Result<Reached, NoMemory>
+    ensures rest { IfOk result (λ r. (commit : Bool) (item : List ℕ) (A : List AnAnswer) → rest_of set.now commit item context r.whole r.stack.items r.state A
+        ≡ finished commit item (place_in context 0) (behind_all set.now frames.items (work_mean set.now context work.now message A))) }
+    ensures later { IfOk result (λ r. IsStarting r.state → ⊥) }
+{
+    let first = begun(alloc, set, context, work, message)?;
     let last = run(alloc, set, frames, first.1)?;
     Ok(Reached {
         whole: first.0,
@@ -264,7 +326,7 @@ fn begun(
     context: Context,
     work: &Work,
     message: Message,
-) -> Result<(Option<Uri>, Now), NoMemory>
+) -> Result<(Option<Boxed<Uri>>, Now), NoMemory>
     ensures { IfOk result (λ r. (A : List AnAnswer) → now_mean set.now r.0 r.1 A ≡ work_mean set.now context work.now message A) }
 {
     match work {
@@ -290,12 +352,12 @@ fn sent(
     context: Context,
     text: &Text,
     message: Message,
-) -> Result<(Option<Uri>, Now), NoMemory>
+) -> Result<(Option<Boxed<Uri>>, Now), NoMemory>
     ensures { IfOk result (λ r. (A : List AnAnswer) → now_mean set.now r.0 r.1 A ≡ send_to set.now context (read text.now []) message A) }
 {
     match Uri::read(alloc, text, &[]) {
         Ok(uri) => {
-            let whole = Some(uri);
+            let whole = Some(Boxed::of(alloc, uri)?);
             let now = begin_whole(alloc, set, &whole, context, 1000, message)?;
             Ok((whole, now))
         }
@@ -367,11 +429,11 @@ fn answered(
     }
 }
 
-fn copy_whole(alloc: Global, whole: &Option<Uri>) -> Result<Option<Uri>, NoMemory>
+fn copy_whole(alloc: Global, whole: &Option<Boxed<Uri>>) -> Result<Option<Boxed<Uri>>, NoMemory>
     ensures { IfOk result (λ u. u ≡ whole.now) }
 {
     match whole {
-        Some(uri) => Ok(Some(uri.copy(alloc)?)),
+        Some(uri) => Ok(Some(Boxed::of(alloc, uri.get().copy(alloc)?)?)),
         None => Ok(None),
     }
 }

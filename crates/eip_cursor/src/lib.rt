@@ -1,15 +1,11 @@
 // A cursor is run from one request to the next.
 #![tactic(auto)]
 
-mod answers;
 mod asked;
-mod attempts;
-mod copies;
 mod cursor;
 mod ends;
-mod handling;
 mod parts;
-mod turns;
+mod waits;
 
 pub use cursor::Advance;
 pub use eip_progress::{Cursor, Next};

@@ -9,26 +9,18 @@ ghost use Rattle.eip_progress.specs.Rest.{wait_mean, request_of};
 ghost use Rattle.eip_cursor.specs.InTurn.{stop_in, step_found, trying, joining, spawning, Moves, TakesNext};
 ghost use Rattle.eip_route.specs.Faults.{next_number};
 
-use crate::attempts::step_at;
-use crate::copies::copy_seed;
+use eip_copies::copy_seed;
 use eip_exchange::{Ended, Message};
 use eip_frames::{Answer, Request, Seed};
 use eip_meaning::Context;
 use eip_parts::fans::{one, parts_in, stops, waits};
-use eip_progress::{Progress, Queue, Task, Wait};
+use eip_progress::{Asking, Boxed, Progress, Queue, Task, Wait};
 use eip_route::{RouteSet, Step};
 use eip_text::{NoMemory, Series};
+use eip_turns::step_at;
 use std::alloc::Global;
 
 // A sequential fan-out between two of its parts: its seeds, and the parts that have ended, stay where they are.
-
-/// How far a try is, and what it has asked.
-#[derive(Drop)]
-pub struct Asking {
-    progress: Progress,
-    request: Request,
-    index: u32,
-}
 
 /// What an answer makes of a wait, and what is asked then; nothing is, and the wait is as before, where there is more to do
 /// than to go on from one part to the next.
@@ -48,7 +40,7 @@ struct Onward {
 /// Whether it is a sequential fan-out's, between two of its parts.
 pub fn is_between(wait: &Wait) -> bool {
     match wait {
-        Wait::Trying { progress, .. } => is_in_turn(progress),
+        Wait::Trying { asking, .. } => is_in_turn(&asking.get().progress),
         Wait::Sleeping { .. } => false,
     }
 }
@@ -79,17 +71,8 @@ pub fn between_parts(
             task,
             left,
             message,
-            progress,
-            request,
-            index,
-        } => {
-            let asking = Asking {
-                progress,
-                request,
-                index,
-            };
-            try_between(alloc, set, context, task, left, message, asking, answer)
-        }
+            asking,
+        } => try_between(alloc, set, context, task, left, message, asking, answer),
         Wait::Sleeping {
             context,
             task,
@@ -116,7 +99,7 @@ fn try_between(
     task: Task,
     left: u32,
     message: Message,
-    asking: Asking,
+    mut asking: Boxed<Asking>,
     answer: &Answer,
 ) -> Result<Moved, Wait>
     requires { fits asking.request answer.now ≡ true }
@@ -125,16 +108,32 @@ fn try_between(
         (λ q. ((whole : Option AUri) (A : List AnAnswer) → wait_mean set.now whole v.wait A ≡ wait_mean set.now whole (trying context task left message asking) (answer.now ∷ A)) × (request_of v.wait ≡ q)))
         (λ w. w ≡ trying context task left message asking) }
 {
-    match of_task(alloc, set, task, asking, answer) {
-        Ok(onward) => Ok(Moved {
-            wait: trying(context, task, left, message, onward.asking),
-            asked: onward.asked,
-        }),
-        Err(asking) => Err(trying(context, task, left, message, asking)),
+    let before = asking.replace(nothing_asked());
+    match of_task(alloc, set, task, before, answer) {
+        Ok(onward) => {
+            drop(asking.replace(onward.asking));
+            Ok(Moved {
+                wait: trying(context, task, left, message, asking),
+                asked: onward.asked,
+            })
+        }
+        Err(before) => {
+            drop(asking.replace(before));
+            Err(trying(context, task, left, message, asking))
+        }
     }
 }
 
-fn trying(context: Context, task: Task, left: u32, message: Message, asking: Asking) -> Wait
+/// What stands where a request is taken out. It takes no memory.
+fn nothing_asked() -> Asking {
+    Asking {
+        progress: Progress::First,
+        request: Request::Wait { ticks: 0 },
+        index: 0,
+    }
+}
+
+fn trying(context: Context, task: Task, left: u32, message: Message, asking: Boxed<Asking>) -> Wait
     ensures { result ≡ trying context task left message asking }
 {
     Wait::Trying {
@@ -142,9 +141,7 @@ fn trying(context: Context, task: Task, left: u32, message: Message, asking: Ask
         task,
         left,
         message,
-        progress: asking.progress,
-        request: asking.request,
-        index: asking.index,
+        asking,
     }
 }
 
@@ -216,6 +213,7 @@ fn next_asking(alloc: Global, stop: bool, asking: Asking, answer: &Answer) -> Re
             ended,
             left,
         } => {
+            drop(request);
             let asking = Asking {
                 progress: Progress::Joining {
                     index: part,
@@ -298,6 +296,7 @@ fn behind_part(
 {
     match taken {
         Some(taken) => {
+            drop(request);
             let part = part.saturating_add(1);
             let asking = Asking {
                 progress: Progress::Spawning {

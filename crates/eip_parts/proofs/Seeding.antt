@@ -10,12 +10,13 @@ use Rattle.eip_progress.specs.declared.tried.Progress.TheVariants as progress
 use Rattle.eip_progress.specs.declared.tried.Tried.TheVariants as tried
 use Rattle.eip_progress.specs.FirstTry.{fan_tried}
 use Rattle.eip_progress.specs.Answered.{next_seed}
+use Rattle.eip_progress.specs.Tries.{asked}
 
 pub none : (fan : Fan) (seeds : List Seed) (m : Message) → (length seeds == 0) ≡ true → fan_tried fan seeds m ≡ tried.Goes m
 none fan [] m h = refl
 none fan (x ∷ xs) m h = absurd (false≢true (sym (ne_eqb (length (x ∷ xs)) 0 (λ e. omega arith)) ∙ h))
 
-pub at_once : (fan : Fan) (seeds : List Seed) (m : Message) → (length seeds == 0) ≡ false → fan.parallel ≡ true → fan_tried fan seeds m ≡ tried.Asks progress.SpawningAll (request.Spawn seeds) 0 m
+pub at_once : (fan : Fan) (seeds : List Seed) (m : Message) → (length seeds == 0) ≡ false → fan.parallel ≡ true → fan_tried fan seeds m ≡ asked progress.SpawningAll (request.Spawn seeds) 0 m
 at_once fan [] m h p = cc
 at_once fan (x ∷ xs) m h p = rw p refl
 

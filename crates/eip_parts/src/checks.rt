@@ -101,7 +101,7 @@ pub fn filter(
 {
     match checked(alloc, set, context, check, &message)? {
         Known::Is(holds) => Ok(nested_if(holds, block, message)),
-        Known::Asks(request) => Ok(Tried::Asks(Progress::First, request, 0, message)),
+        Known::Asks(request) => Tried::asked(alloc, Progress::First, request, 0, message),
     }
 }
 
@@ -127,7 +127,7 @@ pub fn choose(
                 }
             }
             Known::Asks(request) => {
-                return Ok(Tried::Asks(Progress::Choosing(index), request, 0, message));
+                return Tried::asked(alloc, Progress::Choosing(index), request, 0, message);
             }
         }
         index += 1;

@@ -13,6 +13,7 @@ ghost use Rattle.eip_progress.specs.Answered.{taken_tried, join_tried, next_seed
 
 use crate::faults::{bare_fault, counted_fault, strategy_fault, too_many_parts};
 use crate::messages::with_content;
+use eip_copies::{copy_ended, copy_queue};
 use eip_exchange::{Care, End, Ended, Fault, How, Message, Strategy, Work};
 use eip_frames::{Answer, Request, Seed};
 use eip_meaning::Context;
@@ -250,7 +251,8 @@ fn fan_out(alloc: Global, fan: &Fan, seeds: Vec<Seed>, message: Message) -> Resu
     }
     if fan.parallel {
         let parts = Series::of(seeds);
-        return Ok(Tried::Asks(Progress::SpawningAll, Request::Spawn { parts }, 0, message));
+        let request = Request::Spawn { parts };
+        return Tried::asked(alloc, Progress::SpawningAll, request, 0, message);
     }
     let ended = Vec::new(alloc);
     next_seed(
@@ -282,7 +284,7 @@ fn next_seed(
                 ended: Series::of(ended),
                 left,
             };
-            Ok(Tried::Asks(progress, Request::Spawn { parts }, index, message))
+            Tried::asked(alloc, progress, Request::Spawn { parts }, index, message)
         }
         None => join(alloc, strategy, ended, message),
     }
@@ -304,31 +306,26 @@ pub fn fan_answered(
     alloc: Global,
     strategy: &Strategy,
     stop: bool,
-    progress: Progress,
+    progress: &Progress,
     message: Message,
     answer: &Answer,
 ) -> Result<Tried, NoMemory>
-    ensures { IfOk result (λ t. t ≡ fan_on strategy.now stop progress message answer.now) }
+    ensures { IfOk result (λ t. t ≡ fan_on strategy.now stop progress.now message answer.now) }
 {
     match progress {
-        Progress::SpawningAll => Ok(Tried::Asks(Progress::JoiningAll, waits(answer), 0, message)),
+        Progress::SpawningAll => {
+            Tried::asked(alloc, Progress::JoiningAll, waits(answer), 0, message)
+        }
         Progress::JoiningAll => join(alloc, strategy, parts_in(alloc, answer)?, message),
         Progress::Spawning { index, ended, left } => {
-            let progress = Progress::Joining { index, ended, left };
-            Ok(Tried::Asks(progress, waits(answer), index, message))
+            let progress = joining(alloc, *index, ended.items(), left)?;
+            Tried::asked(alloc, progress, waits(answer), *index, message)
         }
         Progress::Joining { index, ended, left } => {
             let parts = parts_in(alloc, answer)?;
-            next_part(
-                alloc,
-                strategy,
-                stop,
-                ended.into_vec(),
-                index,
-                left,
-                parts,
-                message,
-            )
+            let ended = copy_ended(alloc, ended.items())?;
+            let left = copy_queue(alloc, left)?;
+            next_part(alloc, strategy, stop, ended, *index, left, parts, message)
         }
         Progress::First
         | Progress::Choosing(_)
@@ -336,6 +333,20 @@ pub fn fan_answered(
         | Progress::Leaving { .. }
         | Progress::Testing { .. } => Ok(Tried::Goes(message)),
     }
+}
+
+/// The part at this index is waited for, behind these and before those.
+fn joining(
+    alloc: Global,
+    index: u32,
+    ended: &[Ended],
+    left: &Queue<Seed>,
+) -> Result<Progress, NoMemory>
+    ensures { IfOk result (λ p. p ≡ Progress.Joining index ended.now left.now) }
+{
+    let ended = Series::of(copy_ended(alloc, ended)?);
+    let left = copy_queue(alloc, left)?;
+    Ok(Progress::Joining { index, ended, left })
 }
 
 /// Those that were born are waited for.
@@ -356,19 +367,9 @@ pub fn parts_in(alloc: Global, answer: &Answer) -> Result<Vec<Ended>, NoMemory>
     ensures { IfOk result (λ v. v.items ≡ parts_in answer.now) }
 {
     match answer {
-        Answer::Joined(parts) => copied(alloc, parts.items()),
+        Answer::Joined(parts) => copy_ended(alloc, parts.items()),
         _ => Ok(Vec::new(alloc)),
     }
-}
-
-fn copied(alloc: Global, parts: &[Ended]) -> Result<Vec<Ended>, NoMemory>
-    ensures { IfOk result (λ v. v.items ≡ parts.now) }
-{
-    let mut copies = Vec::with_capacity(alloc, parts.len())?;
-    for part in parts {
-        copies.push(part.copy(alloc)?)?;
-    }
-    Ok(copies)
 }
 
 fn next_part(

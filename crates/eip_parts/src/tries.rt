@@ -12,6 +12,7 @@ ghost use Rattle.eip_parts.specs.Knowing.{known_tried};
 use crate::checks::{Known, checked, held};
 use crate::fans::{block_seed, one, waits};
 use crate::messages::with_content;
+use eip_copies::copy_pending;
 use eip_error_handler::last_segment;
 use eip_exchange::{Care, End, Ended, Fault, Message};
 use eip_frames::{Answer, Request};
@@ -37,7 +38,7 @@ pub fn part(
         part: index,
         pending,
     };
-    Ok(Tried::Asks(progress, Request::Spawn { parts }, index, message))
+    Tried::asked(alloc, progress, Request::Spawn { parts }, index, message)
 }
 
 /// What an answer gives at a doTry (Camel manual, *doTry*).
@@ -47,20 +48,21 @@ pub fn try_answered(
     context: Context,
     catches: &[Catch],
     finish: Option<u32>,
-    progress: Progress,
+    progress: &Progress,
     message: Message,
     answer: &Answer,
 ) -> Result<Tried, NoMemory>
-    ensures { IfOk result (λ t. t ≡ try_on set.now context catches.now finish progress message answer.now) }
+    ensures { IfOk result (λ t. t ≡ try_on set.now context catches.now finish progress.now message answer.now) }
 {
     match progress {
         Progress::Entering { part, pending } => {
-            let progress = Progress::Leaving { part, pending };
-            Ok(Tried::Asks(progress, waits(answer), part, message))
+            let progress = leaving(*part, pending)?;
+            Tried::asked(alloc, progress, waits(answer), *part, message)
         }
         Progress::Leaving { part, pending } => {
+            let pending = copy_pending(pending)?;
             left(
-                alloc, set, context, catches, finish, part, pending, message, answer,
+                alloc, set, context, catches, finish, *part, pending, message, answer,
             )
         }
         Progress::Testing {
@@ -68,9 +70,11 @@ pub fn try_answered(
             fault,
             latest,
         } => {
+            let fault = fault.copy()?;
+            let latest = latest.copy(alloc)?;
             let holds = held(answer);
             caught(
-                alloc, set, context, catches, finish, index, holds, fault, latest, message,
+                alloc, set, context, catches, finish, *index, holds, fault, latest, message,
             )
         }
         Progress::First
@@ -80,6 +84,14 @@ pub fn try_answered(
         | Progress::Spawning { .. }
         | Progress::Joining { .. } => Ok(Tried::Goes(message)),
     }
+}
+
+/// The part at this index is waited for, with this fault pending.
+fn leaving(part: u32, pending: &Option<Fault>) -> Result<Progress, NoMemory>
+    ensures { IfOk result (λ p. p ≡ Progress.Leaving part pending.now) }
+{
+    let pending = copy_pending(pending)?;
+    Ok(Progress::Leaving { part, pending })
 }
 
 /// The one part that was waited for has ended.
@@ -269,7 +281,7 @@ fn catch_from(
                     fault,
                     latest,
                 };
-                return Ok(Tried::Asks(progress, request, 0, message));
+                return Tried::asked(alloc, progress, request, 0, message);
             }
         }
         index += 1;

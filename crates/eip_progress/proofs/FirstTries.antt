@@ -31,6 +31,7 @@ use Rattle.eip_meaning.specs.Meaning.{steps_of}
 use Rattle.eip_progress.specs.declared.tried.Progress.{Progress}
 use Rattle.eip_progress.specs.declared.tried.Progress.TheVariants as progress
 use Rattle.eip_progress.specs.declared.tried.Tried.{Tried}
+use Rattle.eip_progress.specs.Tries.{asked}
 use Rattle.eip_progress.specs.declared.tried.Tried.TheVariants as tried
 use Rattle.eip_progress.specs.declared.frame.Task.TheVariants as task
 use Rattle.eip_progress.specs.FirstTry.{asks, unless_tried, value_tried, not_empty, key_tried, header_tried, check_tried, nested_if, nested_where, choice_tried, fan_tried, piece_seeds, recipient_seeds, pieces_tried, listed_tried, first_tried}
@@ -82,7 +83,7 @@ module _ (set : RouteSet) (whole : Option Uri) (c : Context) (b i : ℕ) where
   module _ (s : Step) (e : slice_get (steps_of set b) i ≡ Some s) where
     -- a request of the step, with what follows at the step
     pub asks_as : (p : Progress) (q : Request) (k : ℕ) (m : Message) (K : Reply → List Reply → Outcome) (A : List Reply) → ((a : Reply) (A' : List Reply) → cont_of_step set c b s p m a A' ≡ K a A') →
-        means (tried.Asks p q k m) A ≡ ask set q (place_in c k) K A
+        means (asked p q k m) A ≡ ask set q (place_in c k) K A
     asks_as p q k m K A h =
         ap (λ (F : Reply → List Reply → Outcome). ask set q (place_in c k) F A)
         (fun_ext (λ a. fun_ext (λ A'. ap (λ (o : Option Step). cont_of_found set c b o p m a A') e ∙ h a A')))

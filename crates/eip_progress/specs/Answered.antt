@@ -31,6 +31,7 @@ use Rattle.eip_progress.specs.declared.tried.Progress.{Progress}
 use Rattle.eip_progress.specs.declared.tried.Progress.TheVariants as progress
 use Rattle.eip_progress.specs.declared.tried.Tried.{Tried}
 use Rattle.eip_progress.specs.declared.tried.Tried.TheVariants as tried
+use Rattle.eip_progress.specs.Tries.{asked}
 use Rattle.eip_progress.specs.FirstTry.{faults, unless_tried, check_tried, nested_if, choice_tried, part_tried}
 
 -- ---- sends and choices
@@ -72,16 +73,16 @@ join_tried s parts m = unless_tried (first_fault parts) m (taken_tried (made_one
 -- the next one of the seeds that are left, or all have ended
 abbrev pub next_seed : Strategy → List Ended → ℕ → List Seed → Message → Tried
 next_seed s ended k [] m = join_tried s ended m
-next_seed s ended k (x ∷ xs) m = tried.Asks (progress.Spawning k ended xs) (request.Spawn (x ∷ [])) k m
+next_seed s ended k (x ∷ xs) m = asked (progress.Spawning k ended xs) (request.Spawn (x ∷ [])) k m
 
 abbrev pub next_tried : Strategy → (stop : Bool) → List Ended → ℕ → List Seed → List Ended → Message → Tried
 next_tried s stop ended k left parts m =
     cond (stop && is_some (first_fault parts)) (join_tried s (ended ++ parts) m) (next_seed s (ended ++ parts) (next_number k) left m)
 
 abbrev pub fan_on : Strategy → (stop : Bool) → Progress → Message → Reply → Tried
-fan_on s stop progress.SpawningAll m a = tried.Asks progress.JoiningAll (request.Join (first_born a) (count_born a)) 0 m
+fan_on s stop progress.SpawningAll m a = asked progress.JoiningAll (request.Join (first_born a) (count_born a)) 0 m
 fan_on s stop progress.JoiningAll m a = join_tried s (parts_in a) m
-fan_on s stop (progress.Spawning k ended left) m a = tried.Asks (progress.Joining k ended left) (request.Join (first_born a) (count_born a)) k m
+fan_on s stop (progress.Spawning k ended left) m a = asked (progress.Joining k ended left) (request.Join (first_born a) (count_born a)) k m
 fan_on s stop (progress.Joining k ended left) m a = next_tried s stop ended k left (parts_in a) m
 fan_on s stop _ m a = tried.Goes m
 
@@ -126,7 +127,7 @@ catch_held set c catches finish k None holds f x m = tried.Goes m
 catch_held set c catches finish k (Some y) holds f x m = cond holds (part_tried 1 None y.block x m) (catches_tried set c finish (suc k) (drop (suc k) catches) f x m)
 
 abbrev pub try_on : RouteSet → Context → List Catch → Option ℕ → Progress → Message → Reply → Tried
-try_on set c catches finish (progress.Entering k pending) m a = tried.Asks (progress.Leaving k pending) (request.Join (first_born a) (count_born a)) k m
+try_on set c catches finish (progress.Entering k pending) m a = asked (progress.Leaving k pending) (request.Join (first_born a) (count_born a)) k m
 try_on set c catches finish (progress.Leaving k pending) m a = only_left set c catches finish k pending (parts_in a) m
 try_on set c catches finish (progress.Testing k f x) m a = catch_held set c catches finish k (slice_get catches k) (held a) f x m
 try_on set c catches finish _ m a = tried.Goes m

@@ -36,6 +36,7 @@ use Rattle.eip_progress.specs.declared.tried.Progress.{Progress}
 use Rattle.eip_progress.specs.declared.tried.Progress.TheVariants as progress
 use Rattle.eip_progress.specs.declared.tried.Tried.{Tried}
 use Rattle.eip_progress.specs.declared.tried.Tried.TheVariants as tried
+use Rattle.eip_progress.specs.Tries.{asked}
 
 -- a fault of the step itself
 abbrev pub faults : Fault → Message → Tried
@@ -43,7 +44,7 @@ faults f m = tried.Faults f false m
 
 -- the only request of a step
 abbrev pub asks : Request → Message → Tried
-asks q m = tried.Asks progress.First q 0 m
+asks q m = asked progress.First q 0 m
 
 abbrev pub unless_tried : Option Fault → Message → Tried → Tried
 unless_tried None m t = t
@@ -69,7 +70,7 @@ header_tried name value m = cond (is_one_too_many name m.headers) (faults (fault
 abbrev pub check_tried : RouteSet → Context → Check → Progress → Message → Message → (Bool → Tried) → Tried
 check_tried set c (check.Simple p) g x m k = k (predicate_holds p (seen_in set c x))
 check_tried set c (check.Fixed holds) g x m k = k holds
-check_tried set c (check.Stored name) g x m k = tried.Asks g (request.Test name x) 0 m
+check_tried set c (check.Stored name) g x m k = asked g (request.Test name x) 0 m
 
 abbrev pub nested_if : Bool → ℕ → Message → Tried
 nested_if holds b m = cond holds (tried.Enters b m) (tried.Goes m)
@@ -110,8 +111,8 @@ abbrev pub fan_tried : Fan → List Seed → Message → Tried
 fan_tried fan [] m = tried.Goes m
 fan_tried fan (x ∷ xs) m =
     cond fan.parallel
-    (tried.Asks progress.SpawningAll (request.Spawn (x ∷ xs)) 0 m)
-    (tried.Asks (progress.Spawning 0 [] xs) (request.Spawn (x ∷ [])) 0 m)
+    (asked progress.SpawningAll (request.Spawn (x ∷ xs)) 0 m)
+    (asked (progress.Spawning 0 [] xs) (request.Spawn (x ∷ [])) 0 m)
 
 abbrev pub piece_seeds : Context → Fan → ℕ → List Message → List Seed
 piece_seeds c fan b ms = map (λ piece. block_seed (care_of_parts c fan.share) b piece) ms
@@ -137,7 +138,7 @@ listed_tried (Err f) c fan m = faults (fault_of_recipient f) m
 
 -- a block runs on x as the part of this index
 abbrev pub part_tried : (index : ℕ) → Option Fault → ℕ → Message → Message → Tried
-part_tried k pending b x m = tried.Asks (progress.Entering k pending) (request.Spawn (block_seed care.Bare b x ∷ [])) k m
+part_tried k pending b x m = asked (progress.Entering k pending) (request.Spawn (block_seed care.Bare b x ∷ [])) k m
 
 -- ---- a try
 

@@ -1,3 +1,4 @@
+pub mod Tries
 pub mod FirstTry
 pub mod Answered
 pub mod Rest

@@ -186,8 +186,8 @@ abbrev pub guarded_mean : RouteSet → Option Uri → Context → Task → ℕ �
 guarded_mean set whole c t left m o = caught o (λ f again A'. fault_mean set whole c t left m f again A')
 
 abbrev pub wait_mean : RouteSet → Option Uri → Wait → List Reply → Outcome
-wait_mean set whole (wait.Trying c t left m p q k) A =
-    guarded_mean set whole c t left m (asking_mean set whole c t p q k (redelivered m (number_of_try left)) A)
+wait_mean set whole (wait.Trying c t left m x) A =
+    guarded_mean set whole c t left m (asking_mean set whole c t x.progress x.request x.index (redelivered m (number_of_try left)) A)
 wait_mean set whole (wait.Sleeping c t left ticks m) A = ask set (request.Wait ticks) (place_in c 0) (λ a A'. tries_of set whole c t left m A') A
 
 abbrev pub block_at : Task → ℕ
@@ -199,7 +199,7 @@ block_at task.Whole = 0
 abbrev pub tried_mean : RouteSet → Option Uri → Context → Task → Tried → List Reply → Outcome
 tried_mean set whole c t (tried.Goes m) A = Goes m A
 tried_mean set whole c t (tried.Faults f again m) A = Faults f again A
-tried_mean set whole c t (tried.Asks p q k m) A = asking_mean set whole c t p q k m A
+tried_mean set whole c t (tried.Asks x m) A = asking_mean set whole c t x.progress x.request x.index m A
 tried_mean set whole c t (tried.Enters j m) A = nested_at set c (block_at t) j m A
 tried_mean set whole c t (tried.Calls r m) A = call_at set c r m A
 
@@ -254,7 +254,7 @@ unfoldable pub rest : RouteSet → Cursor → List Reply → Fate
 rest set k A = rest_of set k.commit (item_of k.origin) k.context k.whole k.stack.items k.state A
 
 abbrev pub wait_place : Wait → At
-wait_place (wait.Trying c t left m p q k) = place_in c k
+wait_place (wait.Trying c t left m x) = place_in c x.index
 wait_place (wait.Sleeping c t left ticks m) = (place_in c 0)
 
 abbrev pub state_place : Context → State → At
@@ -279,7 +279,7 @@ IsFirst k = IsStarting k.state
 
 -- what is waited for
 abbrev pub request_of : Wait → Request
-request_of (wait.Trying c t left m p q k) = q
+request_of (wait.Trying c t left m x) = x.request
 request_of (wait.Sleeping c t left ticks m) = request.Wait ticks
 
 -- what comes next, at a place

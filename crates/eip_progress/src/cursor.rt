@@ -1,6 +1,7 @@
 ghost use Rattle.std.specs.Prelude.{◌≡◌};
 ghost use Rattle.eip_progress.specs.Rest.{asked_at, state_place, wait_place};
 
+use crate::boxed::Boxed;
 use crate::frame::{Frame, Wait};
 use eip_exchange::{End, Message, Origin, Work};
 use eip_frames::{At, Request};
@@ -37,7 +38,7 @@ pub struct Cursor {
     pub commit: bool,
     pub origin: Origin,
     /// The endpoint of a send that is the whole work, once it has been read.
-    pub whole: Option<Uri>,
+    pub whole: Option<Boxed<Uri>>,
     /// What comes behind the part that runs, the outermost first.
     pub stack: Vec<Frame>,
     pub state: State,
@@ -66,7 +67,11 @@ fn wait_place(wait: &Wait) -> At
     ensures { result ≡ wait_place wait.now }
 {
     match wait {
-        Wait::Trying { context, index, .. } => context.place(*index),
+        Wait::Trying {
+            context,
+            asking,
+            ..
+        } => context.place(asking.get().index),
         Wait::Sleeping { context, .. } => context.place(0),
     }
 }

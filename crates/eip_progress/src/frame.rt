@@ -1,7 +1,7 @@
+use crate::boxed::Boxed;
 use crate::cursor::State;
-use crate::tried::Progress;
+use crate::tried::Asking;
 use eip_exchange::{End, Fault, Message};
-use eip_frames::Request;
 use eip_meaning::Context;
 
 /// What is tried.
@@ -18,15 +18,13 @@ pub enum Task {
 /// What an exchange waits for between two calls, with the message as it stood at the step, and how many tries may follow.
 #[derive(Drop)]
 pub enum Wait {
-    /// A try has asked this, with parts from this index on.
+    /// A try has asked this.
     Trying {
         context: Context,
         task: Task,
         left: u32,
         message: Message,
-        progress: Progress,
-        request: Request,
-        index: u32,
+        asking: Boxed<Asking>,
     },
     /// The delay before the next try.
     Sleeping {

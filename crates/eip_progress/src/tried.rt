@@ -1,7 +1,12 @@
+ghost use Rattle.std.specs.Prelude.{◌≡◌, IfOk};
+ghost use Rattle.eip_progress.specs.Tries.{asked};
+
+use crate::boxed::Boxed;
 use crate::queue::Queue;
 use eip_exchange::{Ended, Fault, Message};
 use eip_frames::{Request, Seed};
-use eip_text::Series;
+use eip_text::{NoMemory, Series};
+use std::alloc::Global;
 
 /// How far one try of a step is: what its request was for.
 #[derive(Drop)]
@@ -44,6 +49,14 @@ pub enum Progress {
     },
 }
 
+/// What a try has asked, with parts from this index on.
+#[derive(Drop)]
+pub struct Asking {
+    pub progress: Progress,
+    pub request: Request,
+    pub index: u32,
+}
+
 /// What one try of a step gives, at first or behind an answer.
 #[derive(Drop)]
 pub enum Tried {
@@ -51,10 +64,30 @@ pub enum Tried {
     Goes(Message),
     /// It faults on this message; the flag says that the step may be tried again.
     Faults(Fault, bool, Message),
-    /// It asks, with parts from this index on, and keeps this message.
-    Asks(Progress, Request, u32, Message),
+    /// It asks, and keeps this message.
+    Asks(Boxed<Asking>, Message),
     /// A nested block runs on this message.
     Enters(u32, Message),
     /// The block of a called route runs on this message.
     Calls(u32, Message),
+}
+
+impl Tried {
+    /// It asks this, with parts from this index on, and keeps this message.
+    pub fn asked(
+        alloc: Global,
+        progress: Progress,
+        request: Request,
+        index: u32,
+        message: Message,
+    ) -> Result<Tried, NoMemory>
+        ensures { IfOk result (λ t. t ≡ asked progress request index message) }
+    {
+        let asking = Asking {
+            progress,
+            request,
+            index,
+        };
+        Ok(Tried::Asks(Boxed::of(alloc, asking)?, message))
+    }
 }

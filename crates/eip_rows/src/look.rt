@@ -11,6 +11,7 @@ use eip_cursor::{Advance, Cursor, Next};
 use eip_exchange::{Birth, Care, Message, Origin, Work};
 use eip_frames::{Answer, Request};
 use eip_ledger::{Entry, Kind};
+use eip_progress::Boxed;
 use eip_route::RouteSet;
 use eip_tables::row::{self, Born, Row};
 use eip_text::NoMemory;
@@ -39,18 +40,17 @@ pub fn first_cursor(
     alloc: Global,
     birth: Birth,
     set: &RouteSet,
-) -> Result<(Cursor, Request), NoMemory>
+) -> Result<(Boxed<Cursor>, Request), NoMemory>
     requires { end_of (mean set.now birth []) ≡ None }
     ensures { IfOk result (λ p. Stepped set.now (mean set.now birth) [] p.0 p.1) }
 {
-    let mut cursor = Cursor::start(alloc, birth, set)?;
-    match cursor.advance(alloc, set, None) {
-        Ok(Next::Asks(request)) => Ok((cursor, request)),
-        Ok(Next::Ended(..)) => unreachable!(),
-        Err(NoMemory) => {
-            drop(cursor);
-            Err(NoMemory)
+    let (first, next) = Cursor::begin(alloc, birth, set)?;
+    match next {
+        Next::Asks(request) => {
+            let cursor = Boxed::of(alloc, first)?;
+            Ok((cursor, request))
         }
+        Next::Ended(..) => unreachable!(),
     }
 }
 
@@ -68,7 +68,7 @@ pub fn look_at(
     let Some(mut cursor) = row.cursor.take() else {
         unreachable!()
     };
-    match step(&mut cursor, alloc, set, answer) {
+    match step(cursor.get_mut(), alloc, set, answer) {
         Ok(request) => {
             row::begin(row, cursor, request);
             Ok(())
@@ -213,7 +213,7 @@ pub fn first_look(
     entries: &[Entry],
     number: u64,
     row: &Row,
-) -> Result<(Cursor, Request), NoMemory>
+) -> Result<(Boxed<Cursor>, Request), NoMemory>
     requires { CanBegin set.now entries.now number row.now }
     ensures { IfOk result (λ p. FirstLook set.now entries.now number row.now p.0 p.1) }
 {

@@ -10,7 +10,7 @@ ghost use Rattle.eip_tables.specs.Look.{HasCursor, LookedAt};
 use crate::look::look_at;
 use eip_exchange::End;
 use eip_frames::{Answer, Request};
-use eip_progress::Cursor;
+use eip_progress::{Boxed, Cursor};
 use eip_route::RouteSet;
 use eip_tables::row::{self, Row, Stage};
 use eip_tables::wanted::first_wanted;
@@ -99,7 +99,7 @@ impl Rows {
     }
 
     /// The exchange has this first cursor, and asks this.
-    pub fn begin(&mut self, number: u64, cursor: Cursor, request: Request)
+    pub fn begin(&mut self, number: u64, cursor: Boxed<Cursor>, request: Request)
         requires above { 0 < number }
         requires within { number ≤ length self.old.items }
         ensures items { (r : ARow) → slice_get self.old.items (number - 1) ≡ Some r → self.new.items ≡ slice_set self.old.items (number - 1) (begun cursor request r) }

@@ -129,11 +129,11 @@ pub fn goes_on(
     set: &RouteSet,
     context: Context,
     step: &Step,
-    progress: Progress,
+    progress: &Progress,
     message: Message,
     answer: &Answer,
 ) -> Result<Tried, NoMemory>
-    ensures { IfOk result (λ t. t ≡ on.going_on set.now context step.now progress message answer.now) }
+    ensures { IfOk result (λ t. t ≡ on.going_on set.now context step.now progress.now message answer.now) }
 {
     match step {
         Step::To(uri) => Ok(to_answered(set, uri, message)),
@@ -224,11 +224,11 @@ fn choice_answered(
     context: Context,
     cases: &[(Check, u32)],
     otherwise: Option<u32>,
-    progress: Progress,
+    progress: &Progress,
     message: Message,
     answer: &Answer,
 ) -> Result<Tried, NoMemory>
-    ensures { IfOk result (λ t. t ≡ on.choice_on set.now context cases.now otherwise progress message answer.now) }
+    ensures { IfOk result (λ t. t ≡ on.choice_on set.now context cases.now otherwise progress.now message answer.now) }
 {
     match progress {
         Progress::Choosing(index) => {
@@ -236,7 +236,7 @@ fn choice_answered(
                 alloc,
                 set,
                 context,
-                index,
+                *index,
                 cases,
                 otherwise,
                 held(answer),

@@ -37,10 +37,10 @@ pub fn try_to(
 }
 
 /// The only request of a step.
-pub fn asks(request: Request, message: Message) -> Tried
-    ensures { result ≡ asks request message }
+pub fn asks(alloc: Global, request: Request, message: Message) -> Result<Tried, NoMemory>
+    ensures { IfOk result (λ t. t ≡ asks request message) }
 {
-    Tried::Asks(Progress::First, request, 0, message)
+    Tried::asked(alloc, Progress::First, request, 0, message)
 }
 
 fn try_goal(
@@ -54,7 +54,7 @@ fn try_goal(
     ensures { IfOk result (λ t. t ≡ goal_tried set.now context uri.now goal message) }
 {
     match goal {
-        Goal::Direct(route) => Ok(asks(Request::Call { route }, message)),
+        Goal::Direct(route) => asks(alloc, Request::Call { route }, message),
         Goal::Queue(route) => offer(alloc, set, uri, route, message),
         Goal::Lane => send(alloc, context, uri, message),
         Goal::Log => log_body(alloc, uri, message),
@@ -84,7 +84,7 @@ fn offer(
         discard: discards(uri),
         message: message.copy(alloc)?,
     };
-    Ok(asks(request, message))
+    asks(alloc, request, message)
 }
 
 fn is_queue(set: &RouteSet, route: u32) -> bool
@@ -127,7 +127,7 @@ fn send_to(alloc: Global, target: Option<Target>, message: Message) -> Result<Tr
                 target,
                 message: message.copy(alloc)?,
             };
-            Ok(asks(request, message))
+            asks(alloc, request, message)
         }
         None => Ok(Tried::Goes(message)),
     }
@@ -140,7 +140,7 @@ fn log_body(alloc: Global, uri: &Uri, message: Message) -> Result<Tried, NoMemor
         name: log_of(alloc, uri)?,
         text: message.body.copy()?,
     };
-    Ok(asks(request, message))
+    asks(alloc, request, message)
 }
 
 /// The name of a log's endpoint.

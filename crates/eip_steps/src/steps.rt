@@ -176,7 +176,7 @@ fn log(alloc: Global, name: Text, text: Option<Text>, message: Message) -> Resul
     ensures { IfOk result (λ t. t ≡ value_tried text message (λ v. asks (Request.Log name v) message)) }
 {
     match text {
-        Some(text) => Ok(asks(Request::Log { name, text }, message)),
+        Some(text) => asks(alloc, Request::Log { name, text }, message),
         None => Ok(Tried::Faults(too_long(alloc)?, false, message)),
     }
 }
@@ -216,7 +216,7 @@ fn process(alloc: Global, name: &Text, message: Message) -> Result<Tried, NoMemo
         name: name.copy()?,
         message: message.copy(alloc)?,
     };
-    Ok(asks(request, message))
+    asks(alloc, request, message)
 }
 
 fn recipients(
@@ -259,7 +259,7 @@ fn arrive_by(alloc: Global, block: u32, key: Text, message: Message) -> Result<T
         key,
         message: copy,
     };
-    Ok(asks(request, message))
+    asks(alloc, request, message)
 }
 
 /// A key is offered to a repository (Camel manual, *Idempotent Consumer EIP*).
@@ -287,5 +287,5 @@ fn offer_key(
         eager,
         remove,
     };
-    Ok(asks(request, message))
+    asks(alloc, request, message)
 }

@@ -5,7 +5,7 @@ ghost use Rattle.eip_tables.specs.Offers.{hops_by, offer_asked, offered_message}
 
 use eip_exchange::{Birth, End, Fault, Message};
 use eip_frames::{Answer, Request, is_outside};
-use eip_progress::Cursor;
+use eip_progress::{Boxed, Cursor};
 use eip_text::Text;
 use std::mem;
 
@@ -49,7 +49,7 @@ pub struct Row {
     /// What a copy was born as, until it has ended; an item's birth is read from the journal.
     pub birth: Option<Birth>,
     /// Its cursor, from the first look until it has ended.
-    pub cursor: Option<Cursor>,
+    pub cursor: Option<Boxed<Cursor>>,
     /// What it asks, while it asks.
     pub request: Option<Request>,
     pub fault: Option<Fault>,
@@ -126,7 +126,7 @@ pub fn start(row: &mut Row)
 }
 
 /// A first cursor and what it asks.
-pub fn begin(row: &mut Row, cursor: Cursor, request: Request)
+pub fn begin(row: &mut Row, cursor: Boxed<Cursor>, request: Request)
     ensures { row.new ≡ begun cursor request row.old }
 {
     drop(mem::replace(&mut row.cursor, Some(cursor)));

@@ -1,4 +1,4 @@
-use Rattle.eip_cursor.proofs.Faulting.{rest_at_start}
+use Rattle.eip_turns.proofs.Faulting.{rest_at_start}
 use Rattle.eip_cursor.proofs.cursor.begun.Goals as goal
 
 pub returns-in-Block : goal.returns-in-Block

@@ -8,5 +8,5 @@ returns-in-Ok-clause-ok c = record {
   now = c.step.new.cursor;
   request = c.in-Ok.request;
   row = c.begin.ensures;
-  stepped = c.in-Ok.ensures.ok;
+  stepped = rw c.get_mut.ensures.value at c.in-Ok.ensures.ok;
 }

@@ -1,5 +1,0 @@
-use Rattle.eip_cursor.proofs.Trying.{enters_as}
-use Rattle.eip_cursor.proofs.attempts.enter.Goals as goal
-
-pub returns-then-from-block-clause-means : goal.returns-then-from-block-clause-means
-returns-then-from-block-clause-means c = λ set whole A. enters_as set whole c.args.context c.args.from c.args.block c.args.message A c.if-from-block.true

@@ -1,0 +1,6 @@
+mod Falling
+pub mod Faulting
+pub mod Keeping
+pub mod Trying
+mod Turning
+mod Weighing

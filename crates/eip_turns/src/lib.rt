@@ -1,0 +1,9 @@
+// The turns of an exchange between two requests: a step with its attempts, and what is done about its fault.
+#![tactic(auto)]
+
+mod attempts;
+mod handling;
+mod turns;
+
+pub use attempts::{Held, after_try, begin, begin_whole, hold, step_at};
+pub use turns::run;
