@@ -9,7 +9,7 @@ use Rattle.eip_route.specs.declared.route.RouteSet.{RouteSet}
 use Rattle.eip_route.specs.declared.step.Step.{Step}
 use Rattle.eip_frames.specs.declared.answer.Answer.{Answer as Reply}
 use Rattle.eip_meaning.specs.declared.context.Context.{Context}
-use Rattle.eip_meaning.specs.Outcomes.{Outcome, Goes, Stops, Runner, followed}
+use Rattle.eip_meaning.specs.Outcomes.{Outcome, Asks, Goes, Stops, Faults, Stray, Runner, followed}
 use Rattle.eip_meaning.specs.Steps.{one_try}
 use Rattle.eip_meaning.specs.Attempts.{tries}
 use Rattle.eip_meaning.specs.Meaning.{steps_of, steps_mean, handle_in}
@@ -40,6 +40,14 @@ some_within (x ∷ xs) (suc i) h = some_within xs i (omega (arith, h))
 module _ (set : RouteSet) where
   pub rest_none : (c : Context) (b i : ℕ) (m : Message) (A : List Reply) → slice_get (steps_of set b) i ≡ None → Goes m A ≡ rest_of_block set c b i m A
   rest_none c b i m A e = rw (drop_none (steps_of set b) i e) refl
+
+  -- where no step is left, what comes behind changes nothing
+  pub rest_over : (c : Context) (b i : ℕ) (o : Outcome) → slice_get (steps_of set b) i ≡ None → o ≡ followed o (λ m A. rest_of_block set c b i m A)
+  rest_over c b i (Asks q p) e = refl
+  rest_over c b i (Goes m A) e = rest_none c b i m A e
+  rest_over c b i (Stops y m A) e = refl
+  rest_over c b i (Faults f again A) e = refl
+  rest_over c b i Stray e = refl
 
   rest_some : (whole : Option Uri) (c : Context) (b i : ℕ) (s : Step) (m : Message) (A : List Reply) → slice_get (steps_of set b) i ≡ Some s →
       followed (tries_of set whole c (task.Step b i) 1000 m A) (λ m' A'. rest_of_block set c b (i + 1) m' A') ≡ rest_of_block set c b i m A

@@ -6,7 +6,7 @@ ghost use Rattle.eip_meaning.specs.declared.context.Context.{Context as AContext
 ghost use Rattle.eip_meaning.specs.Checks.{block_or_goes};
 ghost use Rattle.eip_meaning.specs.Contexts.{place_in};
 ghost use Rattle.eip_meaning.specs.Meaning.{steps_of as steps_in_block, finished};
-ghost use Rattle.eip_meaning.specs.Outcomes.{followed};
+ghost use Rattle.eip_meaning.specs.Outcomes.{followed, Outcome as AnOutcome};
 ghost use Rattle.eip_progress.specs.Rest.{now_mean, frame_mean, behind_all, rest_of, rest_of_block, turn_mean, IsStarting};
 ghost use Rattle.eip_turns.specs.Kept.{IsLater};
 ghost use Rattle.eip_turns.specs.Weights.{block_weight, weight_of_option};
@@ -201,15 +201,35 @@ fn resume_rest(
 {
     match next_index(set, block, index) {
         Some(next) => {
-            stack.push(Frame::Rest {
-                context,
-                block,
-                index: next,
-            })?;
+            push_rest(set, stack, context, block, next)?;
             let now = begin_step(alloc, set, context, block, index, 1000, message)?;
             Ok(now)
         }
         None => Ok(Now::Goes(message)),
+    }
+}
+
+/// The steps of a block from an index on come behind what runs. Where there are none, nothing does.
+fn push_rest(
+    set: &RouteSet,
+    stack: &mut Vec<Frame>,
+    context: Context,
+    block: u32,
+    index: usize,
+) -> Result<(), NoMemory>
+    ensures means { OnOk result ((o : AnOutcome) → behind_all set.now stack.new.items o ≡ behind_all set.now stack.old.items (followed o (λ m A. frame_mean set.now (Frame.Rest context block index) m A))) }
+    ensures falls { OnOk result (stack_weight set.now stack.new.items ≤ stack_weight set.now stack.old.items + frame_weight set.now (Frame.Rest context block index)) }
+{
+    match next_index(set, block, index) {
+        Some(_) => {
+            stack.push(Frame::Rest {
+                context,
+                block,
+                index,
+            })?;
+            Ok(())
+        }
+        None => Ok(()),
     }
 }
 

@@ -1,22 +1,21 @@
 use Rattle.std.proofs.Common.{arith, ◌∙◌, ap, drop}
 use Rattle.eip_meaning.specs.Meaning.{steps_of}
-use Rattle.eip_progress.specs.declared.frame.Frame.TheVariants.{Rest}
 use Rattle.eip_progress.specs.Rest.{behind_all}
 use Rattle.eip_turns.specs.Weights.{nested_block}
 use Rattle.eip_turns.specs.Falls.{handling_in}
-use Rattle.eip_turns.proofs.Falling.{steps_weight-pos, rest_falls, stack_push}
-use Rattle.eip_turns.proofs.Turning.{rest_none, rest_some_at, behind_push_at}
+use Rattle.eip_turns.proofs.Falling.{steps_weight-pos, rest_falls}
+use Rattle.eip_turns.proofs.Turning.{rest_none, rest_some_at}
 use Rattle.eip_turns.proofs.turns.resume_rest.Goals as goal
 
 pub returns-in_ok-now-in-Some-clause-means : goal.returns-in_ok-now-in-Some-clause-means
 returns-in_ok-now-in-Some-clause-means c = λ whole A.
-    behind_push_at c.args.set.now c.args.stack.now.items _ (Rest c.args.context c.args.block c.in-Some.next) _ c.in_ok-push-in-Some.ensures.items
+    c.in_ok-push_rest-in-Some.ensures.means _
     ∙ rw (c.in_ok-now-in-Some.ensures.means whole A, c.in-Some.ensures.0)
     (ap (behind_all c.args.set.now c.args.stack.now.items) (rest_some_at c.args.set.now whole c.args.context c.args.block c.args.index c.args.message A c.in-Some.ensures.1))
 
 pub returns-in_ok-now-in-Some-clause-falls : goal.returns-in_ok-now-in-Some-clause-falls
 returns-in_ok-now-in-Some-clause-falls c =
-    let p = rw c.in-Some.ensures.0 at (stack_push c.args.set.now c.args.stack.now.items c.push.new.self.items (Rest c.args.context c.args.block c.in-Some.next) c.in_ok-push-in-Some.ensures.items) in
+    let p = rw c.in-Some.ensures.0 at c.in_ok-push_rest-in-Some.ensures.falls in
     omega (arith, p, c.in_ok-now-in-Some.ensures.falls, rest_falls c.args.set.now c.args.context c.args.block c.args.index c.in-Some.ensures.1)
 
 pub returns-in-None-clause-means : goal.returns-in-None-clause-means
