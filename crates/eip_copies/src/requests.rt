@@ -1,7 +1,7 @@
 ghost use Rattle.std.specs.Prelude.{◌≡◌, IfOk};
 
 use eip_exchange::Work;
-use eip_frames::{Request, Seed, Target};
+use eip_frames::{Request, Seed};
 use eip_text::{NoMemory, Series};
 use std::alloc::Global;
 
@@ -12,7 +12,7 @@ pub fn copy_request(alloc: Global, request: &Request) -> Result<Request, NoMemor
     match request {
         Request::Send { target, message } => {
             let message = message.copy(alloc)?;
-            let target = copy_target(target)?;
+            let target = target.copy()?;
             Ok(Request::Send { target, message })
         }
         Request::Process { name, message } => Ok(Request::Process {
@@ -78,27 +78,6 @@ pub fn copy_request(alloc: Global, request: &Request) -> Result<Request, NoMemor
                 commit: *commit,
             })
         }
-    }
-}
-
-fn copy_target(target: &Target) -> Result<Target, NoMemory>
-    ensures { IfOk result (λ t. t ≡ target.now) }
-{
-    match target {
-        Target::File {
-            folder,
-            name,
-            exist,
-        } => Ok(Target::File {
-            folder: folder.copy()?,
-            name: name.copy()?,
-            exist: *exist,
-        }),
-        Target::Line { host, port } => Ok(Target::Line {
-            host: host.copy()?,
-            port: *port,
-        }),
-        Target::Lane(name) => Ok(Target::Lane(name.copy()?)),
     }
 }
 

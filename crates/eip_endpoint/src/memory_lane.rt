@@ -30,28 +30,6 @@ impl Model for MemoryLane {
     ghost view = { λ l. record { calls = l.calls.items; counter = l.counter } };
 }
 
-/// A copy of a target.
-fn copied(target: &Target) -> Result<Target, NoMemory>
-    ensures { IfOk result (λ t. t ≡ target.now) }
-{
-    match target {
-        Target::File {
-            folder,
-            name,
-            exist,
-        } => Ok(Target::File {
-            folder: folder.copy()?,
-            name: name.copy()?,
-            exist: *exist,
-        }),
-        Target::Line { host, port } => Ok(Target::Line {
-            host: host.copy()?,
-            port: *port,
-        }),
-        Target::Lane(name) => Ok(Target::Lane(name.copy()?)),
-    }
-}
-
 impl MemoryLane {
     /// A lane without calls, by the numbers, from 1, of the calls that are to fail. It takes no memory.
     pub fn new(alloc: Global, failing: Vec<u64>) -> MemoryLane
@@ -88,7 +66,7 @@ impl Endpoint for MemoryLane {
         if self.calls.reserve(1).is_err() {
             return Err(SendFault::NoMemory);
         }
-        let Ok(target) = copied(target) else {
+        let Ok(target) = target.copy() else {
             return Err(SendFault::NoMemory);
         };
         let Ok(message) = message.copy(self.alloc) else {

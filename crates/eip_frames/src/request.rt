@@ -1,5 +1,7 @@
+ghost use Rattle.std.specs.Prelude.{◌≡◌, IfOk};
+
 use eip_exchange::{Care, End, Message, Work};
-use eip_text::{Series, Text};
+use eip_text::{NoMemory, Series, Text};
 use eip_uri::Exist;
 
 /// Where a message is sent: a file, a host or a handed-in lane.
@@ -15,6 +17,30 @@ pub enum Target {
         port: u16,
     },
     Lane(Text),
+}
+
+impl Target {
+    /// The same target.
+    pub fn copy(&self) -> Result<Target, NoMemory>
+        ensures { IfOk result (λ t. t ≡ self.now) }
+    {
+        match self {
+            Target::File {
+                folder,
+                name,
+                exist,
+            } => Ok(Target::File {
+                folder: folder.copy()?,
+                name: name.copy()?,
+                exist: *exist,
+            }),
+            Target::Line { host, port } => Ok(Target::Line {
+                host: host.copy()?,
+                port: *port,
+            }),
+            Target::Lane(name) => Ok(Target::Lane(name.copy()?)),
+        }
+    }
 }
 
 /// What one part of a fan-out is born with.

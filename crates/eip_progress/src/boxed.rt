@@ -37,13 +37,6 @@ impl<T> Boxed<T> {
     ghost use Rattle.std.specs.Borrow.{sem, Lends};
     ghost use Rattle.eip_progress.specs.contracts.boxed.Boxed.{the_row};
 
-    /// The value.
-    pub fn into_inner(self) -> T
-        ensures { result ≡ self }
-    {
-        Box::into_inner(self.inner)
-    }
-
     /// The value, lent.
     pub fn get(&self) -> &T
         ensures { result.now ≡ self.now }
