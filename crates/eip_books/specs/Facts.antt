@@ -4,7 +4,7 @@ use Rattle.eip_books.specs.declared.books.Books.TheInside.{Inside}
 use Rattle.eip_tables.specs.Stands.{Tables, Stands}
 
 abbrev pub tables_of : Inside → Tables
-tables_of a = record { rows = a.rows.items; ready = a.ready.numbers; sources = a.sources; turns = a.turns; fault = a.fault; notes = a.notes.items; taken = a.taken; pulled = a.pulled; live = a.live; queues = a.queues }
+tables_of a = record { rows = a.rows.items; ready = a.ready.numbers; sources = a.sources; turns = a.turns; fault = a.fault; notes = a.notes.items; taken = a.taken; pulled = a.pulled; live = a.live; queues = a.queues; joins = a.joins }
 
 pub record BooksFacts (a : Inside) : Type 0 where
   pub stands : Stands a.set a.journal.workers a.journal.turns a.journal.past (tables_of a)
@@ -14,5 +14,5 @@ pub record BooksFacts (a : Inside) : Type 0 where
   pub room_journal : 2 * a.room + (a.pulled + a.taken) ≤ a.journal.spare
   -- a pull may make an exchange
   pub room_rows : a.room + a.pulled ≤ a.rows.spare
-  -- a pull or a take may make an exchange ready
+  -- a pull, a take or the end of a part in hand may make an exchange ready
   pub room_ready : a.room + (a.pulled + a.taken) ≤ a.ready.spare

@@ -1,5 +1,5 @@
 ghost use Rattle.std.specs.Prelude.{◌≡◌, ◌+◌, ◌-◌, ◌<◌, ◌≤◌, [], ℕ, length, IfOk, OnOk, OnErr, Some, slice_get, IfSome, IfNone, IsTrue, ◌↔◌, ◌≢◌, ◌==◌, None, true, false};
-ghost use Rattle.eip_ledger.specs.declared.entry.Kind.TheVariants.{Pull, Accept, Refuse, SourceEnd, SourceFault, Take, Starve, Answer as Answered};
+ghost use Rattle.eip_ledger.specs.declared.entry.Kind.TheVariants.{Pull, Accept, Refuse, SourceEnd, SourceFault, Take, Answer as Answered};
 ghost use Rattle.eip_history.specs.Births.{births, asked};
 ghost use Rattle.eip_history.specs.Own.{turns};
 ghost use Rattle.eip_ledger.specs.declared.place.Place.TheVariants.{Ready, InHand};
@@ -10,12 +10,12 @@ ghost use Rattle.eip_plan.specs.Simple.{AnswersSimply};
 ghost use Rattle.eip_tables.specs.declared.asking.Asked.TheVariants.{Unknown};
 ghost use Rattle.eip_history.specs.Texts.{notes};
 ghost use Rattle.eip_history.specs.Tables.{without};
-ghost use Rattle.eip_frames.specs.declared.answer.Answer.TheVariants.{Noted, Entered, Finished};
+ghost use Rattle.eip_frames.specs.declared.answer.Answer.TheVariants.{Noted, Entered};
 ghost use Rattle.eip_frames.specs.declared.request.Request.{Request as ARequest};
 ghost use Rattle.eip_frames.specs.Fits.{fits, is_outside};
 ghost use Rattle.eip_tables.specs.Moves.{end_asked};
 ghost use Rattle.eip_tables.specs.Outside.{is_among, outside_after, outside_looked, unlooked_numbers, IsAsked};
-ghost use Rattle.eip_tables.specs.Asking.{asked_kind, is_outside_kind, AsksLine, AsksEnd};
+ghost use Rattle.eip_tables.specs.Asking.{asked_kind, is_outside_kind, AsksLine};
 ghost use Rattle.eip_tables.specs.Offers.{AsksOffer, AsksCall};
 ghost use Rattle.eip_tables.specs.Rows.{IsIdleSource};
 ghost use Rattle.eip_books.specs.View.{plan, IsLegalRun, Adds, AddsNone, AddsAnswer, StartsFirst, IsSame, IsKnown};
@@ -28,6 +28,7 @@ ghost use Rattle.eip_tables.specs.Origin.{origin_seen, ending_at};
 use crate::ticket::Ticket;
 use eip_exchange::{End, Ending, Message};
 use eip_frames::Answer;
+use eip_join::Joins;
 use eip_ledger::{Entry, Journal, Kind, Note, Place, Refused, Stop};
 use eip_route::RouteSet;
 use eip_rows::look::{first_look, offered_birth};
@@ -50,28 +51,25 @@ use std::marker::Model;
 /// The journal of a run with the tables that stand for it.
 #[derive(Drop)]
 pub struct Books {
-    alloc: Global,
-    set: RouteSet,
-    journal: Journal,
-    rows: Rows,
-    ready: RisingNumbers,
-    sources: Sources,
-    turns: u64,
-    fault: Option<u32>,
-    notes: Table<Note>,
-    taken: u64,
-    pulled: u64,
-    live: u64,
-    queues: Queues,
-    room: u64,
+    pub(crate) alloc: Global,
+    pub(crate) set: RouteSet,
+    pub(crate) journal: Journal,
+    pub(crate) rows: Rows,
+    pub(crate) ready: RisingNumbers,
+    pub(crate) sources: Sources,
+    pub(crate) turns: u64,
+    pub(crate) fault: Option<u32>,
+    pub(crate) notes: Table<Note>,
+    pub(crate) taken: u64,
+    pub(crate) pulled: u64,
+    pub(crate) live: u64,
+    pub(crate) queues: Queues,
+    pub(crate) joins: Joins,
+    pub(crate) room: u64,
 }
 
 impl Model for Books {
     ghost use Rattle.std.specs.Prelude.{map};
-    ghost use Rattle.eip_frames.specs.declared.answer.Answer.TheVariants.{Noted, Finished};
-    ghost use Rattle.eip_frames.specs.declared.request.Request.{Request as ARequest};
-    ghost use Rattle.eip_frames.specs.declared.request.Request.TheVariants.{Log};
-    ghost use Rattle.eip_tables.specs.Asking.{asked_kind, AsksLine, AsksEnd};
     ghost use Rattle.eip_books.specs.View.{BooksView};
 
     ghost Value = { BooksView };
@@ -117,6 +115,7 @@ impl Books {
             pulled: 0,
             live: 0,
             queues,
+            joins: Joins::new(alloc),
             room: 0,
         })
     }
@@ -403,50 +402,6 @@ impl Books {
         }
     }
 
-    /// The exchange ends as it asks.
-    fn finish(&mut self, worker: u32, number: u64) -> Result<(), NoMemory>
-        requires worker { worker ≤ self.old.journal.workers }
-        requires ready { place (plan self.old) self.old.journal.past number ≡ Some Ready }
-        requires below { IsBelow (plan self.old) self.old.journal.turns self.old.journal.past }
-        requires end { AsksEnd self.old.known number }
-        ensures adds { OnOk result (Adds self.old self.new worker (Answered number Finished)) }
-        ensures outside { OnOk result (self.new.outside ≡ without number self.old.outside) }
-        ensures err { OnErr result (IsSame self.old self.new) }
-        ensures legal { IsLegalRun self.new }
-        ensures room { self.new.room ≡ self.old.room }
-    {
-        let needed = 2 * self.room + self.pulled + self.taken + 1;
-        make_room(&mut self.journal, &mut self.notes, needed)?;
-        leave(&mut self.queues, self.rows.get(number).born);
-        self.rows.finish_asked(number);
-        self.ready.remove(number);
-        append_answer(&mut self.journal, worker, number, Answer::Finished);
-        self.turns += 1;
-        self.live -= 1;
-        Ok(())
-    }
-
-    /// A Ready exchange is ended for want of memory.
-    pub fn starve(&mut self, worker: u32, number: u64)
-        requires worker { worker ≤ self.old.journal.workers }
-        requires ready { place (plan self.old) self.old.journal.past number ≡ Some Ready }
-        requires room { 1 ≤ self.old.room }
-        ensures adds { Adds self.old self.new worker (Starve number) }
-        ensures legal { IsLegalRun self.new }
-        ensures room { self.new.room + 1 ≡ self.old.room }
-        ensures outside { self.new.outside ≡ without number self.old.outside }
-    {
-        leave(&mut self.queues, self.rows.get(number).born);
-        self.rows.close(number, Stage::Starved);
-        self.ready.remove(number);
-        self.journal.append_reserved(Entry {
-            worker,
-            kind: Kind::Starve(number),
-        });
-        self.live -= 1;
-        self.room -= 1;
-    }
-
     /// Does what a Ready exchange asks for, where no one outside is needed. On `NoMemory` no entry is made.
     pub fn inner(&mut self, worker: u32, number: u64) -> Result<Inner, NoMemory>
         requires worker { worker ≤ self.old.journal.workers }
@@ -473,6 +428,14 @@ impl Books {
             }
             Asked::Copy => {
                 self.offer(worker, number)?;
+                Ok(Inner::Did)
+            }
+            Asked::Parts => {
+                self.spawn(worker, number)?;
+                Ok(Inner::Did)
+            }
+            Asked::Ends => {
+                self.join(worker, number)?;
                 Ok(Inner::Did)
             }
             Asked::End => {
@@ -619,31 +582,6 @@ impl Books {
             Some(end) => self.settle_end(worker, number, end, answer),
             None => self.settle_step(worker, number, answer),
         }
-    }
-
-    /// An exchange in hand is ended for want of memory.
-    pub fn give_up(&mut self, ticket: Ticket)
-        requires worker { ticket.worker ≤ self.old.journal.workers }
-        requires place { place (plan self.old) self.old.journal.past ticket.number ≡ Some (InHand ticket.worker) }
-        ensures adds { Adds self.old self.new ticket.worker (Starve ticket.number) }
-        ensures legal { IsLegalRun self.new }
-        ensures room { self.new.room ≡ self.old.room }
-        ensures outside { self.new.outside ≡ self.old.outside }
-    {
-        let Ticket {
-            worker,
-            number,
-            request,
-        } = ticket;
-        drop(request);
-        leave(&mut self.queues, self.rows.get(number).born);
-        self.rows.close(number, Stage::Starved);
-        self.journal.append_reserved(Entry {
-            worker,
-            kind: Kind::Starve(number),
-        });
-        self.taken -= 1;
-        self.live -= 1;
     }
 
     /// The first route whose source may be pulled but for the limit.

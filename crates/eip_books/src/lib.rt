@@ -2,6 +2,8 @@
 #![tactic(auto)]
 
 pub mod books;
+mod ends;
+mod parts;
 pub mod ticket;
 
 pub use books::Books;

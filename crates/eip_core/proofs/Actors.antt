@@ -19,6 +19,7 @@ use Rattle.eip_history.specs.Tables.{put_in}
 use Rattle.eip_history.proofs.Stuck.{none-at, none-from, length-none, below-none}
 use Rattle.eip_history.proofs.Limit.{in-hand-taken, source-after, not-same}
 use Rattle.eip_history.proofs.Numbers.{numbers-quiet}
+use Rattle.eip_history.proofs.NumbersBelow.{first-below}
 use Rattle.eip_history.proofs.OneRow.{numbers-own-join}
 use Rattle.eip_history.proofs.Places.{EndsNone, ended-same}
 use Rattle.eip_history.proofs.Moves.{fate-unanswered}
@@ -88,30 +89,6 @@ module _ (s : Plan) (past : Past) where
       ∙ (none-acts (ready_numbers s past) TheExchange _ (first-none (ready_numbers s past) ready)
       ∙ (none-acts (startable s past) TheQueue _ (first-none (startable s past) queues)
       ∙ first-acts (unfinished s past) TheSource _ t h)))
-
--- ---- numbers below a bound
-
-none-below : (p : ℕ → Bool) (n : ℕ) → ((u : ℕ) → u < n → p u ≡ false) → numbers_below p n ≡ []
-none-below p zero h = refl
-none-below p (suc n) h = rw (h n (omega arith), none-below p n (λ u l. h u (omega (arith, l)))) refl
-
-first-front : (xs ys : List ℕ) (t : ℕ) → first xs ≡ Some t → first (xs ++ ys) ≡ Some t
-first-front [] ys t h = absurd (cc h)
-first-front (x ∷ xs) ys t h = h
-
--- the first number that passes a test
-pub first-below : (p : ℕ → Bool) (n t : ℕ) → t < n → p t ≡ true → ((u : ℕ) → u < t → p u ≡ false) → first (numbers_below p n) ≡ Some t
-first-below p zero t l h none = absurd (omega (arith, l))
-first-below p (suc n) t l h none = by_last (cases_Bool (n == t)) (λ m. first-below p n t m h none)
-  where
-    by_last : ((n == t) ≡ true) ⊎ ((n == t) ≡ false) → (t < n → first (numbers_below p n) ≡ Some t) → first (numbers_below p (suc n)) ≡ Some t
-    by_last (inl e) below =
-        let same : n ≡ t = eqb-true n t e in
-        let at : p n ≡ true = ap p same ∙ h in
-        rw (at, none-below p n (λ u m. none u (omega (arith, m, same)))) (ap Some same)
-    by_last (inr f) below =
-        let ne : n ≢ t = λ g. let k = eq-eqb n t g in cc in
-        first-front (numbers_below p n) (cond (p n) (n ∷ []) []) t (below (omega (arith, l, ne)))
 
 -- ---- behind a Pull and behind a Take
 

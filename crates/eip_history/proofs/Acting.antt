@@ -84,7 +84,7 @@ unfolding place_of
 place-here s e past b c = ap (λ o. place_by (clock (e ∷ past)) (all_ended s (e ∷ past)) b o (fate s (e ∷ past) b)) (own-here b.number e past c)
 
 -- a number that isn't born yet
-past-births : (s : Plan) (past : Past) (i : ℕ) → numbered (births s past) (suc i) ≡ None → length (births s past) ≤ i
+pub past-births : (s : Plan) (past : Past) (i : ℕ) → numbered (births s past) (suc i) ≡ None → length (births s past) ≤ i
 past-births s past i h = elim (cases_lt i (length (births s past))) [
   | inl l ↦ (let r = slice_get-some (births s past) i l in let g = rw h at r.1 in absurd (cc g))
   | inr l ↦ l
@@ -116,7 +116,7 @@ ended-beside s laws w limit e past x legal c = by_birth (numbered (births s past
 
 -- ---- who has been taken
 
-paused-ready : (now now' : ℕ) (all all' : ℕ → ℕ → Bool) (p : Pause) → now ≤ now' → ((f c : ℕ) → all f c ≡ true → all' f c ≡ true)
+pub paused-ready : (now now' : ℕ) (all all' : ℕ → ℕ → Bool) (p : Pause) → now ≤ now' → ((f c : ℕ) → all f c ≡ true → all' f c ≡ true)
     → paused now all p ≡ place_is.Ready → paused now' all' p ≡ place_is.Ready
 paused-ready now now' all all' (Sleeps d) l h g = elim (cases_Bool (nat_lt now d)) [
   | inl t ↦ absurd (let k = rw t at g in cc k)
@@ -128,7 +128,7 @@ paused-ready now now' all all' (Joins f c) l h g = elim (cases_Bool (all f c)) [
 ]
 paused-ready now now' all all' Runs l h g = refl
 
-paused-place : (s : Plan) (past : Past) (b : Birth) → place_of s past b ≡ place_is.Ready
+pub paused-place : (s : Plan) (past : Past) (b : Birth) → place_of s past b ≡ place_is.Ready
     → paused (clock past) (all_ended s past) (pause_of (last_answer (own b.number past))) ≡ place_is.Ready
 unfolding place_of
 paused-place s past b h = by_fate (fate s past b) refl h
@@ -146,7 +146,7 @@ paused-place s past b h = by_fate (fate s past b) refl h
     by_fate (AsksNext q p) t g = hand-ready (taker (own b.number past)) _ (out _ g)
     by_fate Strays t g = hand-ready (taker (own b.number past)) _ (out _ g)
 
-clock-grows : (s : Plan) (w limit : ℕ) (e : Entry) (past : Past) → KeepsRules s w limit (e ∷ past) → clock past ≤ clock (e ∷ past)
+pub clock-grows : (s : Plan) (w limit : ℕ) (e : Entry) (past : Past) → KeepsRules s w limit (e ∷ past) → clock past ≤ clock (e ∷ past)
 unfolding clock
 clock-grows s w limit e past legal = by_kind e.kind (legal-may s w limit e past legal)
   where

@@ -36,7 +36,7 @@ last-push (y ∷ []) x = refl
 last-push (y ∷ (z ∷ xs)) x = last-push (z ∷ xs) x
 
 -- the last answer is the newest
-last-answers : (o : Past) → last_answer o ≡ last_of (answers o)
+pub last-answers : (o : Past) → last_answer o ≡ last_of (answers o)
 last-answers [] = refl
 last-answers (e ∷ o) = by_kind e.kind (last-answers o)
   where

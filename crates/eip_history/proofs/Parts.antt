@@ -51,7 +51,7 @@ asked-birth b (Ends e m) k h = absurd (cc h)
 asked-birth b Strays k h = absurd (cc h)
 
 -- the births that a Born makes
-born-births : (s : Plan) (past : Past) (w x : ℕ) (k : Asked) (ds : List Seed) (first count : ℕ) → asked s past x ≡ Some k → k.request ≡ request.Spawn ds
+pub born-births : (s : Plan) (past : Past) (w x : ℕ) (k : Asked) (ds : List Seed) (first count : ℕ) → asked s past x ≡ Some k → k.request ≡ request.Spawn ds
     → births s ((record { worker = w; kind = Answer x (reply.Born first count) }) ∷ past) ≡ births s past ++ part_births (next s past) k k.at.index ds
 unfolding story
 born-births s past w x k ds first count h q =
@@ -59,7 +59,7 @@ born-births s past w x k ds first count h q =
     ∙ ap (λ r. made_for s (story s past) past k r (reply.Born first count)) q)
 
 -- who asks Spawn
-spawns : (q : Request) (first count : ℕ) → fits q (reply.Born first count) ≡ true → (ds : List Seed) × (q ≡ request.Spawn ds) × (count ≡ length ds)
+pub spawns : (q : Request) (first count : ℕ) → fits q (reply.Born first count) ≡ true → (ds : List Seed) × (q ≡ request.Spawn ds) × (count ≡ length ds)
 spawns (request.Spawn ds) first count h = (ds, refl, eqb-true count (length ds) h)
 spawns (request.Send t m) first count h = absurd (cc h)
 spawns (request.Process t m) first count h = absurd (cc h)

@@ -1,4 +1,4 @@
-ghost use Rattle.std.specs.Prelude.{◌≡◌, ◌+◌, ◌<◌, ◌^◌, List, [], ◌∷◌, OnOk, OnErr, Some};
+ghost use Rattle.std.specs.Prelude.{◌≡◌, ◌+◌, ◌<◌, ◌^◌, ◌↔◌, List, [], ◌∷◌, OnOk, OnErr, Some, IsTrue};
 ghost use Rattle.eip_join.specs.Parts.{Call, Began, PartEnded, Took, Stands, IsFree, AreNew, IsOpenPart, IsComplete, is_ready, ends_at};
 
 use crate::maps::{end_part, index, is_complete, last_up_to, unindex};
@@ -73,7 +73,8 @@ impl Joins {
 
     /// Whether `parent` has an open join and all its parts have ended. It takes no memory.
     pub fn ready(&self, parent: u64) -> bool
-        ensures { (calls : List Call) → Stands calls self.now → result ≡ is_ready calls parent }
+        ensures ready { (calls : List Call) → Stands calls self.now → result ≡ is_ready calls parent }
+        ensures complete { IsTrue result ↔ IsComplete parent self.now }
     {
         is_complete(&self.joins, parent)
     }

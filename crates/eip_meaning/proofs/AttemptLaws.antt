@@ -1,16 +1,11 @@
 -- What a step with its attempts is, told by what its try gives.
-use Rattle.std.proofs.Common.{◌≡◌, ℕ, suc, Bool, true, false, cond, ◌&&◌, List, refl, ◌∙◌}
-use Rattle.eip_exchange.specs.declared.message.Message.{Message}
+use Rattle.std.proofs.Common.{◌≡◌, suc, Bool, true, false, List, refl, ◌∙◌}
 use Rattle.eip_exchange.specs.declared.end.Fault.{Fault}
-use Rattle.eip_exchange.specs.declared.birth.Care.{Care}
 use Rattle.eip_exchange.specs.declared.birth.Care.TheVariants as care
-use Rattle.eip_route.specs.declared.route.RouteSet.{RouteSet}
 use Rattle.eip_frames.specs.declared.answer.Answer.{Answer as Reply}
-use Rattle.eip_meaning.specs.declared.context.Context.{Context}
-use Rattle.eip_meaning.specs.Contexts.{care_of_parts, in_handler}
 use Rattle.eip_meaning.specs.Outcomes.{Outcome, Asks, Goes, Stops, Faults, Stray, caught}
 use Rattle.eip_meaning.specs.Values.{redelivered}
-use Rattle.eip_meaning.specs.Attempts.{tries, number_of_try, may_try_again}
+use Rattle.eip_meaning.specs.Attempts.{number_of_try, may_try_again}
 use Rattle.eip_meaning.specs.Attempting.{is_fault, TriedOnce, TriedAgain, HandlersTryOnce}
 use Rattle.eip_meaning.proofs.Unfolding.{tries_equation}
 

@@ -1,8 +1,11 @@
 pub mod Unfolding
 pub mod AttemptLaws
 pub mod Scripts
+pub mod PartCounts
 pub mod StepScripts
 pub mod BlockScripts
 pub mod Quiet
 pub mod Runs
 pub mod Laws
+pub mod LastOnce
+pub mod Parts

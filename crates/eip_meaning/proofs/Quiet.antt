@@ -18,10 +18,10 @@ pub caught_quiet : {set : RouteSet} {R : List Reply → Outcome} → Script set 
 caught_quiet (asks q p i h n k) K [] = rw h refl
 caught_quiet {R} (asks q p i h n k) K (a ∷ A) =
     answered_quiet q a (fits q a) (R (a ∷ A)) (caught (R (a ∷ A)) K) refl (λ e. n a A e) (λ e. caught_quiet (k a e) K A) (λ x. x) (λ x. rw x refl)
-caught_quiet (spawns seeds p h n j o k) K [] = rw h refl
-caught_quiet {R} (spawns seeds p h n j o k) K (a ∷ []) =
+caught_quiet (spawns seeds p w h n j o k) K [] = rw h refl
+caught_quiet {R} (spawns seeds p w h n j o k) K (a ∷ []) =
     answered_quiet (Spawn seeds) a (fits (Spawn seeds) a) (R (a ∷ [])) (caught (R (a ∷ [])) K) refl (λ e. n a [] e) (λ e. rw (j a e) refl) (λ x. x) (λ x. rw x refl)
-caught_quiet {R} (spawns seeds p h n j o k) K (a ∷ b ∷ A) =
+caught_quiet {R} (spawns seeds p w h n j o k) K (a ∷ b ∷ A) =
     answered_quiet (Spawn seeds) a (fits (Spawn seeds) a) (R (a ∷ b ∷ A)) (caught (R (a ∷ b ∷ A)) K) refl (λ e. n a (b ∷ A) e)
     (λ e. answered_quiet (join_of a) b (fits (join_of a) b) (R (a ∷ b ∷ A)) (caught (R (a ∷ b ∷ A)) K) refl (λ f. o a e b A f) (λ f. caught_quiet (k a e b f) K A) (λ x. x) (λ x. rw x refl))
     (λ x. x) (λ x. rw x refl)

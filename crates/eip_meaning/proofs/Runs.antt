@@ -23,6 +23,7 @@ use Rattle.eip_meaning.proofs.BlockScripts.{work-script}
 
 of_set-of_steps : (set : RouteSet) (last : Option Reply) (q : Request) → IsOfSet set q → IsOfSteps set last q
 of_set-of_steps set last (Join first count) i = absurd i
+of_set-of_steps set last (Spawn seeds) i = tt
 of_set-of_steps set last _ i = i
 
 born : (set : RouteSet) (seeds : List Seed) (a : Reply) → fits (Spawn seeds) a ≡ true → IsOfSteps set (Some a) (join_of a)
@@ -45,7 +46,7 @@ module _ (set : RouteSet) (commit : Bool) (item : List ℕ) (p : At) where
 
   pub finished-run : {R : List Reply → Outcome} (last : Option Reply) → Script set false R → Run last (λ A. finished commit item p (R A))
   finished-run last (script_asks q at i h n k) = asks q at (of_set-of_steps set last q i) (rw h refl) (λ a A e. rw (n a A e) refl) (λ a e. finished-run (Some a) (k a e))
-  finished-run last (script_spawns seeds at h n j o k) =
+  finished-run last (script_spawns seeds at w h n j o k) =
       asks (Spawn seeds) at tt (rw h refl) (λ a A e. rw (n a A e) refl)
       (λ a e. asks (join_of a) at (born set seeds a e) (rw (j a e) refl) (λ b A f. rw (o a e b A f) refl) (λ b f. finished-run (Some b) (k a e b f)))
   finished-run last (script_goes m h) = finishes Completed m (λ A. rw (h A) refl)

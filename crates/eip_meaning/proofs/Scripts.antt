@@ -1,5 +1,5 @@
 -- How a part of a route behaves, whatever steps it is made of: it asks something and goes on as the answer says, or it is through.
-use Rattle.std.proofs.Common.{◌≡◌, ℕ, Bool, true, false, cond, List, [], ◌∷◌, refl, sym, subst}
+use Rattle.std.proofs.Common.{◌≡◌, ℕ, ◌+◌, ◌<◌, ◌≤◌, Bool, true, false, cond, List, [], ◌∷◌, length, refl, sym, subst}
 use Rattle.std.specs.Prelude.{Option, Some, None}
 use Rattle.std.proofs.Math.Path.{fun_ext}
 use Rattle.eip_exchange.specs.declared.message.Message.{Message}
@@ -20,6 +20,12 @@ use Rattle.eip_meaning.specs.Values.{too_long, with_short, with_key, with_short_
 use Rattle.eip_meaning.specs.Parts.{first_born, count_born, parts_in, spawned}
 use Rattle.eip_meaning.specs.Asked.{IsOfSet}
 
+-- the parts that are asked for at a place: some, no more than there may be, and a number of 32 bits is the index of each
+pub record AreFew (p : At) (seeds : List Seed) : Type 0 where
+  pub some : 0 < length seeds
+  pub few : length seeds ≤ 10000
+  pub indexed : p.index + length seeds ≤ 4294967296
+
 -- the wait for the parts that an answer says are born
 abbrev pub join_of : Reply → Request
 join_of a = request.Join (first_born a) (count_born a)
@@ -32,7 +38,7 @@ module _ (set : RouteSet) where
         → ((a : Reply) (A : List Reply) → fits q a ≡ false → R (a ∷ A) ≡ Stray)
         → ((a : Reply) → fits q a ≡ true → Script faulty (λ A. R (a ∷ A))) → Script faulty R
     -- it has parts born, waits for those that were born, and goes on by their ends
-    spawns : {faulty : Bool} {R : List Reply → Outcome} (seeds : List Seed) (p : At) → R [] ≡ Asks (request.Spawn seeds) p
+    spawns : {faulty : Bool} {R : List Reply → Outcome} (seeds : List Seed) (p : At) → AreFew p seeds → R [] ≡ Asks (request.Spawn seeds) p
         → ((a : Reply) (A : List Reply) → fits (request.Spawn seeds) a ≡ false → R (a ∷ A) ≡ Stray)
         → ((a : Reply) → fits (request.Spawn seeds) a ≡ true → R (a ∷ []) ≡ Asks (join_of a) p)
         → ((a : Reply) → fits (request.Spawn seeds) a ≡ true → (b : Reply) (A : List Reply) → fits (join_of a) b ≡ false → R (a ∷ b ∷ A) ≡ Stray)
@@ -49,15 +55,15 @@ module _ {set : RouteSet} where
   -- what never faults needn't
   pub weaken : {R : List Reply → Outcome} → Script set false R → Script set true R
   weaken (asks q p i h n k) = asks q p i h n (λ a e. weaken (k a e))
-  weaken (spawns seeds p h n j o k) = spawns seeds p h n j o (λ a e b f. weaken (k a e b f))
+  weaken (spawns seeds p w h n j o k) = spawns seeds p w h n j o (λ a e b f. weaken (k a e b f))
   weaken (goes m h) = goes m h
   weaken (stops e m h) = stops e m h
 
   -- one part behind another
   pub followed-script : {faulty : Bool} {R : List Reply → Outcome} (K : Runner) → Script set faulty R → ((m : Message) → Script set faulty (K m)) → Script set faulty (λ A. followed (R A) K)
   followed-script K (asks q p i h n k) g = asks q p i (rw h refl) (λ a A e. rw (n a A e) refl) (λ a e. followed-script K (k a e) g)
-  followed-script K (spawns seeds p h n j o k) g =
-      spawns seeds p (rw h refl) (λ a A e. rw (n a A e) refl) (λ a e. rw (j a e) refl) (λ a e b A f. rw (o a e b A f) refl) (λ a e b f. followed-script K (k a e b f) g)
+  followed-script K (spawns seeds p w h n j o k) g =
+      spawns seeds p w (rw h refl) (λ a A e. rw (n a A e) refl) (λ a e. rw (j a e) refl) (λ a e b A f. rw (o a e b A f) refl) (λ a e b f. followed-script K (k a e b f) g)
   followed-script {faulty} {R} K (goes m h) g = script-along (K m) (λ A. followed (R A) K) (λ A. rw (h A) refl) (g m)
   followed-script K (stops e m h) g = stops e m (λ A. rw (h A) refl)
   followed-script K (faults f again h) g = faults f again (λ A. rw (h A) refl)
@@ -65,8 +71,8 @@ module _ {set : RouteSet} where
   -- a part with what treats its faults
   pub caught-script : {R : List Reply → Outcome} (K : Fault → Bool → List Reply → Outcome) → Script set true R → ((f : Fault) (again : Bool) → Script set false (K f again)) → Script set false (λ A. caught (R A) K)
   caught-script K (asks q p i h n k) g = asks q p i (rw h refl) (λ a A e. rw (n a A e) refl) (λ a e. caught-script K (k a e) g)
-  caught-script K (spawns seeds p h n j o k) g =
-      spawns seeds p (rw h refl) (λ a A e. rw (n a A e) refl) (λ a e. rw (j a e) refl) (λ a e b A f. rw (o a e b A f) refl) (λ a e b f. caught-script K (k a e b f) g)
+  caught-script K (spawns seeds p w h n j o k) g =
+      spawns seeds p w (rw h refl) (λ a A e. rw (n a A e) refl) (λ a e. rw (j a e) refl) (λ a e b A f. rw (o a e b A f) refl) (λ a e b f. caught-script K (k a e b f) g)
   caught-script K (goes m h) g = goes m (λ A. rw (h A) refl)
   caught-script K (stops e m h) g = stops e m (λ A. rw (h A) refl)
   caught-script {R} K (faults f again h) g = script-along (K f again) (λ A. caught (R A) K) (λ A. rw (h A) refl) (g f again)
@@ -120,7 +126,7 @@ module _ (set : RouteSet) where
       (λ a e. script-along (K a) (λ A. ask set (request.Wait ticks) p K (a ∷ A)) (λ A. rw e refl) (g a))
 
   -- parts, and what follows their ends
-  pub spawned-script : (c : Context) (k : ℕ) (seeds : List Seed) (K : List Ended → List Reply → Outcome) → ((es : List Ended) → Script set true (K es)) → Script set true (λ A. spawned set c k seeds K A)
-  spawned-script c k seeds K g =
-      spawns seeds (place_in c k) refl (λ a A e. rw e refl) (λ a e. rw e refl) (λ a e b A f. rw (e, f) refl)
+  pub spawned-script : (c : Context) (k : ℕ) (seeds : List Seed) (K : List Ended → List Reply → Outcome) → AreFew (place_in c k) seeds → ((es : List Ended) → Script set true (K es)) → Script set true (λ A. spawned set c k seeds K A)
+  spawned-script c k seeds K w g =
+      spawns seeds (place_in c k) w refl (λ a A e. rw e refl) (λ a e. rw e refl) (λ a e b A f. rw (e, f) refl)
       (λ a e b f. script-along (K (parts_in b)) (λ A. spawned set c k seeds K (a ∷ b ∷ A)) (λ A. rw (e, f) refl) (g (parts_in b)))

@@ -1,7 +1,10 @@
 -- A try of a step behaves so, where the blocks that it runs do.
-use Rattle.std.proofs.Common.{◌≡◌, ℕ, Bool, true, false, List, [], ◌∷◌, ◌++◌, refl}
+use Rattle.std.proofs.Common.{◌≡◌, ℕ, ◌+◌, ◌≤◌, Bool, true, false, List, [], ◌∷◌, ◌++◌, map, refl, arith}
 use Rattle.std.specs.Prelude.{Option, Some, None, Result, Ok, Err, ◌&&◌, is_some, nat_le, length}
 use Rattle.std.specs.List.{list_any}
+use Rattle.std.proofs.Math.Nat.{min-le_right}
+use Rattle.std.proofs.lemmas.Bool.{leb-true}
+use Rattle.std.proofs.lemmas.List.{length-map}
 use Rattle.eip_exchange.specs.Headers.{is_one_too_many}
 use Rattle.eip_exchange.specs.declared.message.Message.{Message}
 use Rattle.eip_exchange.specs.declared.end.Fault.{Fault}
@@ -37,7 +40,11 @@ use Rattle.eip_meaning.specs.Parts.{first_fault, fault_of_end, or_fault, message
 use Rattle.eip_route.specs.Faults.{next_number}
 use Rattle.eip_meaning.specs.Tries.{Behind, behind_part, runs_part, try_ends, finally_mean, names_kind, tested_when, catch_mean, catches_mean, behind_block, try_mean}
 use Rattle.eip_meaning.specs.Steps.{by_key, is_fresh, one_try}
+use Rattle.eip_meaning.proofs.PartCounts.{cut-few, listed-few}
 use Rattle.eip_meaning.proofs.Scripts.{Script, goes, faults, weaken, ask-script, spawned-script, either-script, where-script, unless-script, short-script, short_key-script}
+
+few-map : {A B : Type 0} (xs : List A) (f : A → B) → length xs ≤ 10000 → length (map f xs) ≤ 10000
+few-map xs f l = omega (arith, length-map xs f, l)
 
 module _ (set : RouteSet) where
   header-script : (name value : List ℕ) (m : Message) → Script set true (sets_header name value m)
@@ -64,22 +71,23 @@ module _ (set : RouteSet) where
   join-script : (s : Strategy) (es : List Ended) (m : Message) → Script set true (join_mean s es m)
   join-script s es m = unless-script (first_fault es) _ (taken-script (made_one s m (messages_of es)) m)
 
-  in_turn-script : (c : Context) (s : Strategy) (stop : Bool) (ended : List Ended) (k : ℕ) (xs : List Seed) (m : Message) → Script set true (in_turn set c s stop ended k xs m)
-  in_turn-script c s stop ended k [] m = join-script s ended m
-  in_turn-script c s stop ended k (x ∷ xs) m =
-      spawned-script set c k (x ∷ []) _
-      (λ ends. either-script (stop && is_some (first_fault ends)) (join-script s (ended ++ ends) m) (in_turn-script c s stop (ended ++ ends) (next_number k) xs m))
+  in_turn-script : (c : Context) (s : Strategy) (stop : Bool) (ended : List Ended) (k : ℕ) (xs : List Seed) (m : Message) → k ≤ 4294967295 → Script set true (in_turn set c s stop ended k xs m)
+  in_turn-script c s stop ended k [] m l = join-script s ended m
+  in_turn-script c s stop ended k (x ∷ xs) m l =
+      spawned-script set c k (x ∷ []) _ (record { some = omega arith; few = omega arith; indexed = omega (arith, l) })
+      (λ ends. either-script (stop && is_some (first_fault ends)) (join-script s (ended ++ ends) m) (in_turn-script c s stop (ended ++ ends) (next_number k) xs m (min-le_right (k + 1) 4294967295)))
 
-  fan-script : (c : Context) (fan : Fan) (s : Strategy) (xs : List Seed) (m : Message) → Script set true (fan_mean set c fan s xs m)
-  fan-script c fan s [] m = goes m (λ A. refl)
-  fan-script c fan s (x ∷ xs) m = either-script fan.parallel (spawned-script set c 0 (x ∷ xs) _ (λ ends. join-script s ends m)) (in_turn-script c s fan.stop [] 0 (x ∷ xs) m)
+  fan-script : (c : Context) (fan : Fan) (s : Strategy) (xs : List Seed) (m : Message) → length xs ≤ 10000 → Script set true (fan_mean set c fan s xs m)
+  fan-script c fan s [] m l = goes m (λ A. refl)
+  fan-script c fan s (x ∷ xs) m l =
+      either-script fan.parallel (spawned-script set c 0 (x ∷ xs) _ (record { some = omega arith; few = l; indexed = omega (arith, l) }) (λ ends. join-script s ends m)) (in_turn-script c s fan.stop [] 0 (x ∷ xs) m (omega arith))
 
-  with_parts-script : (r : Result (List Message) SplitFault) (K : List Message → List Reply → Outcome) → ((ms : List Message) → Script set true (K ms)) → Script set true (λ A. with_parts r K A)
-  with_parts-script (Ok ms) K g = g ms
+  with_parts-script : (r : Result (List Message) SplitFault) (K : List Message → List Reply → Outcome) → ((ms : List Message) → r ≡ Ok ms → Script set true (K ms)) → Script set true (λ A. with_parts r K A)
+  with_parts-script (Ok ms) K g = g ms refl
   with_parts-script (Err f) K g = faults _ false (λ A. refl)
 
-  with_recipients-script : (r : Result (List Uri) RecipientFault) (K : List Uri → List Reply → Outcome) → ((us : List Uri) → Script set true (K us)) → Script set true (λ A. with_recipients r K A)
-  with_recipients-script (Ok us) K g = g us
+  with_recipients-script : (r : Result (List Uri) RecipientFault) (K : List Uri → List Reply → Outcome) → ((us : List Uri) → r ≡ Ok us → Script set true (K us)) → Script set true (λ A. with_recipients r K A)
+  with_recipients-script (Ok us) K g = g us refl
   with_recipients-script (Err f) K g = faults _ false (λ A. refl)
 
   -- ---- doTry
@@ -88,19 +96,19 @@ module _ (set : RouteSet) where
   behind_part-script m [] K g = goes m (λ A. refl)
   behind_part-script m (e ∷ es) K g = g e
 
-  runs_part-script : (c : Context) (m : Message) (k b : ℕ) (K : Ended → List Reply → Outcome) (x : Message) → ((e : Ended) → Script set true (K e)) → Script set true (runs_part set c m k b K x)
-  runs_part-script c m k b K x g = spawned-script set c k _ _ (λ ends. behind_part-script m ends K g)
+  runs_part-script : (c : Context) (m : Message) (k b : ℕ) (K : Ended → List Reply → Outcome) (x : Message) → k ≤ 2 → ((e : Ended) → Script set true (K e)) → Script set true (runs_part set c m k b K x)
+  runs_part-script c m k b K x l g = spawned-script set c k _ _ (record { some = omega arith; few = omega arith; indexed = omega (arith, l) }) (λ ends. behind_part-script m ends K g)
 
   try_ends-script : (m : Message) (pending : Option Fault) (latest : Message) → Script set true (try_ends m pending latest)
   try_ends-script m pending latest = unless-script pending _ (goes _ (λ A. refl))
 
   finally-script : (c : Context) (finish : Option ℕ) (m : Message) (pending : Option Fault) (latest : Message) → Script set true (finally_mean set c finish m pending latest)
   finally-script c None m pending latest = try_ends-script m pending latest
-  finally-script c (Some b) m pending latest = runs_part-script c m 2 b _ latest (λ e. try_ends-script m (or_fault (fault_of_end e.end) pending) e.message)
+  finally-script c (Some b) m pending latest = runs_part-script c m 2 b _ latest (omega arith) (λ e. try_ends-script m (or_fault (fault_of_end e.end) pending) e.message)
 
   module _ (behind : Behind) (B : (pending : Option Fault) (m : Message) → Script set true (behind pending m)) where
     catch-script : (c : Context) (m : Message) (b : ℕ) (x : Message) → Script set true (catch_mean set c m b behind x)
-    catch-script c m b x = runs_part-script c m 1 b _ x (λ e. B (fault_of_end e.end) e.message)
+    catch-script c m b x = runs_part-script c m 1 b _ x (omega arith) (λ e. B (fault_of_end e.end) e.message)
 
     catches-script : (c : Context) (m : Message) (ks : List Catch) (f : Fault) (x : Message) → Script set true (catches_mean set c m ks behind f x)
     catches-script c m [] f x = B (Some f) x
@@ -115,7 +123,7 @@ module _ (set : RouteSet) where
 
   try-script : (c : Context) (b : ℕ) (ks : List Catch) (finish : Option ℕ) (m : Message) → Script set true (try_mean set c b ks finish m)
   try-script c b ks finish m =
-      runs_part-script c m 0 b _ m
+      runs_part-script c m 0 b _ m (omega arith)
       (λ e. behind_block-script (finally_mean set c finish m) (λ pending latest. finally-script c finish m pending latest) c m ks (fault_of_end e.end) e.message)
 
   -- ---- sends
@@ -179,10 +187,10 @@ module _ (set : RouteSet) where
       one_try-script c (step.Process name) m = ask-script set _ _ _ tt (λ a. goes _ (λ A. refl))
       one_try-script c (step.Choice cases otherwise) m = choice-script c cases otherwise m
       one_try-script c (step.Filter k b) m = tested-script c k m _ (λ holds. either-script holds (weaken (N b m)) (goes m (λ A. refl)))
-      one_try-script c (step.Split how fan b) m = with_parts-script (cut how m) _ (λ ms. fan-script c fan _ _ m)
-      one_try-script c (step.Multicast fan bs) m = either-script (nat_le (length bs) 10000) (fan-script c fan _ _ m) (faults _ false (λ A. refl))
+      one_try-script c (step.Split how fan b) m = with_parts-script (cut how m) _ (λ ms e. fan-script c fan _ _ m (few-map ms _ (cut-few how m ms e)))
+      one_try-script c (step.Multicast fan bs) m = where-script (nat_le (length bs) 10000) (λ e. fan-script c fan _ _ m (few-map bs _ (leb-true (length bs) 10000 e))) (faults _ false (λ A. refl))
       one_try-script c (step.Recipients list delimiter fan) m =
-          short-script (short (value_of set c list m)) _ (λ value. with_recipients-script (listed delimiter value) _ (λ us. fan-script c fan _ _ m))
+          short-script (short (value_of set c list m)) _ (λ value. with_recipients-script (listed delimiter value) _ (λ us e. fan-script c fan _ _ m (few-map us _ (listed-few delimiter value us e))))
       one_try-script c (step.Aggregate g) m =
           short_key-script _ (short (value_of set c g.key m)) _ (λ key. ask-script set _ _ _ tt (λ a. goes m (λ A. refl)))
       one_try-script c (step.Idempotent key repository skip eager remove b) m =

@@ -13,16 +13,18 @@ use Rattle.eip_meaning.specs.Contexts.{place_of}
 use Rattle.eip_meaning.specs.Sends.{is_queue}
 use Rattle.eip_meaning.specs.Meaning.{is_committed}
 
--- a request of a step, but the wait for parts: a send goes out by one of the set's lanes, and a copy into one of its queues
+-- a request of a step, but for parts and for their ends: a send goes out by one of the set's lanes, and a copy into one of its queues
 abbrev pub IsOfSet : RouteSet → Request → Type 0
 IsOfSet set (request.Send t m) = is_among (lane_of t) set.names.lanes ≡ true
 IsOfSet set (request.Offer q discard m) = is_queue set q ≡ true
+IsOfSet set (request.Spawn seeds) = ⊥
 IsOfSet set (request.Join first count) = ⊥
 IsOfSet set (request.Finish e m commit) = ⊥
 IsOfSet set _ = Unit {0}
 
 -- a request before the end, with the answer that came last: parts are waited for as soon as they are born, and all that were born
 abbrev pub IsOfSteps : RouteSet → Option Reply → Request → Type 0
+IsOfSteps set last (request.Spawn seeds) = Unit {0}
 IsOfSteps set last (request.Join first count) = last ≡ Some (reply.Born first count)
 IsOfSteps set last q = IsOfSet set q
 

@@ -10,6 +10,7 @@ pub mod Steps
 pub mod Attempts
 pub mod Attempting
 pub mod Meaning
+pub mod LastBlock
 pub mod Ending
 pub mod Asked
 pub mod RowForms

@@ -3,6 +3,8 @@
 
 pub mod context;
 mod redelivery;
+mod tries;
 
 pub use context::Context;
 pub use redelivery::{handling_law, once_law, redelivery_law};
+pub use tries::finally_law;

@@ -1,4 +1,4 @@
--- Journals in which nothing is answered but requests that make no part and no group, wait for nothing and take no key.
+-- Journals in which nothing is answered but requests that make no group, wait for no moment and take no key.
 use Rattle.std.specs.Prelude.{Bool, true, false, [], ◌∷◌}
 use Rattle.eip_exchange.specs.declared.birth.Origin.{Origin}
 use Rattle.eip_exchange.specs.declared.birth.Origin.TheVariants as from
@@ -10,13 +10,15 @@ use Rattle.eip_ledger.specs.declared.entry.Kind.{Kind}
 use Rattle.eip_ledger.specs.declared.entry.Kind.TheVariants.{Answer}
 use Rattle.eip_history.specs.Own.{Past}
 
--- a request that makes no part and no group, waits for nothing and takes no key
+-- a request that makes no group, waits for no moment and takes no key
 abbrev pub IsSimple : Request → Type 0
 IsSimple (request.Send t m) = Unit {0}
 IsSimple (request.Process n m) = Unit {0}
 IsSimple (request.Test n m) = Unit {0}
 IsSimple (request.Offer q discard m) = Unit {0}
 IsSimple (request.Call r) = Unit {0}
+IsSimple (request.Spawn seeds) = Unit {0}
+IsSimple (request.Join first count) = Unit {0}
 IsSimple (request.Log n t) = Unit {0}
 IsSimple (request.Finish e m commit) = Unit {0}
 IsSimple _ = ⊥
@@ -33,6 +35,8 @@ IsSimpleAnswer (reply.Queued n) = Unit {0}
 IsSimpleAnswer (reply.Full l) = Unit {0}
 IsSimpleAnswer reply.Dropped = Unit {0}
 IsSimpleAnswer reply.Entered = Unit {0}
+IsSimpleAnswer (reply.Born first count) = Unit {0}
+IsSimpleAnswer (reply.Joined parts) = Unit {0}
 IsSimpleAnswer reply.Noted = Unit {0}
 IsSimpleAnswer reply.Finished = Unit {0}
 IsSimpleAnswer reply.CommitFailed = Unit {0}
@@ -48,8 +52,9 @@ abbrev pub AnswersSimply : Past → Type 0
 AnswersSimply [] = Unit {0}
 AnswersSimply (e ∷ past) = AnswersSimply past × IsSimpleEntry e.kind
 
--- an exchange that a source's item made, or a copy that was put into a queue
+-- an exchange that a source's item made, a copy that was put into a queue, or a part
 abbrev pub is_simple_origin : Origin → Bool
 is_simple_origin (from.Source r item) = true
 is_simple_origin (from.Queue q) = true
+is_simple_origin (from.Part parent index) = true
 is_simple_origin _ = false

@@ -3,6 +3,7 @@
 
 pub mod look;
 pub mod rows;
+pub mod waking;
 
 pub use look::first_look;
 pub use rows::Rows;

@@ -201,8 +201,8 @@ fn birth_of(
             Some(entry) => item_birth(alloc, set, number, &entry.kind),
             None => unreachable!(),
         },
-        (Born::Copy(_), Some(birth)) => copy_birth(alloc, birth),
-        (Born::Copy(_), None) => unreachable!(),
+        (Born::Copy(_) | Born::Part { .. }, Some(birth)) => copy_birth(alloc, birth),
+        (Born::Copy(_) | Born::Part { .. }, None) => unreachable!(),
     }
 }
 

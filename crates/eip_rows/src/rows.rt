@@ -1,18 +1,21 @@
 ghost use Rattle.std.specs.Prelude.{vec_capacity, vec_len, ◌≡◌, ◌+◌, ◌<◌, ◌≤◌, ◌-◌, ◌++◌, ◌∷◌, [], OnOk, length, slice_set, slice_get, Some, All, filter};
 ghost use Rattle.eip_tables.specs.declared.row.Row.{Row as ARow};
 ghost use Rattle.std.specs.Prelude.{OnErr};
-ghost use Rattle.eip_tables.specs.Moves.{started, begun, answered, held, closed, finished, finished_asked, ended_by};
+ghost use Rattle.eip_tables.specs.declared.row.Stage.TheVariants.{Starved};
+ghost use Rattle.eip_tables.specs.Moves.{started, begun, answered, held, joining, closed, starved_end, last_message, ended_with, finished_asked, ended_by};
+ghost use Rattle.eip_tables.specs.Parts.{seed_rows, starving_faults, rows_behind};
 ghost use Rattle.eip_tables.specs.State.{outside_at, is_wanted};
 ghost use Rattle.eip_tables.specs.Numbers.{IsNumberOf};
 ghost use Rattle.eip_history.specs.Rules.{first};
 ghost use Rattle.eip_tables.specs.Look.{HasCursor, LookedAt};
 
 use crate::look::look_at;
-use eip_exchange::End;
-use eip_frames::{Answer, Request};
+use eip_exchange::{End, Ended, Fault};
+use eip_frames::{Answer, Request, Seed};
 use eip_progress::{Boxed, Cursor};
 use eip_route::RouteSet;
-use eip_tables::row::{self, Row, Stage};
+use eip_tables::parts::{self, Parent};
+use eip_tables::row::{self, Row};
 use eip_tables::wanted::first_wanted;
 use eip_text::NoMemory;
 use std::alloc::Global;
@@ -148,34 +151,60 @@ impl Rows {
         row::hold(&mut self.rows[(number - 1) as usize], worker)
     }
 
-    /// The exchange ends so.
-    pub fn close(&mut self, number: u64, stage: Stage)
+    /// The exchange waits until its parts, which this journal entry made, have ended; what it asked is handed out.
+    pub fn join(&mut self, number: u64, entry: usize) -> Option<Request>
         requires above { 0 < number }
         requires within { number ≤ length self.old.items }
-        ensures items { (r : ARow) → slice_get self.old.items (number - 1) ≡ Some r → self.new.items ≡ slice_set self.old.items (number - 1) (closed stage r) }
+        ensures items { (r : ARow) → slice_get self.old.items (number - 1) ≡ Some r → self.new.items ≡ slice_set self.old.items (number - 1) (joining entry r) }
+        ensures request { (r : ARow) → slice_get self.old.items (number - 1) ≡ Some r → result ≡ r.request }
         ensures spare { self.old.spare ≤ self.new.spare }
     {
-        row::close(&mut self.rows[(number - 1) as usize], stage);
+        row::join(&mut self.rows[(number - 1) as usize], entry)
     }
 
-    /// The exchange ends by the end that it asks for.
-    pub fn finish_asked(&mut self, number: u64)
+    /// The rows of the parts that these seeds make go behind the others, into room that was reserved, each with a fault for the case
+    /// that it is starved.
+    pub fn put_parts(&mut self, parent: Parent, seeds: Vec<Seed>, faults: Vec<Fault>)
+        requires room { length seeds.items ≤ self.old.spare }
+        requires indexes { parent.at.index + length seeds.items ≤ 4294967296 }
+        requires faults { faults.items ≡ starving_faults (length seeds.items) }
+        ensures items { self.new.items ≡ self.old.items ++ seed_rows parent (length self.old.items + 1) parent.at.index seeds.items }
+        ensures spare { self.old.spare ≤ self.new.spare + length seeds.items }
+    {
+        parts::put_parts(&mut self.rows, parent, seeds, faults);
+    }
+
+    /// The last part of the exchange has ended.
+    pub fn wake(&mut self, number: u64)
+        requires above { 0 < number }
+        requires within { number ≤ length self.old.items }
+        ensures items { self.new.items ≡ rows_behind (Some number) self.old.items }
+        ensures spare { self.old.spare ≤ self.new.spare }
+    {
+        row::wake(&mut self.rows[(number - 1) as usize]);
+    }
+
+    /// The exchange is ended for want of memory; the end of a part is handed out, with the message that it was born with.
+    pub fn starve(&mut self, number: u64) -> Option<Ended>
+        requires above { 0 < number }
+        requires within { number ≤ length self.old.items }
+        ensures items { (r : ARow) → slice_get self.old.items (number - 1) ≡ Some r → self.new.items ≡ slice_set self.old.items (number - 1) (closed Starved r) }
+        ensures ended { (r : ARow) → slice_get self.old.items (number - 1) ≡ Some r → result ≡ starved_end r.birth r.fault }
+        ensures spare { self.old.spare ≤ self.new.spare }
+    {
+        row::starve(&mut self.rows[(number - 1) as usize])
+    }
+
+    /// The exchange ends by the end that it asks for; its message is handed out with the end that its parent is told, where there is
+    /// one.
+    pub fn finish_asked(&mut self, number: u64, told: Option<End>) -> Option<Ended>
         requires above { 0 < number }
         requires within { number ≤ length self.old.items }
         ensures items { (r : ARow) → slice_get self.old.items (number - 1) ≡ Some r → self.new.items ≡ slice_set self.old.items (number - 1) (finished_asked r) }
+        ensures ended { (r : ARow) → slice_get self.old.items (number - 1) ≡ Some r → result ≡ ended_with told (last_message r.request) }
         ensures spare { self.old.spare ≤ self.new.spare }
     {
-        row::finish_asked(&mut self.rows[(number - 1) as usize]);
-    }
-
-    /// The exchange ends by this end.
-    pub fn finish(&mut self, number: u64, end: End)
-        requires above { 0 < number }
-        requires within { number ≤ length self.old.items }
-        ensures items { (r : ARow) → slice_get self.old.items (number - 1) ≡ Some r → self.new.items ≡ slice_set self.old.items (number - 1) (finished end r) }
-        ensures spare { self.old.spare ≤ self.new.spare }
-    {
-        row::finish(&mut self.rows[(number - 1) as usize], end);
+        row::finish_asked(&mut self.rows[(number - 1) as usize], told)
     }
 
     /// The exchange ends by this end, as its source took it.

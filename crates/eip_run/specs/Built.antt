@@ -1,6 +1,8 @@
 -- The part of routes that is run today.
 use Rattle.std.specs.Prelude.{Bool, true, false, ◌&&◌, nat_eq, List, length, is_none}
 use Rattle.std.specs.List.{list_all}
+use Rattle.eip_exchange.specs.declared.setting.How.{How}
+use Rattle.eip_exchange.specs.declared.setting.How.TheVariants as how_is
 use Rattle.eip_exchange.specs.declared.setting.Policy.{Policy}
 use Rattle.eip_uri.specs.declared.uri.Uri.{Uri}
 use Rattle.eip_uri.specs.declared.uri.Uri.TheVariants as uri
@@ -17,7 +19,13 @@ is_plain_policy p = is_none p.maximum && (is_none p.delay && (is_none p.multipli
 abbrev pub is_plain_handler : Handler → Bool
 is_plain_handler h = is_none h.dead && is_plain_policy h.policy
 
--- a step that sets or removes a part of the message, sends, logs, faults, runs a processor, or runs a block or leaves it out
+-- a split into the parts of the body; that of a batch comes with groups
+abbrev pub is_built_split : How → Bool
+is_built_split (how_is.Token token) = true
+is_built_split how_is.JsonArray = true
+is_built_split (how_is.Batch key) = false
+
+-- a step that sets or removes a part of the message, sends, logs, faults, runs a processor, runs a block or leaves it out, or runs parts
 abbrev pub is_built_step : Step → Bool
 is_built_step (step.SetBody value) = true
 is_built_step (step.SetHeader name value) = true
@@ -29,12 +37,12 @@ is_built_step (step.Throw kind message) = true
 is_built_step (step.Process name) = true
 is_built_step (step.Choice cases otherwise) = true
 is_built_step (step.Filter check block) = true
-is_built_step (step.Split how fan block) = false
-is_built_step (step.Multicast fan blocks) = false
-is_built_step (step.Recipients list delimiter fan) = false
+is_built_step (step.Split how fan block) = is_built_split how
+is_built_step (step.Multicast fan blocks) = true
+is_built_step (step.Recipients list delimiter fan) = true
 is_built_step (step.Aggregate g) = false
 is_built_step (step.Idempotent key repository skip eager remove block) = false
-is_built_step (step.Try block catches finish) = false
+is_built_step (step.Try block catches finish) = true
 
 abbrev pub is_built_block : Block → Bool
 is_built_block b = list_all is_built_step b.steps

@@ -1,13 +1,14 @@
 ghost use Rattle.std.specs.Prelude.{◌≡◌};
 ghost use Rattle.eip_run.specs.Built as spec;
 
-use eip_exchange::Policy;
+use eip_exchange::{How, Policy};
 use eip_route::{Block, Handler, Route, RouteSet, Step};
 use eip_uri::Uri;
 
 /// Whether the set is of the part that is run today: every source is `stream:in`, a `direct:` or a `seda:`; every step is a
-/// `setBody`, `setHeader`, `setProperty`, `removeHeader`, `to`, `log`, `throwException`, `process`, `choice` or `filter`;
-/// there are no clauses, and the error handler is the default one without attributes. It takes no memory.
+/// `setBody`, `setHeader`, `setProperty`, `removeHeader`, `to`, `log`, `throwException`, `process`, `choice`, `filter`,
+/// `split` (save that of a batch), `multicast`, `recipientList` or `doTry`; there are no clauses, and the error handler is
+/// the default one without attributes. It takes no memory.
 #[tactic(auto, unfolding(crate::specs::Built::is_built))]
 pub fn is_built(set: &RouteSet) -> bool
     ensures { result ≡ spec.is_built set.now }
@@ -57,6 +58,16 @@ fn is_built_block(block: &Block) -> bool
     block.steps.items().iter().all(|step| is_built_step(step))
 }
 
+/// Whether a split is into the parts of the body; that of a batch comes with groups.
+fn is_built_split(how: &How) -> bool
+    ensures { result ≡ spec.is_built_split how.now }
+{
+    match how {
+        How::Token(_) | How::JsonArray => true,
+        How::Batch(_) => false,
+    }
+}
+
 fn is_built_step(step: &Step) -> bool
     ensures { result ≡ spec.is_built_step step.now }
 {
@@ -70,13 +81,12 @@ fn is_built_step(step: &Step) -> bool
         | Step::Throw { .. }
         | Step::Process(_)
         | Step::Choice { .. }
-        | Step::Filter { .. } => true,
-        Step::Split { .. }
+        | Step::Filter { .. }
         | Step::Multicast { .. }
         | Step::Recipients { .. }
-        | Step::Aggregate(_)
-        | Step::Idempotent { .. }
-        | Step::Try { .. } => false,
+        | Step::Try { .. } => true,
+        Step::Split { how, .. } => is_built_split(how),
+        Step::Aggregate(_) | Step::Idempotent { .. } => false,
     }
 }
 

@@ -10,6 +10,12 @@ mod given;
 #[cfg(test)]
 mod lines;
 #[cfg(test)]
+mod parts;
+#[cfg(test)]
 mod runs;
 #[cfg(test)]
 mod sizes;
+#[cfg(test)]
+mod tries;
+#[cfg(test)]
+mod wanting;

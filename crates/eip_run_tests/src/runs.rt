@@ -366,7 +366,7 @@ const REFUSED: [(&str, &str); 2] = [
         "error routes $[0].from.steps[0].filter.steps[0] UnknownStep shout\n",
     ),
     (
-        "[{\"split\":{\"tokenize\":\",\",\"steps\":[]}}]",
+        "[{\"idempotentConsumer\":{\"simple\":\"${body}\",\"steps\":[]}}]",
         "error routes $ NotBuilt\n",
     ),
 ];

@@ -1,23 +1,19 @@
 -- The tables behind the entry by which a copy leaves its queue.
-use Rattle.std.proofs.Common.{◌≡◌, ℕ, suc, ◌+◌, ◌-◌, ◌<◌, ◌≤◌, Bool, true, false, List, [], ◌∷◌, ◌++◌, length, set as put_at, Option, Some, None, refl, sym, ap, subst, ◌∙◌, arith, add-zero}
+use Rattle.std.proofs.Common.{◌≡◌, ℕ, suc, ◌+◌, ◌-◌, ◌<◌, ◌≤◌, true, false, List, ◌∷◌, length, set as put_at, Option, Some, None, refl, sym, ap, subst, ◌∙◌, arith, add-zero}
 use Rattle.std.specs.List.{slice_get}
 use Rattle.std.proofs.lemmas.List.{append-nil}
 use Rattle.eip_exchange.specs.declared.birth.Birth.{Birth}
 use Rattle.eip_exchange.specs.declared.end.Fault.{Fault}
 use Rattle.eip_route.specs.declared.route.RouteSet.{RouteSet}
 use Rattle.eip_frames.specs.declared.request.Request.{Request}
-use Rattle.eip_ledger.specs.declared.entry.Entry.{Entry}
 use Rattle.eip_ledger.specs.declared.entry.Kind.TheVariants.{Start}
 use Rattle.eip_ledger.specs.declared.place.Place.{Place}
-use Rattle.eip_ledger.specs.declared.place.Place.TheVariants as place_is
-use Rattle.eip_seda.specs.Consuming as seda
-use Rattle.eip_seda.specs.Consuming.{Call, Started, QueueView}
+use Rattle.eip_seda.specs.Consuming.{QueueView}
 use Rattle.eip_history.specs.Own.{Past, numbered}
 use Rattle.eip_history.specs.Births.{births}
-use Rattle.eip_history.specs.Place.{place, place_of, is_in, waiting}
-use Rattle.eip_history.specs.Rules.{KeepsRules, May, first}
-use Rattle.eip_history.specs.Tables.{put_in, bit}
-use Rattle.eip_history.proofs.Lists.{related-at}
+use Rattle.eip_history.specs.Place.{place, place_of, is_in}
+use Rattle.eip_history.specs.Rules.{KeepsRules, May}
+use Rattle.eip_history.specs.Tables.{put_in}
 use Rattle.eip_history.proofs.Unborn.{first-placed}
 use Rattle.eip_plan.specs.Plan.{plan_of}
 use Rattle.eip_progress.specs.declared.cursor.Cursor.{Cursor}
@@ -27,13 +23,14 @@ use Rattle.eip_tables.specs.declared.row.Row.{Row}
 use Rattle.eip_tables.specs.Moves.{started}
 use Rattle.eip_tables.specs.State.{State, state_of, state_by, asks_outside, row_outside}
 use Rattle.eip_tables.specs.State as state
-use Rattle.eip_tables.specs.Rows.{RowStands, IsWaiting, IsUnasked, row_ready, row_held, row_live, state_ready, state_held, state_live}
+use Rattle.eip_tables.specs.Rows.{IsWaiting, IsUnasked, row_ready, row_held, row_live, state_ready, state_held, state_live}
 use Rattle.eip_tables.specs.Queues.{QueuesStand}
 use Rattle.eip_tables.specs.Stands.{Tables, Stands}
 use Rattle.eip_table_laws.proofs.RowNumbers.{numbers-join}
 use Rattle.eip_table_laws.proofs.RowPlaces.{Placed, row-place, row-on}
 use Rattle.eip_table_laws.proofs.RowSteps.{unasked-started}
-use Rattle.eip_table_laws.proofs.OwnEvents.{stands-one, of-start}
+use Rattle.eip_table_laws.proofs.JoinsKept.{joins-stay}
+use Rattle.eip_table_laws.proofs.OwnEvents.{stands-one, of-start, apart-quiet}
 use Rattle.eip_table_laws.proofs.OwnCalls.{IsAt, is-at, row-within, placed-some}
 use Rattle.eip_table_laws.proofs.HandCalls.{place-at}
 
@@ -43,6 +40,7 @@ waiting-state b state.Queued p q h i = refl
 waiting-state b state.New p q h i = absurd (cc (sym (ap (is_in q) h) ∙ i))
 waiting-state b (state.Asks c r) p q h i = absurd (cc (sym (ap (is_in q) h) ∙ i))
 waiting-state b (state.Held c w) p q h i = absurd (cc (sym (ap (is_in q) h) ∙ i))
+waiting-state b (state.Joining c j) p q h i = absurd (cc (sym (ap (is_in q) h) ∙ i))
 waiting-state b (state.Answered c j) p q h i = absurd (cc (sym (ap (is_in q) h) ∙ i))
 waiting-state b (state.Ended c) p q h i = absurd (cc (sym (ap (is_in q) h) ∙ i))
 waiting-state b state.Broken p q h i = absurd h
@@ -97,10 +95,11 @@ module _ {routes : RouteSet} {workers limit : ℕ} {past : Past} (t : Tables) (w
         let b : row_held r ≡ false = ap state_held waits in
         let l : row_live r ≡ true = ap state_live waits in
         rw (append-nil t.notes, add-zero t.turns) at
-        (stands-one routes workers limit past t w x (x - 1) (Start q x) r (started r) (put_in x t.ready) t.taken t.live queues st lw may (of-start w q x) above row
+        (stands-one routes workers limit past t w x (x - 1) (Start q x) r (started r) (put_in x t.ready) t.taken t.live queues t.joins st lw may (of-start w q x) refl above row
+        (λ legal. apart-quiet routes workers limit w x (Start q x) past legal (of-start w q x) refl refl)
         (λ d d_at h.
-        row-on routes (record { worker = w; kind = Start q x }) past d r (started r) h refl refl l
+        row-on routes (record { worker = w; kind = Start q x }) past d r (started r) h refl refl refl l
         (let g : IsWaiting past d = rw waits at h.stands in
         subst (λ (n : ℕ). IsUnasked ((record { worker = w; kind = Start q n }) ∷ past) d) (number-of d d_at) (unasked-started past w q d g.none)))
         (ap (put_in x) st.ready ∙ sym (rw number at (numbers-join row_ready 1 t.rows (x - 1) r (started r) row (ap state_ready waits) refl)))
-        (rw b refl) (rw l refl) queues_are)
+        (rw b refl) (rw l refl) queues_are (λ legal. joins-stay routes workers limit w (Start q x) past t.joins legal refl st.joins))

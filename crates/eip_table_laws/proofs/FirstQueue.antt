@@ -1,5 +1,5 @@
 -- The first queue that may start somebody, as the table of queues finds it.
-use Rattle.std.proofs.Common.{◌≡◌, ℕ, ◌<◌, ◌≤◌, Bool, true, false, ◌&&◌, nat_lt, List, [], ◌∷◌, length, Option, Some, None, refl, sym, ap, ◌∙◌, arith}
+use Rattle.std.proofs.Common.{◌≡◌, ℕ, ◌<◌, Bool, true, false, ◌&&◌, nat_lt, List, [], ◌∷◌, length, Some, None, refl, sym, ap, ◌∙◌, arith}
 use Rattle.std.specs.List.{slice_get, position_from}
 use Rattle.std.specs.Prelude.{option_map}
 use Rattle.std.proofs.lemmas.Option.{slice_get_within}
@@ -8,10 +8,10 @@ use Rattle.eip_seda.specs.Consuming as seda
 use Rattle.eip_seda.specs.Consuming.{QueueView, queue_after, can_start, somebody}
 use Rattle.eip_history.specs.Own.{Past}
 use Rattle.eip_history.specs.Place.{waiting, busy, is_some_first, is_startable}
-use Rattle.eip_history.specs.Rules.{first, startable}
+use Rattle.eip_history.specs.Rules.{startable}
 use Rattle.eip_history.proofs.Lists.{slice_get-some}
 use Rattle.eip_plan.specs.Plan.{plan_of}
-use Rattle.eip_tables.specs.Queues.{QueuesStand, limits, limit_of}
+use Rattle.eip_tables.specs.Queues.{QueuesStand, limit_of}
 use Rattle.eip_table_laws.proofs.StopCalls.{position-some, position-none}
 use Rattle.eip_table_laws.proofs.QueueCalls.{limits-at, queues-many}
 use Rattle.eip_table_laws.proofs.QueueStarts.{none-startable}

@@ -1,9 +1,11 @@
 -- The tables behind each entry of an exchange that waits for somebody outside.
-use Rattle.std.proofs.Common.{◌≡◌, ℕ, suc, ◌+◌, ◌-◌, ◌≤◌, Bool, true, false, ◌&&◌, not, List, [], ◌∷◌, length, filter, set as put_at, Option, Some, None, is_some, refl, sym, ap, subst, ◌∙◌, arith, add-zero, inr}
+use Rattle.std.proofs.Common.{◌≡◌, ℕ, suc, ◌+◌, ◌-◌, ◌≤◌, Bool, true, false, ◌&&◌, not, List, [], ◌∷◌, length, filter, set as put_at, Option, Some, None, is_some, refl, sym, ap, subst, ◌∙◌, arith, add-zero, inr, eq-eqb, ◌<◌}
 use Rattle.std.specs.List.{slice_get}
 use Rattle.std.proofs.lemmas.List.{append-nil}
 use Rattle.std.proofs.lemmas.Option.{slice_get_within}
 use Rattle.eip_exchange.specs.declared.birth.Birth.{Birth}
+use Rattle.eip_exchange.specs.declared.birth.Origin.TheVariants as from
+use Rattle.eip_exchange.specs.Ends.{out_of_memory}
 use Rattle.eip_exchange.specs.declared.end.Fault.{Fault}
 use Rattle.eip_exchange.specs.declared.end.End.{End}
 use Rattle.eip_exchange.specs.declared.end.End.TheVariants as end
@@ -19,11 +21,13 @@ use Rattle.eip_ledger.specs.declared.entry.Kind.TheVariants.{Take, Answer, Starv
 use Rattle.eip_ledger.specs.declared.place.Place.{Place}
 use Rattle.eip_ledger.specs.declared.place.Place.TheVariants as place_is
 use Rattle.eip_history.specs.Plan.{Plan}
-use Rattle.eip_history.specs.Own.{Past, numbered}
+use Rattle.eip_history.specs.Own.{Past, own, answers, numbered}
 use Rattle.eip_history.specs.Births.{births, asked, Asked}
-use Rattle.eip_history.specs.Place.{place, place_of, ended}
+use Rattle.eip_history.specs.Place.{place, place_of, ended, end_of, pause_of, Runs}
 use Rattle.eip_history.specs.Rules.{KeepsRules, May, MayAct, IsBelow, Content, outside_asked}
 use Rattle.eip_history.specs.Tables.{without, put_in, bit}
+use Rattle.eip_history.specs.TableWords.{born_by}
+use Rattle.eip_history.proofs.Limit.{not-same}
 use Rattle.eip_history.specs.Texts.{note_for}
 use Rattle.eip_history.proofs.Lists.{related-at, slice_get-some}
 use Rattle.eip_history.proofs.Main.{legal-add}
@@ -31,13 +35,16 @@ use Rattle.eip_history.proofs.Places.{ended-is}
 use Rattle.eip_history.proofs.Unborn.{birth-stays}
 use Rattle.eip_plan.specs.Plan.{plan_of}
 use Rattle.eip_plan.specs.Simple.{IsSimple}
-use Rattle.eip_plan.proofs.Items.{outside-simple, fits-simple, outside-unqueued}
+use Rattle.eip_plan.proofs.Items.{bears, outside-simple, fits-simple, outside-unqueued, outside-unborn, unborn-births}
+use Rattle.eip_meaning.proofs.Laws.{asked-finish}
 use Rattle.eip_progress.specs.declared.cursor.Cursor.{Cursor}
 use Rattle.eip_seda.specs.Consuming.{QueueView}
+use Rattle.eip_join.specs.Parts.{Open}
+use Rattle.eip_tables.specs.declared.row.Born.TheVariants as made
 use Rattle.eip_tables.specs.declared.row.Stage.{Stage}
 use Rattle.eip_tables.specs.declared.row.Stage.TheVariants as stage
 use Rattle.eip_tables.specs.declared.row.Row.{Row}
-use Rattle.eip_tables.specs.Moves.{answered, held, closed, finished, end_asked, ended_by}
+use Rattle.eip_tables.specs.Moves.{answered, held, closed, finished, end_asked, ended_by, starved_end}
 use Rattle.eip_tables.specs.Closing.{Closing}
 use Rattle.eip_tables.specs.Closing as closing
 use Rattle.eip_tables.specs.State as state
@@ -45,15 +52,21 @@ use Rattle.eip_tables.specs.State.{State, state_of, state_by, asks_outside, row_
 use Rattle.eip_tables.specs.Numbers.{row_numbers}
 use Rattle.eip_tables.specs.Outside.{is_among, unlooked_numbers, IsAsked}
 use Rattle.eip_tables.specs.Queues.{QueuesStand, MayLeave, Leaves}
-use Rattle.eip_tables.specs.Rows.{IsAsking, HasAnswer, HasEnded, StateStands, RowStands, closed_end, row_ready, row_held, row_live, state_ready, state_held, state_live}
+use Rattle.eip_tables.specs.Parts.{rows_behind, ready_behind}
+use Rattle.eip_tables.specs.Joins.{JoinsStand, MayTell, Tells, Wakes}
+use Rattle.eip_tables.specs.Rows.{Keeps, IsAsking, HasAnswer, HasEnded, StateStands, RowStands, closed_end, row_ready, row_held, row_live, state_ready, state_held, state_live}
 use Rattle.eip_tables.specs.Stands.{Tables, Stands}
 use Rattle.eip_table_laws.proofs.RowNumbers.{numbers-stay, numbers-leave, numbers-join, count-set}
 use Rattle.eip_table_laws.proofs.ListedNumbers.{among-row, among-numbers, numbers-filter, numbers-same}
 use Rattle.eip_table_laws.proofs.RowPlaces.{Placed, row-place, state-place, row-on, row-ended, fate-asks}
-use Rattle.eip_table_laws.proofs.RowSteps.{held-by, has-answer, has-finished, has-not-committed, has-starved, closing_of, IsNoFinish}
+use Rattle.eip_table_laws.proofs.RowSteps.{mean-asks, runs-simple, held-by, has-answer, has-finished, has-not-committed, has-starved, closing_of, IsNoFinish}
 use Rattle.eip_table_laws.proofs.QueueCalls.{queues-stay, queues-on, leaving-answer, leaving-starve}
 use Rattle.eip_table_laws.proofs.Leaving.{ends-some, may-leave, queues-ended}
-use Rattle.eip_table_laws.proofs.OwnEvents.{stands-one, notes_in, of-take, of-answer, of-starve}
+use Rattle.eip_table_laws.proofs.PartFacts.{IsNoJoin, unopened, stands-alive}
+use Rattle.eip_table_laws.proofs.JoinsKept.{joins-stay, joins-on}
+use Rattle.eip_table_laws.proofs.Telling.{IsShut, shut-none, may-tell, joins-alone, joins-ended, moves-alone, also-moves, woken-within, starved-end, starved-told}
+use Rattle.eip_table_laws.proofs.OwnEvents.{AlsoMoves, StandsApart, stands-one, apart-quiet, apart-lives, notes_in, of-take, of-answer, of-starve}
+use Rattle.eip_table_laws.proofs.Ending.{stands-end}
 use Rattle.eip_table_laws.proofs.OwnCalls.{IsAt, is-at, row-within, asks-fields, asked-by-fate}
 use Rattle.eip_table_laws.proofs.Bounds.{rows-are}
 
@@ -133,6 +146,7 @@ held-placed b state.Queued p w e h = absurd (cc (sym e ∙ h.2))
 held-placed b state.New p w e h = absurd (cc (sym e ∙ h))
 held-placed b (state.Asks c q) p w e h = absurd (cc (sym e ∙ h))
 held-placed b (state.Held c v) p w e h = let same : v ≡ w = (let both = sym h ∙ e in cc) in (c, ap (state.Held c) same)
+held-placed b (state.Joining c i) p w e h = absurd (cc (sym e ∙ h))
 held-placed b (state.Answered c i) p w e h = absurd (cc (sym e ∙ h))
 held-placed b (state.Ended c) p w e h = absurd (cc (sym e ∙ h))
 held-placed b state.Broken p w e h = absurd h
@@ -142,6 +156,7 @@ held-fields : (g : Stage) (oc : Option Cursor) (oq : Option Request) (f : Option
 held-fields (stage.Held v) (Some d) oq f c w h = (cc, refl)
 held-fields stage.Asks (Some d) (Some q) f c w h = absurd (cc h)
 held-fields stage.Failed oc oq (Some f) c w h = absurd (cc h)
+held-fields (stage.Joining i) (Some d) oq f c w h = absurd (cc h)
 held-fields (stage.Answered i) (Some d) oq f c w h = absurd (cc h)
 held-fields _ _ _ f c w h = absurd (cc h)
 
@@ -155,6 +170,18 @@ content-outside s past k (request.Process n m) a o = tt
 content-outside s past k (request.Test n m) a o = tt
 content-outside s past k (request.Finish e m c) a o = tt
 content-outside s past k _ a o = absurd (cc o)
+
+-- nobody outside is asked how parts ended, and no answer from there opens a join
+outside-other : (q : Request) → is_outside q ≡ true → IsNoJoin q
+outside-other (request.Join first count) o = absurd (cc o)
+outside-other _ o = tt
+
+outside-closes : (q : Request) (a : Reply) → is_outside q ≡ true → fits q a ≡ true → born_by a ≡ None
+outside-closes q a o h = by_answer a (outside-unborn q a o h)
+  where
+    by_answer : (a : Reply) → bears a ≡ false → born_by a ≡ None
+    by_answer (reply.Born first count) g = absurd (cc g)
+    by_answer _ g = refl
 
 -- no answer from outside is a line of the log
 no-note : (x : ℕ) (q : Request) (a : Reply) → is_outside q ≡ true → note_for x q a ≡ None
@@ -252,26 +279,34 @@ module _ {routes : RouteSet} {workers limit : ℕ} {past : Past} (t : Tables) (w
     now-held : state_of (held w r) ≡ state.Held c w
     now-held = let f = asks-fields r.stage r.cursor r.request r.fault c q asks in rw f.0 refl
 
-    asking-held : IsAsking routes (took ∷ past) birth c q (Some w)
+    take-legal : IsBelow (plan_of routes) limit past → KeepsRules (plan_of routes) workers limit ((record { worker = w; kind = Take x }) ∷ past)
+    take-legal below = (legal-add (plan_of routes) workers limit (record { worker = w; kind = Take x }) past st.legal lw (may-take below)).entries
+
+    asking-held : IsBelow (plan_of routes) limit past → IsAsking routes (took ∷ past) birth c q (Some w)
     unfolding birth took
-    asking-held = subst (λ (n : ℕ). IsAsking routes ((record { worker = w; kind = Take n }) ∷ past) (here place_is.Ready ready).birth c q (Some w)) (here place_is.Ready ready).number (held-by routes past w (here place_is.Ready ready).birth c q asking)
+    asking-held below =
+        let number = (here place_is.Ready ready).number in
+        subst (λ (n : ℕ). IsAsking routes ((record { worker = w; kind = Take n }) ∷ past) (here place_is.Ready ready).birth c q (Some w)) number
+        (held-by routes workers limit past w (here place_is.Ready ready).birth c q
+        (subst (λ (n : ℕ). KeepsRules (plan_of routes) workers limit ((record { worker = w; kind = Take n }) ∷ past)) (sym number) (take-legal below)) asking)
 
     birth-now : numbered (births (plan_of routes) (took ∷ past)) x ≡ Some birth
     unfolding birth
     birth-now = birth-stays (plan_of routes) took past x birth (here place_is.Ready ready).at
 
     -- it is in this worker's hand then, and asks what it asked
-    pub taken-place : place (plan_of routes) ((record { worker = w; kind = Take x }) ∷ past) x ≡ Some (place_is.InHand w)
+    pub taken-place : IsBelow (plan_of routes) limit past → place (plan_of routes) ((record { worker = w; kind = Take x }) ∷ past) x ≡ Some (place_is.InHand w)
     unfolding took birth
-    taken-place =
+    taken-place below =
         let s = plan_of routes in
-        place-at s (took ∷ past) x birth (place_is.InHand w) birth-now (state-place routes (took ∷ past) birth (state.Held c w) (q, asking-held, outside))
+        place-at s (took ∷ past) x birth (place_is.InHand w) birth-now (state-place routes (took ∷ past) birth (state.Held c w) (q, asking-held below, outside))
 
-    pub taken-asks : IsAsked (plan_of routes) ((record { worker = w; kind = Take x }) ∷ past) x q
+    pub taken-asks : IsBelow (plan_of routes) limit past → IsAsked (plan_of routes) ((record { worker = w; kind = Take x }) ∷ past) x q
     unfolding took
-    taken-asks =
-        let k : Asked = record { birth = birth; request = q; at = asking-held.at } in
-        (k, (asked-by-fate routes (took ∷ past) x birth q asking-held.at birth-now (fate-asks routes (took ∷ past) birth c q (Some w) asking-held), refl))
+    taken-asks below =
+        let a = asking-held below in
+        let k : Asked = record { birth = birth; request = q; at = a.at } in
+        (k, (asked-by-fate routes (took ∷ past) x birth q a.at birth-now (fate-asks routes (took ∷ past) birth c q (Some w) a), refl))
 
     pub stands-take : IsBelow (plan_of routes) limit past
         → Stands routes workers limit ((record { worker = w; kind = Take x }) ∷ past) (record t { rows = put_at t.rows (x - 1) (held w r); ready = without x t.ready; taken = t.taken + 1 })
@@ -283,13 +318,16 @@ module _ {routes : RouteSet} {workers limit : ℕ} {past : Past} (t : Tables) (w
         let b' : row_held (held w r) ≡ true = ap state_held now-held in
         let l' : row_live (held w r) ≡ true = ap state_live now-held in
         rw (append-nil t.notes, add-zero t.turns) at
-        (stands-one routes workers limit past t w x (x - 1) (Take x) r (held w r) (without x t.ready) (t.taken + 1) t.live t.queues st lw (may-take below) (of-take w x) (above place_is.Ready ready) row
+        (stands-one routes workers limit past t w x (x - 1) (Take x) r (held w r) (without x t.ready) (t.taken + 1) t.live t.queues t.joins st lw (may-take below) (of-take w x) refl (above place_is.Ready ready) row
+        (λ legal. apart-quiet routes workers limit w x (Take x) past legal (of-take w x) refl refl)
         (λ d d_at h.
-        row-on routes (record { worker = w; kind = Take x }) past d r (held w r) h refl refl (l ∙ sym l')
-        (rw now-held (subst (λ (n : ℕ). StateStands routes ((record { worker = w; kind = Take n }) ∷ past) d (state.Held c w)) (number-of place_is.Ready ready d d_at) (q, held-by routes past w d c q (rw asks at h.stands), outside))))
+        row-on routes (record { worker = w; kind = Take x }) past d r (held w r) h refl refl refl (l ∙ sym l')
+        (rw now-held (subst (λ (n : ℕ). StateStands routes ((record { worker = w; kind = Take n }) ∷ past) d (state.Held c w)) (number-of place_is.Ready ready d d_at)
+        (q, held-by routes workers limit past w d c q (subst (λ (n : ℕ). KeepsRules (plan_of routes) workers limit ((record { worker = w; kind = Take n }) ∷ past)) (sym (number-of place_is.Ready ready d d_at)) (take-legal below)) (rw asks at h.stands), outside))))
         (ap (without x) st.ready ∙ sym (rw number at (numbers-leave row_ready 1 t.rows (x - 1) (held w r) (ap state_ready now-held))))
         (rw (b, b') (omega arith)) (rw (l, l') refl)
-        (λ legal. queues-stay routes workers limit w (Take x) past t.queues legal refl refl st.queues))
+        (λ legal. queues-stay routes workers limit w (Take x) past t.queues legal refl refl st.queues)
+        (λ legal. joins-stay routes workers limit w (Take x) past t.joins legal refl st.joins))
 
   -- it is in this worker's hand
   module _ (placed : place (plan_of routes) past x ≡ Some (place_is.InHand w)) where
@@ -352,6 +390,15 @@ module _ {routes : RouteSet} {workers limit : ℕ} {past : Past} (t : Tables) (w
         let same : h.birth ≡ d = cc in
         subst (λ (b : Birth). IsAsking routes past b in-hand.0 q (Some w)) same k.asking
 
+    held-alive : ended (plan_of routes) past x ≡ None
+    held-alive =
+        let h = here (place_is.InHand w) placed in
+        ended-is (plan_of routes) past x h.birth h.at ∙ stands-alive (plan_of routes) past h.birth (place_is.InHand w) h.placed refl
+
+    -- who asks the outside has no open join
+    held-shut : (q : Request) → HeldAsks q → IsShut x st.joins.calls st.joins.calls
+    held-shut q k = shut-none x st.joins.calls (st.joins.parts x ∙ unopened routes past x (record { birth = (here (place_is.InHand w) placed).birth; request = q; at = k.asking.at }) k.asked_is (outside-other q k.outside))
+
     -- the answer of a request that isn't its last
     module _ (q : Request) (a : Reply) (asks : IsAsked (plan_of routes) past x q) (fit : fits q a ≡ true) (goes : end_asked (Some q) ≡ None) where
       known : HeldAsks q
@@ -360,10 +407,13 @@ module _ {routes : RouteSet} {workers limit : ℕ} {past : Past} (t : Tables) (w
       settled : Entry
       settled = record { worker = w; kind = Answer x a }
 
-      gets : (d : Birth) → slice_get (births (plan_of routes) past) (x - 1) ≡ Some d → HasAnswer routes ((record { worker = w; kind = Answer x a }) ∷ past) d in-hand.0 (length past)
+      runs : pause_of (Some a) ≡ Runs
+      runs = runs-simple a (fits-simple q a known.simple fit) (outside-unborn q a known.outside fit)
+
+      gets : (d : Birth) → slice_get (births (plan_of routes) past) (x - 1) ≡ Some d → HasAnswer routes ((record { worker = w; kind = Answer x a }) ∷ past) d in-hand.0 (length past) place_is.Ready
       gets d d_at =
-          subst (λ (m : ℕ). HasAnswer routes ((record { worker = w; kind = Answer m a }) ∷ past) d in-hand.0 (length past)) (number-of (place_is.InHand w) placed d d_at)
-          (has-answer routes past w d in-hand.0 q a (Some w) (fits-simple q a known.simple fit) (no-end q goes) fit (asking-of q d known d_at))
+          subst (λ (m : ℕ). HasAnswer routes ((record { worker = w; kind = Answer m a }) ∷ past) d in-hand.0 (length past) place_is.Ready) (number-of (place_is.InHand w) placed d d_at)
+          (has-answer routes past w d in-hand.0 q a (Some w) place_is.Ready (rw runs refl) (no-end q goes) fit (asking-of q d known d_at))
 
       lives-on : ended (plan_of routes) ((record { worker = w; kind = Answer x a }) ∷ past) x ≡ None
       lives-on =
@@ -389,11 +439,13 @@ module _ {routes : RouteSet} {workers limit : ℕ} {past : Past} (t : Tables) (w
         let l : row_live (answered (length past) r) ≡ true = ap state_live now in
         let n = taken-above in
         rw (no-notes q a k, append-nil t.notes) at
-        (stands-one routes workers limit past t w x (x - 1) (Answer x a) r (answered (length past) r) (put_in x t.ready) (t.taken - 1) t.live t.queues st lw (may-answer q a k fit)
-        (of-answer w x a (fits-simple q a k.simple fit) (outside-unqueued q a k.outside fit)) (above (place_is.InHand w) placed) row
-        (λ d d_at h. row-on routes (record { worker = w; kind = Answer x a }) past d r (answered (length past) r) h refl refl (was-live ∙ sym l) (rw now (gets q a asks fit goes d d_at)))
+        (stands-one routes workers limit past t w x (x - 1) (Answer x a) r (answered (length past) r) (put_in x t.ready) (t.taken - 1) t.live t.queues t.joins st lw (may-answer q a k fit)
+        (of-answer w x a (fits-simple q a k.simple fit)) (unborn-births (plan_of routes) past x a (outside-unborn q a k.outside fit)) (above (place_is.InHand w) placed) row
+        (λ legal. apart-lives routes workers limit w x (Answer x a) past legal (of-answer w x a (fits-simple q a k.simple fit)) (lives-on q a asks fit goes))
+        (λ d d_at h. row-on routes (record { worker = w; kind = Answer x a }) past d r (answered (length past) r) h refl refl refl (was-live ∙ sym l) (rw now (gets q a asks fit goes d d_at)))
         (ap (put_in x) st.ready ∙ sym (rw number at (numbers-join row_ready 1 t.rows (x - 1) r (answered (length past) r) row (ap state_ready in-hand.1) (ap state_ready now))))
-        (rw (was-held, b) (omega (arith, n))) (rw (was-live, l) refl) (same-queues q a asks fit goes))
+        (rw (was-held, b) (omega (arith, n))) (rw (was-live, l) refl) (same-queues q a asks fit goes)
+        (λ legal. joins-on routes workers limit w x a past legal (lives-on q a asks fit goes) (outside-closes q a k.outside fit) (unopened routes past x (record { birth = (here (place_is.InHand w) placed).birth; request = q; at = k.asking.at }) k.asked_is (outside-other q k.outside)) st.joins))
 
     -- it ends as its source took it
     module _ (q : Request) (e : End) (a : Reply) (asks : IsAsked (plan_of routes) past x q) (fit : fits q a ≡ true) (ends : end_asked (Some q) ≡ Some e) where
@@ -427,6 +479,38 @@ module _ {routes : RouteSet} {workers limit : ℕ} {past : Past} (t : Tables) (w
           let legal = legal-add (plan_of routes) workers limit (record { worker = w; kind = Answer x a }) past st.legal lw (may-answer q a told-end fit) in
           may-leave workers limit w x (Answer x a) h.birth t.queues (leaving-answer x a (outside-unqueued q a told-end.outside fit)) legal.entries h.at over-some st.queues r.born h.stands.born
 
+      -- whose source is told of its end is no part
+      end-alone : (p i : ℕ) → (here (place_is.InHand w) placed).birth.origin ≡ from.Part p i → ⊥
+      end-alone p i h =
+          let b = (here (place_is.InHand w) placed).birth in
+          let a : IsAsking routes past b in-hand.0 (request.Finish e to-end.message true) (Some w) = subst (λ (z : Request). IsAsking routes past b in-hand.0 z (Some w)) to-end.is told-end.asking in
+          let told = (asked-finish routes b (answers (own b.number past)) e to-end.message true a.at (mean-asks routes past b in-hand.0 (request.Finish e to-end.message true) (Some w) a)).0 in
+          let g = rw h at told in
+          cc g
+
+      over-so : (o : HasEnded routes ((record { worker = w; kind = Answer x a }) ∷ past) (here (place_is.InHand w) placed).birth (closing_by e a))
+          → ended (plan_of routes) ((record { worker = w; kind = Answer x a }) ∷ past) x ≡ Some (record { end = closed_end (here (place_is.InHand w) placed).birth (closing_by e a); message = o.message })
+      over-so o =
+          let h = here (place_is.InHand w) placed in
+          ended-is (plan_of routes) ((record { worker = w; kind = Answer x a }) ∷ past) x h.birth (birth-stays (plan_of routes) (record { worker = w; kind = Answer x a }) past x h.birth h.at) ∙ ap end_of o.ends
+
+      is-over-here : HasEnded routes ((record { worker = w; kind = Answer x a }) ∷ past) (here (place_is.InHand w) placed).birth (closing_by e a)
+      is-over-here =
+          let h = here (place_is.InHand w) placed in
+          is-over h.birth (subst (λ (n : ℕ). numbered (births (plan_of routes) past) n ≡ Some h.birth) (sym (above (place_is.InHand w) placed)) h.at)
+
+      joins-over : KeepsRules (plan_of routes) workers limit ((record { worker = w; kind = Answer x a }) ∷ past) → JoinsStand routes ((record { worker = w; kind = Answer x a }) ∷ past) t.joins
+      joins-over legal =
+          let h = here (place_is.InHand w) placed in
+          joins-alone workers limit w x (Answer x a) h.birth (record { end = closed_end h.birth (closing_by e a); message = is-over-here.message }) legal st.simple (eq-eqb x x refl) (λ y ne. not-same y x ne) (λ n. refl)
+          h.at held-alive (over-so is-over-here) st.joins st.joins.calls (held-shut q told-end) t.joins st.joins.stands end-alone
+
+      over-moves : KeepsRules (plan_of routes) workers limit ((record { worker = w; kind = Answer x a }) ∷ past) → StandsApart routes past (record { worker = w; kind = Answer x a }) x
+      over-moves legal =
+          let h = here (place_is.InHand w) placed in
+          moves-alone workers limit w x (Answer x a) h.birth (record { end = closed_end h.birth (closing_by e a); message = is-over-here.message }) legal st.simple (eq-eqb x x refl) (λ y ne. not-same y x ne) (λ n. refl)
+          h.at held-alive (over-so is-over-here) st.joins st.joins.calls (held-shut q told-end) t.joins st.joins.stands end-alone
+
       pub stands-settle-end : (queues : List QueueView) → Leaves r.born t.queues queues
           → Stands routes workers limit ((record { worker = w; kind = Answer x a }) ∷ past)
           (record t { rows = put_at t.rows (x - 1) (ended_by e a r); turns = t.turns + 1; taken = t.taken - 1; live = t.live - 1; queues = queues })
@@ -437,12 +521,12 @@ module _ {routes : RouteSet} {workers limit : ℕ} {past : Past} (t : Tables) (w
           let n = taken-above in
           let m = held-live in
           rw (no-notes q a told-end, append-nil t.notes) at
-          (stands-one routes workers limit past t w x (x - 1) (Answer x a) r (ended_by e a r) t.ready (t.taken - 1) (t.live - 1) queues st lw (may-answer q a told-end fit)
-          (of-answer w x a (fits-simple q a told-end.simple fit) (outside-unqueued q a told-end.outside fit)) (above (place_is.InHand w) placed) row
+          (stands-one routes workers limit past t w x (x - 1) (Answer x a) r (ended_by e a r) t.ready (t.taken - 1) (t.live - 1) queues t.joins st lw (may-answer q a told-end fit)
+          (of-answer w x a (fits-simple q a told-end.simple fit)) (unborn-births (plan_of routes) past x a (outside-unborn q a told-end.outside fit)) (above (place_is.InHand w) placed) row over-moves
           (λ d d_at g. row-ended routes (record { worker = w; kind = Answer x a }) past d r (ended_by e a r) g (sym (ended-by-born e a r)) l (rw now-over (is-over d d_at)))
           (st.ready ∙ sym (numbers-stay row_ready 1 t.rows (x - 1) r (ended_by e a r) row (ap state_ready in-hand.1 ∙ sym (ap state_ready now-over))))
           (rw (was-held, b) (omega (arith, n))) (rw (was-live, l) (omega (arith, m)))
-          (λ legal. queues-ended workers limit w x (Answer x a) h.birth t.queues (leaving-answer x a (outside-unqueued q a told-end.outside fit)) legal h.at over-some st.queues r.born queues h.stands.born leaves))
+          (λ legal. queues-ended workers limit w x (Answer x a) h.birth t.queues (leaving-answer x a (outside-unqueued q a told-end.outside fit)) legal h.at over-some st.queues r.born queues h.stands.born leaves) joins-over)
 
     pub end-not-outside : (q : Request) (e : End) (a : Reply) → IsAsked (plan_of routes) past x q → fits q a ≡ true → end_asked (Some q) ≡ Some e → row_outside (ended_by e a r) ≡ false
     end-not-outside q e a asks fit ends =
@@ -463,17 +547,67 @@ module _ {routes : RouteSet} {workers limit : ℕ} {past : Past} (t : Tables) (w
         let legal = legal-add (plan_of routes) workers limit (record { worker = w; kind = Starve x }) past st.legal lw (inr placed) in
         may-leave workers limit w x (Starve x) h.birth t.queues (leaving-starve x) legal.entries h.at gone-some st.queues r.born h.stands.born
 
-    pub stands-give-up : (queues : List QueueView) → Leaves r.born t.queues queues
-        → Stands routes workers limit ((record { worker = w; kind = Starve x }) ∷ past) (record t { rows = put_at t.rows (x - 1) (closed stage.Starved r); taken = t.taken - 1; live = t.live - 1; queues = queues })
-    stands-give-up queues leaves =
+    -- what it asked
+    held-request : (q : Request) × HeldAsks q
+    held-request =
         let h = here (place_is.InHand w) placed in
-        let n = taken-above in
-        let m = held-live in
-        rw (append-nil t.notes, add-zero t.turns) at
-        (stands-one routes workers limit past t w x (x - 1) (Starve x) r (closed stage.Starved r) t.ready (t.taken - 1) (t.live - 1) queues st lw (inr placed) (of-starve w x) (above (place_is.InHand w) placed) row
-        (λ d d_at g.
-        row-ended routes (record { worker = w; kind = Starve x }) past d r (closed stage.Starved r) g refl refl
-        (subst (λ (n : ℕ). HasEnded routes ((record { worker = w; kind = Starve n }) ∷ past) d closing.Starved) (number-of (place_is.InHand w) placed d d_at) (has-starved routes past w d)))
-        (st.ready ∙ sym (numbers-stay row_ready 1 t.rows (x - 1) r (closed stage.Starved r) row (ap state_ready in-hand.1)))
-        (rw was-held (omega (arith, n))) (rw was-live (omega (arith, m)))
-        (λ legal. queues-ended workers limit w x (Starve x) h.birth t.queues (leaving-starve x) legal h.at gone-some st.queues r.born queues h.stands.born leaves))
+        let s : StateStands routes past h.birth (state.Held in-hand.0 w) = rw in-hand.1 at h.stands.stands in
+        let is = asked-by-fate routes past x h.birth s.0 s.1.at h.at (fate-asks routes past h.birth in-hand.0 s.0 (Some w) s.1) in
+        (s.0, record { asking = s.1; asked_is = is; outside = s.2; simple = outside-simple s.0 s.2 })
+
+    gone-shut : IsShut x st.joins.calls st.joins.calls
+    gone-shut = held-shut held-request.0 held-request.1
+
+    gone-so : ended (plan_of routes) ((record { worker = w; kind = Starve x }) ∷ past) x ≡ Some (record { end = out_of_memory; message = (here (place_is.InHand w) placed).birth.message })
+    gone-so = let h = here (place_is.InHand w) placed in starved-end routes past w x h.birth h.number h.at
+
+    told-gone : (p i : ℕ) → r.born ≡ made.Part p i → starved_end r.birth r.fault ≡ Some (record { end = out_of_memory; message = (here (place_is.InHand w) placed).birth.message })
+    told-gone p i is =
+        let h = here (place_is.InHand w) placed in
+        starved-told r h.birth p i is (subst (λ (v : Bool). Keeps r.born v h.birth r.birth r.fault) was-live h.stands.kept)
+
+    pub give-up-tells : MayTell r.born x (starved_end r.birth r.fault) t.joins
+    give-up-tells =
+        let h = here (place_is.InHand w) placed in
+        let legal = legal-add (plan_of routes) workers limit (record { worker = w; kind = Starve x }) past st.legal lw (inr placed) in
+        may-tell workers limit w x (Starve x) h.birth (record { end = out_of_memory; message = h.birth.message }) legal.entries st.simple (eq-eqb x x refl) (λ y ne. not-same y x ne) (λ n. refl)
+        h.at held-alive gone-so st.joins st.joins.calls gone-shut t.joins st.joins.stands r.born (starved_end r.birth r.fault) h.stands.born told-gone
+
+    module _ (queues : List QueueView) (joins : List (ℕ × Open)) (behind : Option ℕ) (leaves : Leaves r.born t.queues queues) (tells : Tells r.born x (starved_end r.birth r.fault) t.joins joins) (wakes : Wakes r.born joins behind) where
+      joins-gone : KeepsRules (plan_of routes) workers limit ((record { worker = w; kind = Starve x }) ∷ past) → JoinsStand routes ((record { worker = w; kind = Starve x }) ∷ past) joins
+      joins-gone legal =
+          let h = here (place_is.InHand w) placed in
+          joins-ended workers limit w x (Starve x) h.birth (record { end = out_of_memory; message = h.birth.message }) legal st.simple (eq-eqb x x refl) (λ y ne. not-same y x ne) (λ n. refl)
+          h.at held-alive gone-so st.joins st.joins.calls gone-shut t.joins st.joins.stands r.born (starved_end r.birth r.fault) joins h.stands.born told-gone tells
+
+      gone-moves : KeepsRules (plan_of routes) workers limit ((record { worker = w; kind = Starve x }) ∷ past) → AlsoMoves routes past (record { worker = w; kind = Starve x }) x behind
+      gone-moves legal =
+          let h = here (place_is.InHand w) placed in
+          also-moves workers limit w x (Starve x) h.birth (record { end = out_of_memory; message = h.birth.message }) legal st.simple (eq-eqb x x refl) (λ y ne. not-same y x ne) (λ n. refl)
+          h.at held-alive gone-so st.joins st.joins.calls gone-shut t.joins st.joins.stands r.born joins behind h.stands.born (joins-gone legal) wakes
+
+      pub give-up-wakes : (y : ℕ) → behind ≡ Some y → (0 < y) × (y ≤ length t.rows)
+      give-up-wakes y is =
+          let legal = legal-add (plan_of routes) workers limit (record { worker = w; kind = Starve x }) past st.legal lw (inr placed) in
+          woken-within t st (record { worker = w; kind = Starve x }) x behind y is (gone-moves legal.entries)
+
+      pub stands-give-up : Stands routes workers limit ((record { worker = w; kind = Starve x }) ∷ past) (record t {
+        rows = rows_behind behind (put_at t.rows (x - 1) (closed stage.Starved r));
+        ready = ready_behind behind t.ready;
+        taken = t.taken - 1;
+        live = t.live - 1;
+        queues = queues;
+        joins = joins;
+      })
+      stands-give-up =
+          let h = here (place_is.InHand w) placed in
+          let n = taken-above in
+          let m = held-live in
+          rw (append-nil t.notes, add-zero t.turns) at
+          (stands-end routes workers limit past t w x (x - 1) (Starve x) r (closed stage.Starved r) t.ready (t.taken - 1) (t.live - 1) queues joins behind st lw (inr placed) (of-starve w x) refl (above (place_is.InHand w) placed) row gone-moves
+          (λ d d_at g.
+          row-ended routes (record { worker = w; kind = Starve x }) past d r (closed stage.Starved r) g refl refl
+          (subst (λ (n : ℕ). HasEnded routes ((record { worker = w; kind = Starve n }) ∷ past) d closing.Starved) (number-of (place_is.InHand w) placed d d_at) (has-starved routes past w d)))
+          (st.ready ∙ sym (numbers-stay row_ready 1 t.rows (x - 1) r (closed stage.Starved r) row (ap state_ready in-hand.1)))
+          (rw was-held (omega (arith, n))) (rw was-live (omega (arith, m)))
+          (λ legal. queues-ended workers limit w x (Starve x) h.birth t.queues (leaving-starve x) legal h.at gone-some st.queues r.born queues h.stands.born leaves) joins-gone)

@@ -18,7 +18,7 @@ use Rattle.eip_table_laws.proofs.LookCalls.{known-state}
 use Rattle.eip_table_laws.proofs.OwnCalls.{asked-there}
 use Rattle.eip_tables.specs.declared.asking.Asked.TheVariants as kind
 use Rattle.eip_tables.specs.Offers.{AsksOffer, AsksCall}
-use Rattle.eip_tables.specs.Asking.{asked_kind, is_outside_kind, AsksLine, AsksEnd}
+use Rattle.eip_tables.specs.Asking.{asked_kind, is_outside_kind, AsksLine, AsksEnd, AsksParts, AsksEnds}
 
 pub kind-outside : (q : Request) → is_outside_kind (asked_kind q) ≡ is_outside q
 kind-outside (request.Finish e m true) = refl
@@ -65,6 +65,24 @@ kind-route known x (request.Send t m) at h = absurd (cc h)
 kind-route known x (request.Process n m) at h = absurd (cc h)
 kind-route known x (request.Test n m) at h = absurd (cc h)
 kind-route known x _ at h = absurd (cc h)
+
+pub kind-parts : (known : List (Option Request)) (x : ℕ) (q : Request) → slice_get known (x - 1) ≡ Some (Some q) → asked_kind q ≡ kind.Parts → AsksParts known x
+kind-parts known x (request.Spawn seeds) at h = record { seeds = seeds; asks = at }
+kind-parts known x (request.Finish e m true) at h = absurd (cc h)
+kind-parts known x (request.Finish e m false) at h = absurd (cc h)
+kind-parts known x (request.Send t m) at h = absurd (cc h)
+kind-parts known x (request.Process n m) at h = absurd (cc h)
+kind-parts known x (request.Test n m) at h = absurd (cc h)
+kind-parts known x _ at h = absurd (cc h)
+
+pub kind-ends : (known : List (Option Request)) (x : ℕ) (q : Request) → slice_get known (x - 1) ≡ Some (Some q) → asked_kind q ≡ kind.Ends → AsksEnds known x
+kind-ends known x (request.Join first count) at h = record { first = first; count = count; asks = at }
+kind-ends known x (request.Finish e m true) at h = absurd (cc h)
+kind-ends known x (request.Finish e m false) at h = absurd (cc h)
+kind-ends known x (request.Send t m) at h = absurd (cc h)
+kind-ends known x (request.Process n m) at h = absurd (cc h)
+kind-ends known x (request.Test n m) at h = absurd (cc h)
+kind-ends known x _ at h = absurd (cc h)
 
 pub outside-of : (o : Option HasAsked) (k : HasAsked) (q : Request) → o ≡ Some k → k.request ≡ q → outside_asked o ≡ is_outside q
 outside-of o k q h e = rw h (ap is_outside e)

@@ -1,5 +1,5 @@
 -- The queues behind an entry by which an exchange ends.
-use Rattle.std.proofs.Common.{◌≡◌, ◌≢◌, ℕ, Bool, true, false, List, ◌∷◌, Option, Some, is_some, refl, sym, ap, subst, ◌∙◌}
+use Rattle.std.proofs.Common.{◌≡◌, ℕ, true, false, List, ◌∷◌, Some, is_some, sym, ap, subst, ◌∙◌}
 use Rattle.eip_exchange.specs.declared.birth.Birth.{Birth}
 use Rattle.eip_exchange.specs.declared.birth.Origin.{Origin}
 use Rattle.eip_exchange.specs.declared.birth.Origin.TheVariants as from
@@ -38,10 +38,14 @@ module _ {set : RouteSet} {past : Past} (workers limit w x : ℕ) (k : Kind) (b 
   -- its consumer has been counted
   pub may-leave : (o : Born) → ComesFrom (plan_of set) past o b → MayLeave o queues
   may-leave (made.Item i) h = tt
+  may-leave (made.Part y j) h = tt
   may-leave (made.Copy q) h = queues-busy set workers limit w x q k past b queues of legal at h gone st
 
   pub queues-ended : (o : Born) (new : List QueueView) → ComesFrom (plan_of set) past o b → Leaves o queues new → QueuesStand set ((record { worker = w; kind = k }) ∷ past) new
   queues-ended (made.Item i) new h l =
       subst (λ (qs : List QueueView). QueuesStand set ((record { worker = w; kind = k }) ∷ past) qs) (sym l)
       (queues-apart set workers limit w x k past b queues of legal at (λ q. not-into q b.origin h.source h.item (born-origin (plan_of set) past i b h)) st)
+  queues-ended (made.Part y j) new h l =
+      subst (λ (qs : List QueueView). QueuesStand set ((record { worker = w; kind = k }) ∷ past) qs) (sym l)
+      (queues-apart set workers limit w x k past b queues of legal at (λ q. ap (is_born_into q) h) st)
   queues-ended (made.Copy q) new h l = queues-left set workers limit w x q k past b queues new of legal at h gone l st

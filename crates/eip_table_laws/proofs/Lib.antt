@@ -1,8 +1,12 @@
 pub mod RowNumbers
 pub mod RowPlaces
 pub mod RowSteps
+pub mod PartFacts
+pub mod JoinsKept
 pub mod SourceEvents
 pub mod OwnEvents
+pub mod Telling
+pub mod Ending
 pub mod SourceCalls
 pub mod OwnCalls
 pub mod QueueCalls
@@ -12,6 +16,8 @@ pub mod Leaving
 pub mod CopyCalls
 pub mod LookCalls
 pub mod OfferCalls
+pub mod AskedPlaces
+pub mod PartCalls
 pub mod InnerCalls
 pub mod StopCalls
 pub mod Bounds

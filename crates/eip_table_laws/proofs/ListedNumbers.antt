@@ -1,14 +1,14 @@
 -- The numbers of the rows that pass a test: who is among them, the least of them, and those that pass another test.
-use Rattle.std.proofs.Common.{◌≡◌, ℕ, zero, suc, ◌+◌, ◌-◌, ◌<◌, ◌≤◌, Bool, true, false, ◌==◌, ◌&&◌, cond, List, [], ◌∷◌, ◌++◌, length, set, filter, Option, Some, None, refl, sym, ap, ◌∙◌, arith, eq-eqb, get_or}
+use Rattle.std.proofs.Common.{◌≡◌, ℕ, zero, suc, ◌+◌, ◌-◌, ◌<◌, ◌≤◌, Bool, true, false, ◌==◌, ◌&&◌, cond, List, [], ◌∷◌, length, set, filter, Option, Some, None, refl, sym, ap, ◌∙◌, arith, eq-eqb, get_or}
 use Rattle.std.specs.List.{slice_get, All}
 use Rattle.std.specs.Prelude.{IfSome, IfNone}
 use Rattle.std.proofs.lemmas.Bool.{ne_eqb, eqb-true}
-use Rattle.std.proofs.lemmas.List.{set-set, append-nil}
+use Rattle.std.proofs.lemmas.List.{set-set}
 use Rattle.eip_history.specs.Rules.{first}
 use Rattle.eip_history.specs.Tables.{without, put_in}
 use Rattle.eip_tables.specs.Numbers.{row_numbers, IsNumberOf}
 use Rattle.eip_tables.specs.Outside.{is_among, with_number, outside_looked}
-use Rattle.eip_table_laws.proofs.RowNumbers.{numbers-stay, numbers-leave, numbers-join, numbers-push}
+use Rattle.eip_table_laws.proofs.RowNumbers.{numbers-stay, numbers-leave, numbers-join}
 use Rattle.eip_table_laws.proofs.SourceEvents.{get-set-same}
 
 -- nobody below the first number is among them

@@ -12,7 +12,7 @@ use Rattle.eip_ledger.specs.declared.entry.Entry.{Entry}
 use Rattle.eip_ledger.specs.declared.entry.Kind.{Kind}
 use Rattle.eip_ledger.specs.declared.entry.Kind.TheVariants.{Answer}
 use Rattle.eip_ledger.specs.declared.place.Place.TheVariants as place_is
-use Rattle.eip_history.specs.Own.{Past, own}
+use Rattle.eip_history.specs.Own.{Past}
 use Rattle.eip_history.specs.Births.{births, item_birth}
 use Rattle.eip_history.specs.Place.{place}
 use Rattle.eip_history.proofs.Lists.{numbered-at}
@@ -55,11 +55,11 @@ same-answer o w n v m a b h k =
     cc
 
 -- a row that waits for its cursor to take an answer
-answered-fields : (i : ℕ) (oc : Option Cursor) (oq : Option Request) (f : Option Fault) (set : RouteSet) (past : Past) (b : Birth) → StateStands set past b (state_by (stage.Answered i) oc oq f) → (c : Cursor) × ((oc ≡ Some c) × HasAnswer set past b c i)
+answered-fields : (i : ℕ) (oc : Option Cursor) (oq : Option Request) (f : Option Fault) (set : RouteSet) (past : Past) (b : Birth) → StateStands set past b (state_by (stage.Answered i) oc oq f) → (c : Cursor) × ((oc ≡ Some c) × HasAnswer set past b c i place_is.Ready)
 answered-fields i (Some c) oq f set past b h = (c, (refl, h))
 answered-fields i None oq f set past b h = absurd h
 
-answered-row : (set : RouteSet) (past : Past) (b : Birth) (r : Row) (i : ℕ) → r.stage ≡ stage.Answered i → RowStands set past b r → (c : Cursor) × ((r.cursor ≡ Some c) × HasAnswer set past b c i)
+answered-row : (set : RouteSet) (past : Past) (b : Birth) (r : Row) (i : ℕ) → r.stage ≡ stage.Answered i → RowStands set past b r → (c : Cursor) × ((r.cursor ≡ Some c) × HasAnswer set past b c i place_is.Ready)
 answered-row set past b r i g h = answered-fields i r.cursor r.request r.fault set past b (rw g at h.stands)
 
 -- a row that is new has a birth of which nothing was asked
@@ -67,12 +67,14 @@ new-row : (set : RouteSet) (past : Past) (b : Birth) (r : Row) → r.stage ≡ s
 new-row set past b r g h = rw g at h.stands
 
 -- the birth of a live exchange is the one that its row tells
-told-by : (set : RouteSet) (past : Past) (x : ℕ) (b : Birth) (o : Born) (live : Bool) (kept : Option Birth) → b.number ≡ x → ComesFrom (plan_of set) past o b → Keeps o live b kept → live ≡ true
+told-by : (set : RouteSet) (past : Past) (x : ℕ) (b : Birth) (o : Born) (live : Bool) (kept : Option Birth) (f : Option Fault) → b.number ≡ x → ComesFrom (plan_of set) past o b → Keeps o live b kept f → live ≡ true
     → birth_by set (reverse past) x o kept ≡ Some b
-told-by set past x b (made.Item i) live kept n h k l =
+told-by set past x b (made.Item i) live kept f n h k l =
     ap (birth_in set x) (entry-there past i _ h.entry) ∙ ap Some (sym (h.birth ∙ ap (λ (m : ℕ). item_birth (plan_of set) m h.source h.item h.message) n))
-told-by set past x b (made.Copy q) true kept n h k l = k
-told-by set past x b (made.Copy q) false kept n h k l = absurd (cc l)
+told-by set past x b (made.Copy q) true kept f n h k l = k
+told-by set past x b (made.Copy q) false kept f n h k l = absurd (cc l)
+told-by set past x b (made.Part y j) true kept f n h k l = k.0
+told-by set past x b (made.Part y j) false kept f n h k l = absurd (cc l)
 
 -- a ready row is new, asks, or has an answer to come
 module _ {routes : RouteSet} {workers limit : ℕ} {past : Past} (t : Tables) (x : ℕ) (r : Row) (st : Stands routes workers limit past t)
@@ -85,7 +87,7 @@ module _ {routes : RouteSet} {workers limit : ℕ} {past : Past} (t : Tables) (x
 
   -- the birth of an exchange that nobody has looked at is the one that its row tells
   born-told : r.stage ≡ stage.New → birth_of routes (reverse past) x r ≡ Some here.birth
-  born-told g = told-by routes past x here.birth r.born (row_live r) r.birth here.number here.stands.born here.stands.kept (rw g refl)
+  born-told g = told-by routes past x here.birth r.born (row_live r) r.birth r.fault here.number here.stands.born here.stands.kept (rw g refl)
 
   pub born-birth : r.stage ≡ stage.New → (b : Birth) × (birth_of routes (reverse past) x r ≡ Some b)
   born-birth g = (here.birth, born-told g)
@@ -119,8 +121,8 @@ module _ {routes : RouteSet} {workers limit : ℕ} {past : Past} (t : Tables) (x
   new-looked c q g f =
       stands-look routes workers limit past t (x - 1) r (begun c q r) st row
       (λ b b_at h.
-      row-looked routes past b r (begun c q r) h refl refl (rw g refl)
-      (let made : birth_of routes (reverse past) x r ≡ Some b = told-by routes past x b r.born (row_live r) r.birth (number-of b b_at) h.born h.kept (rw g refl) in
+      row-looked routes past b r (begun c q r) h refl refl refl (rw g refl)
+      (let made : birth_of routes (reverse past) x r ≡ Some b = told-by routes past x b r.born (row_live r) r.birth r.fault (number-of b b_at) h.born h.kept (rw g refl) in
       let two = f.made in
       let same : f.birth ≡ b = cc in
       looked-new routes past b c q (new-row routes past b r g h) (subst (λ (d : Birth). Stepped routes (mean routes d) [] c q) same f.stepped)))
@@ -132,13 +134,13 @@ module _ {routes : RouteSet} {workers limit : ℕ} {past : Past} (t : Tables) (x
   answer-looked i w n a r' g at l =
       rw l.row (stands-look routes workers limit past t (x - 1) r (begun l.now l.request r) st row
       (λ b b_at h.
-      row-looked routes past b r (begun l.now l.request r) h refl refl (live l.had)
+      row-looked routes past b r (begun l.now l.request r) h refl refl refl (live l.had)
       (let k = answered-row routes past b r i g h in
       let there = entry-there past i _ k.1.1.entry in
       let had = l.had in
       let same = same-answer (slice_get (reverse past) i) k.1.1.worker b.number w n k.1.1.answer a there at in
       let cursor : l.was ≡ k.0 = let has = k.1.0 in cc in
-      let f = subst (λ (z : Reply). Follows routes past b k.0 (z ∷ []) None) same k.1.1.follows in
+      let f = subst (λ (z : Reply). Follows routes past b k.0 (z ∷ []) None place_is.Ready) same k.1.1.follows in
       looked-answer routes past b k.0 l.now l.request a f (subst (λ (z : Cursor). Stepped routes (rest routes z) (a ∷ []) l.now l.request) cursor l.stepped)))
       (ready-row routes past x r here) (facts l.had) (live l.had))
     where
@@ -159,6 +161,7 @@ known-asks (state.Asks c q') q h = (c, let e : q' ≡ q = cc in ap (state.Asks c
 known-asks state.Queued q h = absurd (cc h)
 known-asks state.New q h = absurd (cc h)
 known-asks (state.Held c w) q h = absurd (cc h)
+known-asks (state.Joining c i) q h = absurd (cc h)
 known-asks (state.Answered c i) q h = absurd (cc h)
 known-asks (state.Ended c) q h = absurd (cc h)
 known-asks state.Broken q h = absurd (cc h)
@@ -191,6 +194,8 @@ asking-fields stage.Asks (Some c) None f n a h = absurd (cc h)
 asking-fields stage.Asks None oq f n a h = absurd (cc h)
 asking-fields (stage.Held w) (Some c) oq f n a h = absurd (cc h)
 asking-fields (stage.Held w) None oq f n a h = absurd (cc h)
+asking-fields (stage.Joining i) (Some c) oq f n a h = absurd (cc h)
+asking-fields (stage.Joining i) None oq f n a h = absurd (cc h)
 asking-fields stage.Completed oc oq f n a h = absurd (cc h)
 asking-fields stage.Handled oc oq f n a h = absurd (cc h)
 asking-fields stage.Failed oc oq (Some f) n a h = absurd (cc h)

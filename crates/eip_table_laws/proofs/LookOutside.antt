@@ -32,6 +32,7 @@ asks-is : (g : Stage) (oc : Option Cursor) (oq : Option Request) (f : Option Fau
 asks-is stage.Asks (Some d) (Some p) f c q h = let same : p ≡ q = cc in ap is_outside same
 asks-is (stage.Held v) (Some d) oq f c q h = absurd (cc h)
 asks-is stage.Failed oc oq (Some f) c q h = absurd (cc h)
+asks-is (stage.Joining i) (Some d) oq f c q h = absurd (cc h)
 asks-is (stage.Answered i) (Some d) oq f c q h = absurd (cc h)
 asks-is _ _ _ f c q h = absurd (cc h)
 

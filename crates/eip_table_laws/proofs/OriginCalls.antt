@@ -44,6 +44,8 @@ ending-by b p stage.Asks (Some c) None f h = absurd h
 ending-by b p stage.Asks None oq f h = absurd h
 ending-by b p (stage.Held w) (Some c) oq f h = rw h refl
 ending-by b p (stage.Held w) None oq f h = absurd h
+ending-by b p (stage.Joining i) (Some c) oq f h = rw h refl
+ending-by b p (stage.Joining i) None oq f h = absurd h
 ending-by b p (stage.Answered i) (Some c) oq f h = rw h refl
 ending-by b p (stage.Answered i) None oq f h = absurd h
 ending-by b p stage.Completed oc oq f h = rw h refl
@@ -65,6 +67,7 @@ told-origin set past b (made.Item i) h =
     let at : slice_get (reverse past) i ≡ _ = h.entry in
     ap origin_in at ∙ ap (λ o. Some o) (sym (born-origin (plan_of set) past i b h))
 told-origin set past b (made.Copy q) h = ap (λ o. Some o) (sym h)
+told-origin set past b (made.Part y j) h = ap (λ o. Some o) (sym h)
 
 module _ {set : RouteSet} {workers limit : ℕ} {past : Past} (t : Tables) (st : Stands set workers limit past t) (x : ℕ) where
   pub origin-beyond : length t.rows < x → None ≡ origin_at (plan_of set) past x

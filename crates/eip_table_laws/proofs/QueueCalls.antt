@@ -1,5 +1,5 @@
 -- What the entries of a journal make of the table of queues.
-use Rattle.std.proofs.Common.{◌≡◌, ◌≢◌, ℕ, zero, suc, ◌+◌, ◌-◌, ◌<◌, ◌≤◌, Bool, true, false, ◌&&◌, ◌==◌, cond, List, [], ◌∷◌, ◌++◌, length, drop, map, filter, Some, None, is_some, option_map, inl, inr, refl, sym, ap, subst, ◌∙◌, arith, eq-eqb, length-append}
+use Rattle.std.proofs.Common.{◌≡◌, ◌≢◌, ℕ, zero, suc, ◌+◌, ◌-◌, ◌<◌, ◌≤◌, Bool, true, false, ◌&&◌, ◌==◌, cond, List, [], ◌∷◌, ◌++◌, length, drop, map, filter, Some, None, is_some, option_map, refl, sym, ap, subst, ◌∙◌, arith, eq-eqb, length-append}
 use Rattle.std.specs.List.{slice_get}
 use Rattle.std.proofs.lemmas.Bool.{and_right, eqb-true}
 use Rattle.std.proofs.lemmas.List.{append-nil, drop-append-le, length-map}
@@ -7,7 +7,6 @@ use Rattle.std.proofs.lemmas.Option.{slice_get-map, get_or_from_slice_get}
 use Rattle.eip_exchange.specs.declared.birth.Birth.{Birth}
 use Rattle.eip_exchange.specs.declared.birth.Origin.{Origin}
 use Rattle.eip_exchange.specs.declared.birth.Origin.TheVariants as from
-use Rattle.eip_exchange.specs.Ends.{out_of_memory}
 use Rattle.eip_exchange.specs.declared.message.Message.{Message}
 use Rattle.eip_route.specs.declared.route.Route.{Route}
 use Rattle.eip_route.specs.declared.route.RouteSet.{RouteSet}
@@ -15,24 +14,21 @@ use Rattle.eip_frames.specs.declared.answer.Answer.{Answer as Reply}
 use Rattle.eip_frames.specs.declared.answer.Answer.TheVariants as reply
 use Rattle.eip_frames.specs.declared.request.Request.{Request}
 use Rattle.eip_frames.specs.declared.request.Request.TheVariants as request
-use Rattle.eip_frames.specs.Fate.{Fate, AsksNext, Ends, Strays}
 use Rattle.eip_ledger.specs.declared.entry.Entry.{Entry}
 use Rattle.eip_ledger.specs.declared.entry.Kind.{Kind}
 use Rattle.eip_ledger.specs.declared.entry.Kind.TheVariants.{Answer, Starve}
 use Rattle.eip_seda.specs.Consuming as seda
 use Rattle.eip_seda.specs.Consuming.{Call, Offered, Ended, QueueView, queue_after, busy_in, busy_at, size_of, consumers_of}
 use Rattle.eip_history.specs.Plan.{Plan}
-use Rattle.eip_history.specs.Own.{Past, own, concerns, is_start, answers, starved, numbered}
-use Rattle.eip_history.specs.Births.{Asked, asked, asked_by, births, fate, fate_by}
-use Rattle.eip_history.specs.Place.{ended, end_of, place_of, is_born_into, is_busy, is_in, waiting, busy, number_of}
+use Rattle.eip_history.specs.Own.{Past, concerns, is_start, numbered}
+use Rattle.eip_history.specs.Births.{Asked, asked, births}
+use Rattle.eip_history.specs.Place.{ended, place_of, is_born_into, is_busy, is_in, waiting, busy, number_of}
 use Rattle.eip_history.specs.Rules.{KeepsRules, Content, next}
 use Rattle.eip_history.specs.Laws.{IsQueue}
 use Rattle.eip_history.specs.Tables.{bit}
 use Rattle.eip_history.specs.TableWords.{moves_waiting, moves_busy}
-use Rattle.eip_history.proofs.Told.{births-none, own-here}
-use Rattle.eip_history.proofs.Unborn.{legal-may, asked-born, birth-stays}
-use Rattle.eip_history.proofs.Parts.{numbered-number}
-use Rattle.eip_history.proofs.Places.{ended-is}
+use Rattle.eip_history.proofs.Told.{births-none}
+use Rattle.eip_history.proofs.Unborn.{legal-may, asked-born}
 use Rattle.eip_history.proofs.Lists.{slice_get-some}
 use Rattle.eip_history.proofs.Limit.{not-same}
 use Rattle.eip_history.proofs.Over.{Queued, each-at, queues-known}
@@ -40,12 +36,11 @@ use Rattle.eip_history.proofs.AnswerFacts.{answers-to}
 use Rattle.eip_history.proofs.Numbers.{numbers-at-is}
 use Rattle.eip_history.proofs.QueueTable.{waiting-stay, waiting-offer}
 use Rattle.eip_history.proofs.BusyTable.{busy-stay, busy-own}
-use Rattle.eip_meaning.specs.Meaning.{mean}
-use Rattle.eip_meaning.proofs.Laws.{ends}
 use Rattle.eip_plan.specs.Plan.{plan_of, queue_rule}
 use Rattle.eip_plan.proofs.Items.{is_queued}
 use Rattle.eip_plan.proofs.Laws.{plan-laws}
 use Rattle.eip_tables.specs.Queues.{QueuesStand, limits, limit_of}
+use Rattle.eip_table_laws.proofs.PartFacts.{answer-lives}
 
 -- ---- the limits are those of the plan
 
@@ -214,36 +209,6 @@ offer-content set workers limit w x n past a q discard m legal asks same =
     let facts = answers-to (plan_of set) limit past w x (reply.Queued n) a may asks in
     subst (λ (r : Request). Content (plan_of set) past a r (reply.Queued n)) same facts.content
 
--- nobody ends by an answer that a copy is queued
-queued-lives : (set : RouteSet) (w x n : ℕ) (past : Past) (a : Asked) → asked (plan_of set) past x ≡ Some a
-    → ended (plan_of set) ((record { worker = w; kind = Answer x (reply.Queued n) }) ∷ past) x ≡ None
-unfolding fate plan_of
-queued-lives set w x n past a asks =
-    let b = asked-born s past x a asks in
-    let number = numbered-number s past x b.0 b.1 in
-    let mine = own-here b.0.number e past (eq-eqb x b.0.number (sym number)) in
-    ended-is s (e ∷ past) x b.0 (birth-stays s e past x b.0 b.1)
-    ∙ (ap (λ (o : Past). end_of (fate_by s b.0 o)) mine ∙ by_starved b.0 (own b.0.number past) (starved (own b.0.number past)) b.2)
-  where
-    s : Plan
-    s = plan_of set
-
-    e : Entry
-    e = record { worker = w; kind = Answer x (reply.Queued n) }
-
-    lives : (b : Birth) (given : List Reply) (f : Fate) → mean set b (given ++ reply.Queued n ∷ []) ≡ f → end_of f ≡ None
-    lives b given (AsksNext q p) h = refl
-    lives b given (Ends f m) h = absurd (elim (ends set b given (reply.Queued n) f m h).answered [
-      | inl l ↦ let g = l.0 in cc g
-      | inr r ↦ let g = r.0 in cc g
-    ])
-    lives b given Strays h = refl
-
-    by_starved : (b : Birth) (o : Past) (v : Bool) → asked_by b (cond v (Ends out_of_memory b.message) (mean set b (answers o))) ≡ Some a
-        → end_of (cond v (Ends out_of_memory b.message) (mean set b (answers o ++ reply.Queued n ∷ []))) ≡ None
-    by_starved b o true h = absurd (cc h)
-    by_starved b o false h = lives b (answers o) _ refl
-
 pub queues-offered : (set : RouteSet) (workers limit w x n : ℕ) (past : Past) (a : Asked) (q : ℕ) (discard : Bool) (m : Message) (queues new : List QueueView)
     → KeepsRules (plan_of set) workers limit ((record { worker = w; kind = Answer x (reply.Queued n) }) ∷ past)
     → asked (plan_of set) past x ≡ Some a → a.request ≡ request.Offer q discard m
@@ -259,7 +224,7 @@ queues-offered set workers limit w x n past a q discard m queues new legal asks 
   works = λ p.
       let b = asked-born s past x a asks in
       let g = busy-own s (plan-laws set) workers limit e past p x b.0 legal b.1 (eq-eqb x x refl) refl (λ y ne. not-same y x ne) in
-      let none : (is_born_into p b.0.origin && is_some (ended s (e ∷ past) x)) ≡ false = and_right (is_born_into p b.0.origin) _ (ap is_some (queued-lives set w x n past a asks)) in
+      let none : (is_born_into p b.0.origin && is_some (ended s (e ∷ past) x)) ≡ false = and_right (is_born_into p b.0.origin) _ (ap is_some (answer-lives set w x (reply.Queued n) past a asks (λ h. cc h) (λ h. cc h))) in
       let nobody = ap bit none in
       st.works p ∙ omega (arith, g, nobody);
   room = λ p. rw (behind p) (roomy p (q == p) refl);

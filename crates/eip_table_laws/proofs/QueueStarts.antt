@@ -19,6 +19,7 @@ use Rattle.eip_history.proofs.Unborn.{first-placed}
 use Rattle.eip_history.proofs.Acting.{waiting-born}
 use Rattle.eip_history.proofs.QueueTable.{waiting-start}
 use Rattle.eip_history.proofs.BusyTable.{busy-start}
+use Rattle.eip_history.proofs.NumbersBelow.{none-below, first-below}
 use Rattle.eip_plan.specs.Plan.{plan_of}
 use Rattle.eip_plan.proofs.Laws.{plan-laws}
 use Rattle.eip_tables.specs.Queues.{QueuesStand, limits}
@@ -131,28 +132,6 @@ pub queue-of-waiting : (set : RouteSet) (past : Past) (q x : ℕ) → first (wai
 queue-of-waiting set past q x h =
     let b = first-placed (plan_of set) past (is_in q) x h in
     birth-queue set past x b.0 q b.1 (waiting-born (plan_of set) past b.0 q b.2)
-
-none-below : (p : ℕ → Bool) (n : ℕ) → ((u : ℕ) → u < n → p u ≡ false) → numbers_below p n ≡ []
-none-below p zero h = refl
-none-below p (suc n) h = rw (h n (omega arith), none-below p n (λ u l. h u (omega (arith, l)))) refl
-
-first-front : (xs ys : List ℕ) (t : ℕ) → first xs ≡ Some t → first (xs ++ ys) ≡ Some t
-first-front [] ys t h = absurd (cc h)
-first-front (x ∷ xs) ys t h = h
-
--- the first number that passes a test
-first-below : (p : ℕ → Bool) (n t : ℕ) → t < n → p t ≡ true → ((u : ℕ) → u < t → p u ≡ false) → first (numbers_below p n) ≡ Some t
-first-below p zero t l h none = absurd (omega (arith, l))
-first-below p (suc n) t l h none = by_last (cases_Bool (n == t)) (λ m. first-below p n t m h none)
-  where
-    by_last : ((n == t) ≡ true) ⊎ ((n == t) ≡ false) → (t < n → first (numbers_below p n) ≡ Some t) → first (numbers_below p (suc n)) ≡ Some t
-    by_last (inl e) below =
-        let same : n ≡ t = eqb-true n t e in
-        let at : p n ≡ true = ap p same ∙ h in
-        rw (at, none-below p n (λ u m. none u (omega (arith, m, same)))) (ap Some same)
-    by_last (inr f) below =
-        let ne : n ≢ t = λ g. let k = eq-eqb n t g in cc in
-        first-front (numbers_below p n) (cond (p n) (n ∷ []) []) t (below (omega (arith, l, ne)))
 
 -- the first queue in which somebody waits and a consumer is free
 pub first-startable : (set : RouteSet) (past : Past) (q x : ℕ) → first (waiting (plan_of set) past q) ≡ Some x → busy (plan_of set) past q < ((plan_of set).queue q).consumers

@@ -17,36 +17,40 @@ use Rattle.eip_frames.specs.Fits.{fits}
 use Rattle.eip_tables.specs.Look.{Stepped, CanTake}
 use Rattle.eip_ledger.specs.declared.entry.Entry.{Entry}
 use Rattle.eip_ledger.specs.declared.entry.Kind.TheVariants.{Start, Take, Answer, Starve}
+use Rattle.eip_ledger.specs.declared.place.Place.{Place}
+use Rattle.eip_ledger.specs.declared.place.Place.TheVariants as place_is
 use Rattle.eip_meaning.specs.Meaning.{mean, is_committed}
 use Rattle.eip_meaning.proofs.Laws.{ends, finished-ends, commit_failed-ends}
 use Rattle.eip_progress.specs.declared.cursor.Cursor.{Cursor}
 use Rattle.eip_progress.specs.Rest.{rest}
-use Rattle.eip_history.specs.Own.{Past, own, answers, starved}
+use Rattle.eip_history.specs.Own.{Past, own, answers, starved, last_answer, clock}
 use Rattle.eip_history.specs.Births.{fate}
-use Rattle.eip_history.specs.Place.{pause_of, Runs, end_of}
+use Rattle.eip_history.specs.Place.{pause_of, paused, all_ended, Runs, end_of}
+use Rattle.eip_history.specs.Rules.{KeepsRules}
 use Rattle.eip_history.proofs.Told.{own-here}
 use Rattle.eip_plan.specs.Plan.{plan_of}
 use Rattle.eip_plan.specs.Simple.{IsSimpleAnswer}
+use Rattle.eip_plan.proofs.Items.{bears}
 use Rattle.eip_tables.specs.Closing.{Closing}
 use Rattle.eip_tables.specs.Closing as closing
 use Rattle.eip_tables.specs.Rows.{Follows, IsAsking, IsUnasked, HasAnswer, HasEnded, closed_end, has_left}
-use Rattle.eip_table_laws.proofs.RowPlaces.{entry-new, fate-fed, fate-asks, fate-follows}
+use Rattle.eip_table_laws.proofs.RowPlaces.{entry-new, fate-fed, fate-asks, fate-follows, pause-lasts}
 
 -- the meaning so far of an exchange that asks
 pub mean-asks : (set : RouteSet) (past : Past) (b : Birth) (c : Cursor) (q : Request) (t : Option ℕ) (a : IsAsking set past b c q t) → mean set b (answers (own b.number past)) ≡ AsksNext q a.at
 mean-asks set past b c q t a = sym (fate-fed set past b a.follows.fed) ∙ fate-asks set past b c q t a
 
 -- a Take puts an exchange in hand
-pub held-by : (set : RouteSet) (past : Past) (w : ℕ) (b : Birth) (c : Cursor) (q : Request) → IsAsking set past b c q None
+pub held-by : (set : RouteSet) (workers limit : ℕ) (past : Past) (w : ℕ) (b : Birth) (c : Cursor) (q : Request) → KeepsRules (plan_of set) workers limit ((record { worker = w; kind = Take b.number }) ∷ past) → IsAsking set past b c q None
     → IsAsking set ((record { worker = w; kind = Take b.number }) ∷ past) b c q (Some w)
-held-by set past w b c q a =
+held-by set workers limit past w b c q legal a =
     let o = own-here b.number (record { worker = w; kind = Take b.number }) past (eq-eqb b.number b.number refl) in
     record {
       follows = record {
         later = a.follows.later;
         fed = rw o a.follows.fed;
         taken = rw o refl;
-        runs = rw o a.follows.runs;
+        pause = rw o (pause-lasts set workers limit (record { worker = w; kind = Take b.number }) past b (last_answer (own b.number past)) legal a.follows.pause);
         left = rw o a.follows.left;
         rests = λ A. rw (o, append-nil (answers (own b.number past))) (a.follows.rests A);
       };
@@ -54,32 +58,27 @@ held-by set past w b c q a =
       asks = a.asks;
     }
 
-runs-simple : (a : Reply) → IsSimpleAnswer a → pause_of (Some a) ≡ Runs
-runs-simple reply.Done i = refl
-runs-simple reply.SendFailed i = refl
-runs-simple reply.Exists i = refl
-runs-simple (reply.Became m) i = refl
-runs-simple (reply.Raised f) i = refl
-runs-simple (reply.Holds b) i = refl
-runs-simple (reply.Queued n) i = refl
-runs-simple (reply.Full l) i = refl
-runs-simple reply.Dropped i = refl
-runs-simple reply.Entered i = refl
-runs-simple reply.Noted i = refl
-runs-simple reply.Finished i = refl
-runs-simple reply.CommitFailed i = refl
-runs-simple _ i = absurd i
+-- an answer by which nobody is born is waited for no longer
+pub runs-simple : (a : Reply) → IsSimpleAnswer a → bears a ≡ false → pause_of (Some a) ≡ Runs
+runs-simple (reply.Born first count) i n = absurd (cc n)
+runs-simple (reply.Slept d) i n = absurd i
+runs-simple _ i n = refl
+
+-- this answer leaves its exchange there
+abbrev pub IsLeftAt : RouteSet → Past → (worker : ℕ) → Birth → Reply → Place → Type 0
+IsLeftAt set past w b a p =
+    paused (clock ((record { worker = w; kind = Answer b.number a }) ∷ past)) (all_ended (plan_of set) ((record { worker = w; kind = Answer b.number a }) ∷ past)) (pause_of (Some a)) ≡ p
 
 -- its cursor with the answer of the new entry before it
-pub follows-answer : (set : RouteSet) (past : Past) (w : ℕ) (b : Birth) (c : Cursor) (a : Reply) (t : Option ℕ) → IsSimpleAnswer a → Follows set past b c [] t
-    → Follows set ((record { worker = w; kind = Answer b.number a }) ∷ past) b c (a ∷ []) None
-follows-answer set past w b c a t i f =
+pub follows-answer : (set : RouteSet) (past : Past) (w : ℕ) (b : Birth) (c : Cursor) (a : Reply) (t : Option ℕ) (p : Place) → IsLeftAt set past w b a p → Follows set past b c [] t place_is.Ready
+    → Follows set ((record { worker = w; kind = Answer b.number a }) ∷ past) b c (a ∷ []) None p
+follows-answer set past w b c a t p left f =
     let o = own-here b.number (record { worker = w; kind = Answer b.number a }) past (eq-eqb b.number b.number refl) in
     record {
       later = f.later;
       fed = rw o f.fed;
       taken = rw o refl;
-      runs = rw o (runs-simple a i);
+      pause = rw o left;
       left = rw o f.left;
       rests = λ A. rw (o, append_assoc (answers (own b.number past)) (a ∷ []) A) (f.rests (a ∷ A));
     }
@@ -109,13 +108,13 @@ lives-by set past b c q a t k i (Ends e m) h =
     absurd (no-finish q y.asked_end m (is_committed set b) i same)
 lives-by set past b c q a t k i Strays h = refl
 
-pub has-answer : (set : RouteSet) (past : Past) (w : ℕ) (b : Birth) (c : Cursor) (q : Request) (a : Reply) (t : Option ℕ) → IsSimpleAnswer a → IsNoFinish q → fits q a ≡ true → IsAsking set past b c q t
-    → HasAnswer set ((record { worker = w; kind = Answer b.number a }) ∷ past) b c (length past)
-has-answer set past w b c q a t i n fit k = record {
+pub has-answer : (set : RouteSet) (past : Past) (w : ℕ) (b : Birth) (c : Cursor) (q : Request) (a : Reply) (t : Option ℕ) (p : Place) → IsLeftAt set past w b a p → IsNoFinish q → fits q a ≡ true → IsAsking set past b c q t
+    → HasAnswer set ((record { worker = w; kind = Answer b.number a }) ∷ past) b c (length past) p
+has-answer set past w b c q a t p left n fit k = record {
   worker = w;
   answer = a;
   entry = entry-new (record { worker = w; kind = Answer b.number a }) past;
-  follows = follows-answer set past w b c a t i k.follows;
+  follows = follows-answer set past w b c a t p left k.follows;
   fitting = rw k.asks fit;
   lives = ap end_of (fate-answer set past w b a k.follows.fed) ∙ lives-by set past b c q a t k n (mean set b (answers (own b.number past) ++ a ∷ [])) refl;
 }
@@ -157,16 +156,16 @@ has-starved set past w b =
     record { taken = rw o refl; message = b.message; ends = rw o refl }
 
 -- looking at an exchange gives its cursor what it has not been given yet
-pub looked-answer : (set : RouteSet) (past : Past) (b : Birth) (c c' : Cursor) (q : Request) (a : Reply) → Follows set past b c (a ∷ []) None → Stepped set (rest set c) (a ∷ []) c' q → IsAsking set past b c' q None
+pub looked-answer : (set : RouteSet) (past : Past) (b : Birth) (c c' : Cursor) (q : Request) (a : Reply) → Follows set past b c (a ∷ []) None place_is.Ready → Stepped set (rest set c) (a ∷ []) c' q → IsAsking set past b c' q None
 looked-answer set past b c c' q a f step = record {
-  follows = record { later = step.later; fed = f.fed; taken = f.taken; runs = f.runs; left = f.left; rests = λ A. step.rests A ∙ f.rests A };
+  follows = record { later = step.later; fed = f.fed; taken = f.taken; pause = f.pause; left = f.left; rests = λ A. step.rests A ∙ f.rests A };
   at = step.at;
   asks = step.asks;
 }
 
 pub looked-new : (set : RouteSet) (past : Past) (b : Birth) (c : Cursor) (q : Request) → IsUnasked past b → Stepped set (mean set b) [] c q → IsAsking set past b c q None
 looked-new set past b c q h step = record {
-  follows = record { later = step.later; fed = h.fed; taken = h.taken; runs = h.runs; left = h.left; rests = λ A. step.rests A ∙ ap (λ (given : List Reply). mean set b (given ++ A)) (sym h.silent) };
+  follows = record { later = step.later; fed = h.fed; taken = h.taken; pause = rw h.runs refl; left = h.left; rests = λ A. step.rests A ∙ ap (λ (given : List Reply). mean set b (given ++ A)) (sym h.silent) };
   at = step.at;
   asks = step.asks;
 }
@@ -184,9 +183,9 @@ unasked-started past w q b none =
     left-started (from.Group g) = refl
 
 -- an answer that waits for its cursor may be given to it
-pub can-take : (set : RouteSet) (past : Past) (b : Birth) (c : Cursor) (i : ℕ) (h : HasAnswer set past b c i) → CanTake set h.answer c
+pub can-take : (set : RouteSet) (past : Past) (b : Birth) (c : Cursor) (i : ℕ) (h : HasAnswer set past b c i place_is.Ready) → CanTake set h.answer c
 can-take set past b c i h = record {
   later = h.follows.later;
   fitting = h.fitting;
-  lives = ap end_of (sym (fate-follows set past b c (h.answer ∷ []) None h.follows)) ∙ h.lives;
+  lives = ap end_of (sym (fate-follows set past b c (h.answer ∷ []) None place_is.Ready h.follows)) ∙ h.lives;
 }

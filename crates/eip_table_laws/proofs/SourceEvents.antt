@@ -13,18 +13,20 @@ use Rattle.eip_ledger.specs.declared.entry.Kind.{Kind}
 use Rattle.eip_ledger.specs.declared.entry.Kind.TheVariants.{Pull, Accept, Refuse, SourceEnd, SourceFault}
 use Rattle.eip_ledger.specs.declared.entry.Refused.{Refused}
 use Rattle.eip_history.specs.Plan.{Plan}
-use Rattle.eip_history.specs.Own.{Past, concerns, source_state, moved, is_out, turns_in, SourceState, Idle, Out}
+use Rattle.eip_history.specs.Own.{Past, concerns, answer_in, is_starve, ticked, source_state, moved, is_out, turns_in, SourceState, Idle, Out}
 use Rattle.eip_history.specs.Births.{births, item_birth}
 use Rattle.eip_history.specs.Place.{pulls_out}
 use Rattle.eip_history.specs.Rules.{KeepsRules, May, Served, served, served_in}
 use Rattle.eip_history.specs.Stop.{first_fault, fault_in, or_else}
 use Rattle.eip_history.specs.Tables.{Related, bit}
-use Rattle.eip_history.specs.TableWords.{moves_waiting, moves_busy}
+use Rattle.eip_history.specs.TableWords.{moves_waiting, moves_busy, moves_joins}
 use Rattle.eip_history.specs.Texts.{notes, note_for}
 use Rattle.eip_history.proofs.Lists.{related-all, related-push, related-length}
 use Rattle.eip_history.proofs.Limit.{source-after, pulls-change, turns-more, not-same}
 use Rattle.eip_history.proofs.Main.{legal-add}
-use Rattle.eip_history.proofs.Unborn.{newborn-own}
+use Rattle.eip_history.proofs.Unborn.{legal-tail, newborn-own}
+use Rattle.eip_history.proofs.Places.{place-other}
+use Rattle.eip_history.proofs.Moves.{ends-nobody}
 use Rattle.eip_plan.specs.Plan.{plan_of}
 use Rattle.eip_plan.specs.Simple.{IsSimpleEntry, AnswersSimply}
 use Rattle.eip_plan.proofs.Items.{simple_births, births-simply}
@@ -37,6 +39,7 @@ use Rattle.eip_tables.specs.Rows.{RowStands, SourcesStand, source_row, kept_stat
 use Rattle.eip_tables.specs.Stands.{Tables, Stands}
 use Rattle.eip_table_laws.proofs.RowNumbers.{numbers-push, count-push}
 use Rattle.eip_table_laws.proofs.QueueCalls.{queues-stay}
+use Rattle.eip_table_laws.proofs.JoinsKept.{joins-stay}
 use Rattle.eip_table_laws.proofs.RowPlaces.{row-other, entry-new}
 
 pub get-set-same : {A : Type 0} (xs : List A) (i : ℕ) (x : A) → i < length xs → slice_get (put_at xs i x) i ≡ Some x
@@ -44,7 +47,7 @@ get-set-same [] i x l = absurd (omega arith)
 get-set-same (y ∷ xs) zero x l = refl
 get-set-same (y ∷ xs) (suc i) x l = get-set-same xs i x (omega arith)
 
-get-set-other : {A : Type 0} (xs : List A) (i j : ℕ) (x : A) → j ≢ i → slice_get (put_at xs i x) j ≡ slice_get xs j
+pub get-set-other : {A : Type 0} (xs : List A) (i j : ℕ) (x : A) → j ≢ i → slice_get (put_at xs i x) j ≡ slice_get xs j
 get-set-other [] i j x ne = refl
 get-set-other (y ∷ xs) zero zero x ne = absurd (ne refl)
 get-set-other (y ∷ xs) zero (suc j) x ne = refl
@@ -99,9 +102,17 @@ pub record IsOfSource (w t : ℕ) (k : Kind) : Type 0 where
   pub simple : IsSimpleEntry k
   pub waits : moves_waiting k ≡ false
   pub works : moves_busy k ≡ false
+  pub joins : moves_joins k ≡ false
+  pub silent : answer_in k ≡ []
+  pub fed : is_starve k ≡ false
+  pub no_tick : (n : ℕ) → ticked k n ≡ n
 
-rows-quiet : (set : RouteSet) (e : Entry) (past : Past) (bs : List Birth) (rows : List Row) → ((x : ℕ) → concerns x e.kind ≡ false) → Related (RowStands set past) bs rows → Related (RowStands set (e ∷ past)) bs rows
-rows-quiet set e past bs rows nobody rel = related-all (RowStands set past) (RowStands set (e ∷ past)) bs rows (λ b r. row-other set e past b r (nobody b.number)) rel
+rows-quiet : (set : RouteSet) (workers limit : ℕ) (e : Entry) (past : Past) (bs : List Birth) (rows : List Row) → KeepsRules (plan_of set) workers limit (e ∷ past) → ((x : ℕ) → concerns x e.kind ≡ false) → answer_in e.kind ≡ [] → is_starve e.kind ≡ false
+    → ((n : ℕ) → ticked e.kind n ≡ n) → Related (RowStands set past) bs rows → Related (RowStands set (e ∷ past)) bs rows
+rows-quiet set workers limit e past bs rows legal nobody a v t rel =
+    related-all (RowStands set past) (RowStands set (e ∷ past)) bs rows
+    (λ b r. row-other set workers limit e past b r legal (nobody b.number)
+    (place-other (plan_of set) workers limit e past b (legal-tail (plan_of set) workers limit e past legal) (ends-nobody (plan_of set) e past a v) (nobody b.number) t)) rel
 
 state-others : (w t : ℕ) (k : Kind) (past : Past) → IsOfSource w t k → (u : ℕ) → u ≢ t → source_state u ((record { worker = w; kind = k }) ∷ past) ≡ source_state u past
 state-others w t k past of u ne = source-after w u k past ∙ of.others u (source_state u past) ne
@@ -134,7 +145,7 @@ stands-source routes workers limit past t w r k was after pulled st lw may withi
     record {
       legal = legal;
       simple = simple;
-      rows = rw same (rows-quiet routes e past (births s past) t.rows of.nobody st.rows);
+      rows = rw same (rows-quiet routes workers limit e past (births s past) t.rows legal.entries of.nobody of.silent of.fed of.no_tick st.rows);
       ready = st.ready;
       sources = sources-set s e past t.sources r (kept_state after) within (state-others w r k past of) (kept-here s w r k past after is now) st.sources;
       turns = ap (λ n. n + turns_in k) st.turns ∙ sym (turns-more e past);
@@ -144,22 +155,23 @@ stands-source routes workers limit past t w r k was after pulled st lw may withi
       pulled = let c = pulled-here s w r k past was after within of before now in omega (arith, c, count, st.pulled);
       live = st.live;
       queues = queues-stay routes workers limit w k past t.queues legal.entries of.waits of.works st.queues;
+      joins = joins-stay routes workers limit w k past t.joins legal.entries of.joins st.joins;
     }
 
 pub of-pull : (w t : ℕ) → IsOfSource w t (Pull t)
-of-pull w t = record { nobody = λ x. refl; others = λ u was ne. rw (not-same u t ne) refl; simple = tt; waits = refl; works = refl }
+of-pull w t = record { nobody = λ x. refl; others = λ u was ne. rw (not-same u t ne) refl; simple = tt; waits = refl; works = refl; joins = refl; silent = refl; fed = refl; no_tick = λ n. refl }
 
 pub of-accept : (w t : ℕ) (item : List ℕ) (m : Message) → IsOfSource w t (Accept t item m)
-of-accept w t item m = record { nobody = λ x. refl; others = λ u was ne. rw (not-same u t ne) refl; simple = tt; waits = refl; works = refl }
+of-accept w t item m = record { nobody = λ x. refl; others = λ u was ne. rw (not-same u t ne) refl; simple = tt; waits = refl; works = refl; joins = refl; silent = refl; fed = refl; no_tick = λ n. refl }
 
 pub of-refuse : (w t : ℕ) (item : List ℕ) (c : Refused) → IsOfSource w t (Refuse t item c)
-of-refuse w t item c = record { nobody = λ x. refl; others = λ u was ne. rw (not-same u t ne) refl; simple = tt; waits = refl; works = refl }
+of-refuse w t item c = record { nobody = λ x. refl; others = λ u was ne. rw (not-same u t ne) refl; simple = tt; waits = refl; works = refl; joins = refl; silent = refl; fed = refl; no_tick = λ n. refl }
 
 pub of-end : (w t : ℕ) → IsOfSource w t (SourceEnd t)
-of-end w t = record { nobody = λ x. refl; others = λ u was ne. rw (not-same u t ne) refl; simple = tt; waits = refl; works = refl }
+of-end w t = record { nobody = λ x. refl; others = λ u was ne. rw (not-same u t ne) refl; simple = tt; waits = refl; works = refl; joins = refl; silent = refl; fed = refl; no_tick = λ n. refl }
 
 pub of-fault : (w t : ℕ) → IsOfSource w t (SourceFault t)
-of-fault w t = record { nobody = λ x. refl; others = λ u was ne. rw (not-same u t ne) refl; simple = tt; waits = refl; works = refl }
+of-fault w t = record { nobody = λ x. refl; others = λ u was ne. rw (not-same u t ne) refl; simple = tt; waits = refl; works = refl; joins = refl; silent = refl; fed = refl; no_tick = λ n. refl }
 
 -- the row of a newborn stands for it
 newborn-row : (set : RouteSet) (workers limit : ℕ) (past : Past) (w r : ℕ) (item : List ℕ) (m : Message) → KeepsRules (plan_of set) workers limit ((record { worker = w; kind = Accept r item m }) ∷ past)
@@ -189,7 +201,7 @@ stands-accept routes workers limit past t w r item m st lw may =
     let within = may.0.0 in
     let of = of-accept w r item m in
     let idle : moved w r k (source_state r past) ≡ Idle = rw (eq-eqb r r refl) refl in
-    let old = rows-quiet routes e past (births s past) t.rows of.nobody st.rows in
+    let old = rows-quiet routes workers limit e past (births s past) t.rows legal.entries of.nobody of.silent of.fed of.no_tick st.rows in
     let many : length (births s past) ≡ length t.rows = related-length (RowStands routes past) (births s past) t.rows st.rows in
     let number : 1 + length t.rows ≡ length t.rows + 1 = omega arith in
     let simple : AnswersSimply (e ∷ past) = (st.simple, tt) in
@@ -206,4 +218,5 @@ stands-accept routes workers limit past t w r item m st lw may =
       pulled = let c = pulled-here s w r k past (Out w) Idle within of may.1 idle in omega (arith, c, st.pulled);
       live = let c = count-push row_live t.rows row in omega (arith, c, st.live);
       queues = queues-stay routes workers limit w k past t.queues legal.entries refl refl st.queues;
+      joins = joins-stay routes workers limit w k past t.joins legal.entries refl st.joins;
     }

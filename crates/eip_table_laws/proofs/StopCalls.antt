@@ -206,6 +206,8 @@ shown-by b p o item stage.Asks (Some c) None f e w h = absurd h
 shown-by b p o item stage.Asks None oq f e w h = absurd h
 shown-by b p o item (stage.Held v) (Some c) oq f e w h = sym h
 shown-by b p o item (stage.Held v) None oq f e w h = absurd h
+shown-by b p o item (stage.Joining i) (Some c) oq f e w h = sym h
+shown-by b p o item (stage.Joining i) None oq f e w h = absurd h
 shown-by b p o item (stage.Answered i) (Some c) oq f e w h = sym h
 shown-by b p o item (stage.Answered i) None oq f e w h = absurd h
 shown-by b p o item stage.Completed oc oq f e w h = sym h
@@ -222,10 +224,12 @@ told-item set past b (made.Item i) h =
     let at : slice_get (reverse past) i ≡ _ = h.entry in
     ap item_at at ∙ sym (ap item_of (born-origin (plan_of set) past i b h))
 told-item set past b (made.Copy q) h = sym (ap item_of h)
+told-item set past b (made.Part y j) h = sym (ap item_of h)
 
 -- and so is the queue
 told-queue : (set : RouteSet) (past : Past) (b : Birth) (o : Born) (q : ℕ) → ComesFrom (plan_of set) past o b → b.origin ≡ from.Queue q → queue_place o ≡ place_is.Queue q
 told-queue set past b (made.Item i) q h e = let was = born-origin (plan_of set) past i b h in absurd (cc (sym was ∙ e))
+told-queue set past b (made.Part y j) q h e = absurd (let same : from.Part y j ≡ from.Queue q = sym h ∙ e in cc same)
 told-queue set past b (made.Copy r) q h e = let same : from.Queue r ≡ from.Queue q = sym h ∙ e in let is : r ≡ q = cc in ap place_is.Queue is
 
 shown-place : (set : RouteSet) (past : Past) (b : Birth) (r : Row) → RowStands set past b r → shown (reverse past) r ≡ place_of (plan_of set) past b

@@ -1,3 +1,4 @@
 pub mod PutIn
 pub mod FirstSources
 pub mod FirstWanted
+pub mod PutParts

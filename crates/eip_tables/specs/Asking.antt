@@ -2,6 +2,7 @@
 use Rattle.std.specs.Prelude.{ℕ, ◌≡◌, ◌-◌, Bool, true, false, cond, List, Option, Some, slice_get}
 use Rattle.eip_exchange.specs.declared.end.End.{End}
 use Rattle.eip_exchange.specs.declared.message.Message.{Message}
+use Rattle.eip_frames.specs.declared.request.Seed.{Seed}
 use Rattle.eip_frames.specs.declared.request.Request.{Request}
 use Rattle.eip_frames.specs.declared.request.Request.TheVariants as request
 use Rattle.eip_frames.specs.Fits.{is_outside}
@@ -12,6 +13,8 @@ abbrev pub inner_kind : Request → Asked
 inner_kind (request.Log n t) = asked.Line
 inner_kind (request.Call r) = asked.Route
 inner_kind (request.Offer q discard m) = asked.Copy
+inner_kind (request.Spawn seeds) = asked.Parts
+inner_kind (request.Join first count) = asked.Ends
 inner_kind (request.Finish e m commit) = asked.End
 inner_kind _ = asked.Other
 
@@ -35,3 +38,14 @@ pub record AsksEnd (known : List (Option Request)) (x : ℕ) : Type 0 where
   pub end : End
   pub message : Message
   pub asks : slice_get known (x - 1) ≡ Some (Some (request.Finish end message false))
+
+-- it asks that parts are born
+pub record AsksParts (known : List (Option Request)) (x : ℕ) : Type 0 where
+  pub seeds : List Seed
+  pub asks : slice_get known (x - 1) ≡ Some (Some (request.Spawn seeds))
+
+-- it asks how its parts ended
+pub record AsksEnds (known : List (Option Request)) (x : ℕ) : Type 0 where
+  pub first : ℕ
+  pub count : ℕ
+  pub asks : slice_get known (x - 1) ≡ Some (Some (request.Join first count))

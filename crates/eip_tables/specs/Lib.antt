@@ -1,11 +1,13 @@
 pub mod Numbers
 pub mod Moves
 pub mod Offers
+pub mod Parts
 pub mod Closing
 pub mod State
 pub mod Look
 pub mod Rows
 pub mod Queues
+pub mod Joins
 pub mod Stands
 pub mod Asking
 pub mod Outside

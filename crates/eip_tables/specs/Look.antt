@@ -60,6 +60,7 @@ birth_in set number None = None
 abbrev pub birth_by : RouteSet → List Entry → ℕ → Born → Option Birth → Option Birth
 birth_by set entries number (born.Item i) kept = birth_in set number (slice_get entries i)
 birth_by set entries number (born.Copy q) kept = kept
+birth_by set entries number (born.Part parent index) kept = kept
 
 abbrev pub birth_of : RouteSet → List Entry → ℕ → Row → Option Birth
 birth_of set entries number r = birth_by set entries number r.born r.birth

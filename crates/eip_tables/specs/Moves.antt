@@ -1,5 +1,8 @@
 -- How a row moves on.
-use Rattle.std.specs.Prelude.{ℕ, List, Option, Some, None}
+use Rattle.std.specs.Prelude.{ℕ, List, [], Option, Some, None, codes}
+use Rattle.eip_exchange.specs.Ends.{fault}
+use Rattle.eip_exchange.specs.declared.message.Message.{Message}
+use Rattle.eip_exchange.specs.declared.end.Ended.{Ended}
 use Rattle.eip_exchange.specs.declared.end.End.{End}
 use Rattle.eip_exchange.specs.declared.end.End.TheVariants as end
 use Rattle.eip_exchange.specs.declared.end.Fault.{Fault}
@@ -9,6 +12,7 @@ use Rattle.eip_frames.specs.declared.request.Request.TheVariants as request
 use Rattle.eip_frames.specs.declared.answer.Answer.{Answer as Reply}
 use Rattle.eip_frames.specs.declared.answer.Answer.TheVariants as reply
 use Rattle.eip_exchange.specs.declared.birth.Birth.{Birth}
+use Rattle.eip_tables.specs.declared.row.Born.{Born}
 use Rattle.eip_tables.specs.declared.row.Born.TheVariants as born
 use Rattle.eip_tables.specs.declared.row.Stage.{Stage}
 use Rattle.eip_tables.specs.declared.row.Stage.TheVariants as stage
@@ -21,6 +25,15 @@ new_row i = record { born = born.Item i; stage = stage.New; birth = None; cursor
 -- a copy in a queue
 abbrev pub copy_row : ℕ → Birth → Row
 copy_row q b = record { born = born.Copy q; stage = stage.Queued; birth = Some b; cursor = None; request = None; fault = None }
+
+-- what an exchange that is starved fails with
+abbrev pub starving : Fault
+starving = fault (codes "OutOfMemory") []
+
+-- a part; the fault that it would fail with if it were starved is there from its birth on, since its parent is told of that end without memory
+abbrev pub part_row : (parent index : ℕ) → Birth → Row
+part_row parent index b =
+    record { born = born.Part parent index; stage = stage.New; birth = Some b; cursor = None; request = None; fault = Some starving }
 
 -- a copy has left its queue
 abbrev pub started : Row → Row
@@ -35,8 +48,25 @@ answered i r = record r { stage = stage.Answered i; request = None }
 abbrev pub held : ℕ → Row → Row
 held w r = record r { stage = stage.Held w; request = None }
 
+-- its parts were born by the journal entry with this index, and it waits until all of them have ended
+abbrev pub joining : ℕ → Row → Row
+joining i r = record r { stage = stage.Joining i; request = None }
+
+abbrev pub woken_stage : Stage → Stage
+woken_stage (stage.Joining i) = stage.Answered i
+woken_stage g = g
+
+-- the last of its parts has ended: the answer that they were born has not reached its cursor yet
+abbrev pub woken : Row → Row
+woken r = record r { stage = woken_stage r.stage }
+
 abbrev pub closed : Stage → Row → Row
-closed g r = record r { stage = g; birth = None; cursor = None; request = None }
+closed g r = record r { stage = g; birth = None; cursor = None; request = None; fault = None }
+
+-- the end of a part that is starved, with the message that it was born with; a row without these tells of none
+abbrev pub starved_end : Option Birth → Option Fault → Option Ended
+starved_end (Some b) (Some f) = Some (record { end = end.Failed f; message = b.message })
+starved_end _ _ = None
 
 abbrev pub stage_of : End → Stage
 stage_of end.Completed = stage.Completed
@@ -55,6 +85,21 @@ finished e r = record r { stage = stage_of e; birth = None; cursor = None; reque
 abbrev pub end_asked : Option Request → Option End
 end_asked (Some (request.Finish e m c)) = Some e
 end_asked _ = None
+
+-- the message of the end that is asked for
+abbrev pub last_message : Option Request → Option Message
+last_message (Some (request.Finish e m c)) = Some m
+last_message _ = None
+
+-- the end that a part asks for, which its parent is told
+abbrev pub part_end : Born → Option Request → Option End
+part_end (born.Part parent index) q = end_asked q
+part_end _ q = None
+
+-- an end with its message, where both are there
+abbrev pub ended_with : Option End → Option Message → Option Ended
+ended_with (Some e) (Some m) = Some (record { end = e; message = m })
+ended_with _ _ = None
 
 -- the line of the log that is asked for
 abbrev pub line_asked : Option Request → Option (List ℕ × List ℕ)

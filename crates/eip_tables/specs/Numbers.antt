@@ -1,5 +1,5 @@
 -- Tables by number: what stands in the rows that pass a test.
-use Rattle.std.specs.Prelude.{ℕ, ◌+◌, ◌<◌, ◌≤◌, Bool, cond, nat_lt, List, [], ◌∷◌, length, filter}
+use Rattle.std.specs.Prelude.{ℕ, zero, suc, ◌+◌, ◌<◌, ◌≤◌, Bool, cond, nat_lt, List, [], ◌∷◌, length, filter}
 
 -- the numbers of the rows that pass a test, where the first row has this number
 abbrev pub row_numbers : {R : Type 0} → (R → Bool) → ℕ → List R → List ℕ
@@ -24,6 +24,15 @@ pub record NumbersView : Type 0 where
 abbrev pub place_in : ℕ → List ℕ → ℕ
 place_in x [] = 0
 place_in x (y ∷ ys) = cond (nat_lt x y) 0 (place_in x ys + 1)
+
+-- how many numbers there is room for, those that are there among them
+abbrev pub capacity : NumbersView → ℕ
+capacity v = length v.numbers + v.spare
+
+-- so many numbers, from one on
+abbrev pub numbers_from : (first count : ℕ) → List ℕ
+numbers_from first zero = []
+numbers_from first (suc count) = first ∷ numbers_from (first + 1) count
 
 -- a number that has a row
 abbrev pub IsNumberOf : {R : Type 0} → List R → ℕ → Type 0

@@ -25,8 +25,9 @@ offered_message _ = None
 
 -- how many hops an exchange has, as its row tells it: that of an item has none
 abbrev pub hops_by : Born → Option Birth → ℕ
-hops_by (born.Copy q) (Some b) = b.hops
-hops_by _ _ = 0
+hops_by (born.Item i) kept = 0
+hops_by _ (Some b) = b.hops
+hops_by _ None = 0
 
 -- the copy that an exchange with so many hops puts into a queue
 abbrev pub copy_birth : RouteSet → (number queue hops : ℕ) → Message → Birth

@@ -32,17 +32,18 @@ failed_place None = place_is.Ready
 -- the item of an exchange, by what made it
 abbrev pub item_born : List Entry → Born → List ℕ
 item_born entries (born.Item i) = item_at (slice_get entries i)
-item_born entries (born.Copy q) = []
+item_born entries _ = []
 
 -- a copy waits in the queue that it was born into
 abbrev pub queue_place : Born → Place
 queue_place (born.Copy q) = place_is.Queue q
-queue_place (born.Item i) = place_is.Ready
+queue_place _ = place_is.Ready
 
 -- the place of a stage, with what made the exchange, its item and its fault
 abbrev pub stage_place : Born → List ℕ → Option Fault → Stage → Place
 stage_place o item f stage.Queued = queue_place o
 stage_place o item f (stage.Held w) = place_is.InHand w
+stage_place o item f (stage.Joining i) = place_is.Joining
 stage_place o item f stage.Completed = place_is.Ended end.Completed
 stage_place o item f stage.Handled = place_is.Ended end.Handled
 stage_place o item f stage.Failed = failed_place f

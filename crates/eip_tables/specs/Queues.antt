@@ -28,10 +28,10 @@ pub record QueuesStand (set : RouteSet) (past : Past) (queues : List QueueView) 
 
 -- who came through a queue is at work on it until it ends
 abbrev pub MayLeave : Born → List QueueView → Type 0
-MayLeave (born.Item i) queues = Unit {0}
 MayLeave (born.Copy q) queues = (q < length queues) × (0 < seda.busy_at queues q)
+MayLeave _ queues = Unit {0}
 
 -- where an exchange came through a queue, one of its consumers is free again
 abbrev pub Leaves : Born → List QueueView → List QueueView → Type 0
-Leaves (born.Item i) old new = new ≡ old
 Leaves (born.Copy q) old new = (limits : List (ℕ × ℕ)) (calls : List Call) → seda.Stands limits calls old → seda.Stands limits (Ended q ∷ calls) new
+Leaves _ old new = new ≡ old

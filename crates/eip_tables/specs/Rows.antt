@@ -5,6 +5,7 @@ use Rattle.eip_exchange.specs.declared.birth.Birth.{Birth}
 use Rattle.eip_exchange.specs.declared.birth.Origin.{Origin}
 use Rattle.eip_exchange.specs.declared.birth.Origin.TheVariants as from
 use Rattle.eip_exchange.specs.declared.message.Message.{Message}
+use Rattle.eip_exchange.specs.declared.end.Fault.{Fault}
 use Rattle.eip_exchange.specs.declared.end.End.{End}
 use Rattle.eip_exchange.specs.declared.end.End.TheVariants as end
 use Rattle.eip_exchange.specs.Ends.{out_of_memory, commit_failed}
@@ -18,18 +19,21 @@ use Rattle.eip_frames.specs.Fate.{AsksNext, Ends}
 use Rattle.eip_frames.specs.Fits.{is_outside}
 use Rattle.eip_ledger.specs.declared.entry.Entry.{Entry}
 use Rattle.eip_ledger.specs.declared.entry.Kind.TheVariants.{Accept, Answer}
+use Rattle.eip_ledger.specs.declared.place.Place.{Place}
+use Rattle.eip_ledger.specs.declared.place.Place.TheVariants as place_is
 use Rattle.eip_meaning.specs.Meaning.{mean, item_of}
 use Rattle.eip_progress.specs.declared.cursor.Cursor.{Cursor}
 use Rattle.eip_progress.specs.Rest.{rest, IsFirst, AnswerFits}
 use Rattle.eip_history.specs.Plan.{Plan}
-use Rattle.eip_history.specs.Own.{Past, own, answers, starved, started, taker, last_answer, source_state, turns}
+use Rattle.eip_history.specs.Own.{Past, own, answers, starved, started, taker, last_answer, source_state, clock, turns}
 use Rattle.eip_history.specs.Own as own_of
 use Rattle.eip_history.specs.Births.{fate, item_birth}
-use Rattle.eip_history.specs.Place.{pause_of, Runs, end_of}
+use Rattle.eip_history.specs.Place.{pause_of, paused, all_ended, Runs, end_of}
 use Rattle.eip_history.specs.Rules.{IsSource}
 use Rattle.eip_plan.specs.Plan.{plan_of}
 use Rattle.eip_tables.specs.Closing.{Closing}
 use Rattle.eip_tables.specs.Closing as closing
+use Rattle.eip_tables.specs.Moves.{starving}
 use Rattle.eip_tables.specs.State.{State, state_of}
 use Rattle.eip_tables.specs.State as state
 use Rattle.eip_tables.specs.declared.row.Born.{Born}
@@ -55,11 +59,14 @@ pub record IsBornAt (s : Plan) (past : Past) (i : ℕ) (b : Birth) : Type 0 wher
 abbrev pub ComesFrom : Plan → Past → Born → Birth → Type 0
 ComesFrom s past (born.Item i) b = IsBornAt s past i b
 ComesFrom s past (born.Copy q) b = b.origin ≡ from.Queue q
+ComesFrom s past (born.Part parent index) b = b.origin ≡ from.Part parent index
 
--- what a row keeps of a birth, by whether the exchange lives: that of a copy, until it has ended
-abbrev pub Keeps : Born → Bool → Birth → Option Birth → Type 0
-Keeps (born.Copy q) true b o = o ≡ Some b
-Keeps _ _ b o = Unit {0}
+-- what a row keeps of a birth, by whether the exchange lives: that of a copy or a part, until it has ended, and for a part what
+-- it would fail with if it were starved
+abbrev pub Keeps : Born → Bool → Birth → Option Birth → Option Fault → Type 0
+Keeps (born.Copy q) true b o f = o ≡ Some b
+Keeps (born.Part parent index) true b o f = (o ≡ Some b) × (f ≡ Some starving)
+Keeps _ _ b o f = Unit {0}
 
 -- it has left its queue, by whether it has started, or was born into none
 abbrev pub has_left : Origin → Bool → Bool
@@ -88,27 +95,32 @@ closed_end b (closing.Failed f) = end.Failed f
 closed_end b closing.Starved = out_of_memory
 closed_end b closing.NotCommitted = commit_failed (item_of b.origin)
 
--- the cursor stands for the exchange's answers so far and those of the list behind them
-pub record Follows (set : RouteSet) (past : Past) (b : Birth) (c : Cursor) (more : List Reply) (t : Option ℕ) : Type 0 where
+-- where its last answer leaves an exchange, taken or not: behind the birth of parts it is Joining until all of them have ended, and
+-- Ready from there on
+abbrev pub pause_place : RouteSet → Past → Birth → Place
+pause_place set past b = paused (clock past) (all_ended (plan_of set) past) (pause_of (last_answer (own b.number past)))
+
+-- the cursor stands for the exchange's answers so far and those of the list behind them, and the last answer leaves it there
+pub record Follows (set : RouteSet) (past : Past) (b : Birth) (c : Cursor) (more : List Reply) (t : Option ℕ) (p : Place) : Type 0 where
   pub later : IsFirst c → ⊥
   pub fed : starved (own b.number past) ≡ false
   pub taken : taker (own b.number past) ≡ t
-  pub runs : pause_of (last_answer (own b.number past)) ≡ Runs
+  pub pause : pause_place set past b ≡ p
   pub left : has_left b.origin (started (own b.number past)) ≡ true
   pub rests : (A : List Reply) → rest set c (more ++ A) ≡ mean set b (answers (own b.number past) ++ A)
 
 -- it asks this request
 pub record IsAsking (set : RouteSet) (past : Past) (b : Birth) (c : Cursor) (q : Request) (t : Option ℕ) : Type 0 where
-  pub follows : Follows set past b c [] t
+  pub follows : Follows set past b c [] t place_is.Ready
   pub at : At
   pub asks : rest set c [] ≡ AsksNext q at
 
--- it has the answer of this entry, which does not end it
-pub record HasAnswer (set : RouteSet) (past : Past) (b : Birth) (c : Cursor) (i : ℕ) : Type 0 where
+-- it has the answer of this entry, which does not end it, and leaves it there
+pub record HasAnswer (set : RouteSet) (past : Past) (b : Birth) (c : Cursor) (i : ℕ) (p : Place) : Type 0 where
   pub worker : ℕ
   pub answer : Reply
   pub entry : entry_at past i ≡ Some (record { worker = worker; kind = Answer b.number answer })
-  pub follows : Follows set past b c (answer ∷ []) None
+  pub follows : Follows set past b c (answer ∷ []) None p
   pub fitting : AnswerFits (rest set c []) answer
   pub lives : end_of (fate (plan_of set) past b) ≡ None
 
@@ -123,7 +135,8 @@ StateStands set past b state.Queued = IsWaiting past b
 StateStands set past b state.New = IsUnasked past b
 StateStands set past b (state.Asks c q) = IsAsking set past b c q None
 StateStands set past b (state.Held c w) = (q : Request) × IsAsking set past b c q (Some w) × (is_outside q ≡ true)
-StateStands set past b (state.Answered c i) = HasAnswer set past b c i
+StateStands set past b (state.Joining c i) = HasAnswer set past b c i place_is.Joining
+StateStands set past b (state.Answered c i) = HasAnswer set past b c i place_is.Ready
 StateStands set past b (state.Ended c) = HasEnded set past b c
 StateStands set past b state.Broken = ⊥
 
@@ -156,7 +169,7 @@ row_live r = state_live (state_of r)
 -- a row stands for an exchange; no exchange has more hops than turns were taken, since each hop is the answer to an offer
 pub record RowStands (set : RouteSet) (past : Past) (b : Birth) (r : Row) : Type 0 where
   pub born : ComesFrom (plan_of set) past r.born b
-  pub kept : Keeps r.born (row_live r) b r.birth
+  pub kept : Keeps r.born (row_live r) b r.birth r.fault
   pub hops : b.hops ≤ turns past
   pub stands : StateStands set past b (state_of r)
 

@@ -12,10 +12,12 @@ use Rattle.eip_history.specs.Texts.{notes}
 use Rattle.eip_plan.specs.Plan.{plan_of}
 use Rattle.eip_plan.specs.Simple.{AnswersSimply}
 use Rattle.eip_seda.specs.Consuming.{QueueView}
+use Rattle.eip_join.specs.Parts.{Open}
 use Rattle.eip_tables.specs.declared.row.Row.{Row}
 use Rattle.eip_tables.specs.declared.row.SourceState.{SourceState}
 use Rattle.eip_tables.specs.Numbers.{row_numbers, row_count}
 use Rattle.eip_tables.specs.Queues.{QueuesStand}
+use Rattle.eip_tables.specs.Joins.{JoinsStand}
 use Rattle.eip_tables.specs.Rows.{RowStands, SourcesStand, row_ready, row_held, row_live}
 
 pub record Tables : Type 0 where
@@ -38,6 +40,8 @@ pub record Tables : Type 0 where
   pub live : ℕ
   -- one for each route
   pub queues : List QueueView
+  -- the open joins, by the number of the parent
+  pub joins : List (ℕ × Open)
 
 -- the tables stand for the history of a set, a fact for each table
 pub record Stands (set : RouteSet) (workers limit : ℕ) (past : Past) (t : Tables) : Type 0 where
@@ -54,3 +58,4 @@ pub record Stands (set : RouteSet) (workers limit : ℕ) (past : Past) (t : Tabl
   pub pulled : t.pulled ≡ pulls_out (plan_of set) past
   pub live : t.live ≡ row_count row_live t.rows
   pub queues : QueuesStand set past t.queues
+  pub joins : JoinsStand set past t.joins

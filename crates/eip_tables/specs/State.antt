@@ -15,6 +15,7 @@ pub data State : Type 0 where
   New : State
   Asks : Cursor → Request → State
   Held : Cursor → ℕ → State
+  Joining : Cursor → ℕ → State
   Answered : Cursor → ℕ → State
   Ended : Closing → State
   -- a row that stands for nothing
@@ -25,6 +26,7 @@ state_by stage.Queued c q f = Queued
 state_by stage.New c q f = New
 state_by stage.Asks (Some c) (Some q) f = Asks c q
 state_by (stage.Held w) (Some c) q f = Held c w
+state_by (stage.Joining i) (Some c) q f = Joining c i
 state_by (stage.Answered i) (Some c) q f = Answered c i
 state_by stage.Completed c q f = Ended closing.Completed
 state_by stage.Handled c q f = Ended closing.Handled

@@ -13,6 +13,10 @@ pub enum Asked {
     Route,
     /// A copy is to be put into a queue.
     Copy,
+    /// Parts are to be born.
+    Parts,
+    /// The ends of its parts are to be told.
+    Ends,
     /// It is to end.
     End,
     /// Somebody outside is to answer.
@@ -40,6 +44,8 @@ fn kind_of(request: &Request) -> Asked
         Request::Log { .. } => Asked::Line,
         Request::Call { .. } => Asked::Route,
         Request::Offer { .. } => Asked::Copy,
+        Request::Spawn { .. } => Asked::Parts,
+        Request::Join { .. } => Asked::Ends,
         Request::Finish { .. } => Asked::End,
         _ => Asked::Other,
     }

@@ -2,8 +2,10 @@
 #![tactic(auto)]
 
 pub mod asking;
+pub mod joins;
 pub mod notes;
 pub mod origin;
+pub mod parts;
 pub mod places;
 pub mod queues;
 pub mod rising;
@@ -15,6 +17,7 @@ pub mod wanted;
 
 pub use asking::{Asked, Inner};
 pub use origin::OriginView;
+pub use parts::Parent;
 pub use rising::RisingNumbers;
 pub use row::{Born, Row, SourceState, Stage};
 pub use sources::Sources;

@@ -40,6 +40,7 @@ pub fn origin_born(entries: &[Entry], born: Born) -> Option<OriginView<'_>>
     match born {
         Born::Item(entry) => origin_in(entries, entry),
         Born::Copy(route) => Some(OriginView::Queue { route }),
+        Born::Part { parent, index } => Some(OriginView::Part { parent, index }),
     }
 }
 
@@ -51,6 +52,11 @@ pub fn ending_of(stage: Stage) -> Option<Ending>
         Stage::Completed => Some(Ending::Completed),
         Stage::Handled => Some(Ending::Handled),
         Stage::Failed | Stage::Starved | Stage::NotCommitted => Some(Ending::Failed),
-        Stage::Queued | Stage::New | Stage::Asks | Stage::Held(_) | Stage::Answered(_) => None,
+        Stage::Queued
+        | Stage::New
+        | Stage::Asks
+        | Stage::Held(_)
+        | Stage::Joining(_)
+        | Stage::Answered(_) => None,
     }
 }

@@ -27,7 +27,7 @@ fn item_born(alloc: Global, entries: &[Entry], born: Born) -> Result<Text, NoMem
 {
     match born {
         Born::Item(entry) => item_of(alloc, entries, entry),
-        Born::Copy(_) => Text::of_str(alloc, ""),
+        Born::Copy(_) | Born::Part { .. } => Text::of_str(alloc, ""),
     }
 }
 
@@ -37,7 +37,7 @@ fn queue_place(born: Born) -> Place
 {
     match born {
         Born::Copy(queue) => Place::Queue(queue),
-        Born::Item(_) => Place::Ready,
+        Born::Item(_) | Born::Part { .. } => Place::Ready,
     }
 }
 
@@ -66,6 +66,7 @@ pub fn place_of(alloc: Global, row: &Row, entries: &[Entry]) -> Result<Place, No
     match row.stage {
         Stage::Queued => Ok(queue_place(row.born)),
         Stage::Held(worker) => Ok(Place::InHand(worker)),
+        Stage::Joining(_) => Ok(Place::Joining),
         Stage::Completed => Ok(Place::Ended(End::Completed)),
         Stage::Handled => Ok(Place::Ended(End::Handled)),
         Stage::Failed => failed(&row.fault),

@@ -1,7 +1,7 @@
-ghost use Rattle.std.specs.Prelude.{◌≡◌, ◌+◌, ◌<◌, ◌≤◌, ◌-◌, ◌++◌, ◌∷◌, [], OnOk, length};
+ghost use Rattle.std.specs.Prelude.{◌≡◌, ◌+◌, ◌<◌, ◌≤◌, ◌-◌, ◌^◌, ◌++◌, ◌∷◌, [], OnOk, length};
 ghost use Rattle.eip_history.specs.Tables.{without, put_in};
 ghost use Rattle.eip_history.specs.Rules.{first};
-ghost use Rattle.eip_tables.specs.Numbers.{place_in};
+ghost use Rattle.eip_tables.specs.Numbers.{place_in, capacity, numbers_from};
 
 use eip_text::NoMemory;
 use std::alloc::Global;
@@ -51,8 +51,19 @@ impl RisingNumbers {
         ensures numbers { self.new.numbers ≡ self.old.numbers }
         ensures ok { OnOk result (count ≤ self.new.spare) }
         ensures spare { self.old.spare ≤ self.new.spare }
+        ensures capacity { capacity self.old ≤ capacity self.new }
     {
         Ok(self.numbers.reserve(count)?)
+    }
+
+    /// Room for so many numbers in all, those that are there among them.
+    pub fn reserve_all(&mut self, count: usize) -> Result<(), NoMemory>
+        ensures numbers { self.new.numbers ≡ self.old.numbers }
+        ensures ok { OnOk result (count ≤ capacity self.new) }
+        ensures capacity { capacity self.old ≤ capacity self.new }
+    {
+        let more = count.saturating_sub(self.numbers.len());
+        self.reserve(more)
     }
 
     /// A number above all others goes behind them, into room that was reserved.
@@ -60,8 +71,21 @@ impl RisingNumbers {
         requires { 0 < self.old.spare }
         ensures numbers { self.new.numbers ≡ self.old.numbers ++ number ∷ [] }
         ensures spare { self.old.spare ≤ self.new.spare + 1 }
+        ensures capacity { capacity self.old ≤ capacity self.new }
     {
         let _ = self.numbers.push(number);
+    }
+
+    /// So many numbers from one on, which is above all others, go behind them, into room that was reserved.
+    pub fn put_from(&mut self, first: u64, count: usize)
+        requires room { count ≤ self.old.spare }
+        requires fits { first + count ≤ 2 ^ 64 }
+        ensures numbers { self.new.numbers ≡ self.old.numbers ++ numbers_from first count }
+        ensures capacity { capacity self.old ≤ capacity self.new }
+    {
+        for index in 0..count {
+            self.put_last(first + index as u64);
+        }
     }
 
     /// A number goes before the first greater one, into room that was reserved.
@@ -69,6 +93,7 @@ impl RisingNumbers {
         requires { 0 < self.old.spare }
         ensures numbers { self.new.numbers ≡ put_in number self.old.numbers }
         ensures spare { self.old.spare ≤ self.new.spare + 1 }
+        ensures capacity { capacity self.old ≤ capacity self.new }
     {
         let at = place_of(self.numbers.as_slice(), number);
         let _ = self.numbers.insert(at, number);
@@ -78,6 +103,7 @@ impl RisingNumbers {
     pub fn remove(&mut self, number: u64)
         ensures numbers { self.new.numbers ≡ without number self.old.numbers }
         ensures spare { self.old.spare ≤ self.new.spare }
+        ensures capacity { capacity self.old ≤ capacity self.new }
     {
         self.numbers.retain(|n| *n != number);
     }

@@ -1,12 +1,13 @@
-ghost use Rattle.std.specs.Prelude.{◌≡◌, Some, None};
-ghost use Rattle.eip_tables.specs.Moves.{new_row, copy_row, started, begun, answered, held, closed, stage_of, fault_of, finished, end_asked, line_asked, finished_asked, ended_by};
+ghost use Rattle.std.specs.Prelude.{◌≡◌, Some, None, IfOk, option_map};
+ghost use Rattle.eip_tables.specs.Moves.{new_row, copy_row, part_row, starving, started, begun, answered, held, joining, woken, closed, starved_end, stage_of, fault_of, finished, end_asked, last_message, part_end, ended_with, line_asked, finished_asked, ended_by};
 ghost use Rattle.eip_tables.specs.State.{row_outside};
 ghost use Rattle.eip_tables.specs.Offers.{hops_by, offer_asked, offered_message};
+ghost use Rattle.eip_tables.specs.Parts.{at_by, seeds_asked, count_asked};
 
-use eip_exchange::{Birth, End, Fault, Message};
-use eip_frames::{Answer, Request, is_outside};
+use eip_exchange::{Birth, End, Ended, Fault, Message};
+use eip_frames::{Answer, At, Request, Seed, is_outside};
 use eip_progress::{Boxed, Cursor};
-use eip_text::Text;
+use eip_text::{NoMemory, Text};
 use std::mem;
 
 /// What made an exchange.
@@ -16,6 +17,8 @@ pub enum Born {
     Item(usize),
     /// An offer to the queue of this route.
     Copy(u32),
+    /// A fan-out of a parent, of which it is the part with this index.
+    Part { parent: u64, index: u32 },
 }
 
 /// How far an exchange is.
@@ -29,6 +32,8 @@ pub enum Stage {
     Asks,
     /// This worker has it in hand.
     Held(u32),
+    /// Its parts were born by the journal entry with this index, and some of them have not ended.
+    Joining(usize),
     /// The answer of this journal entry, by its index, has not reached the cursor yet.
     Answered(usize),
     Completed,
@@ -46,12 +51,13 @@ pub enum Stage {
 pub struct Row {
     pub born: Born,
     pub stage: Stage,
-    /// What a copy was born as, until it has ended; an item's birth is read from the journal.
+    /// What a copy or a part was born as, until it has ended; an item's birth is read from the journal.
     pub birth: Option<Birth>,
     /// Its cursor, from the first look until it has ended.
     pub cursor: Option<Boxed<Cursor>>,
     /// What it asks, while it asks.
     pub request: Option<Request>,
+    /// What it failed with, and while a part lives, what it would fail with if it were starved.
     pub fault: Option<Fault>,
 }
 
@@ -97,13 +103,42 @@ impl Row {
         }
     }
 
+    /// The row of a part with this birth, and with a fault for the case that it is starved.
+    pub fn part(parent: u64, index: u32, birth: Birth, fault: Fault) -> Row
+        requires { fault ≡ starving }
+        ensures { result ≡ part_row parent index birth }
+    {
+        Row {
+            born: Born::Part { parent, index },
+            stage: Stage::New,
+            birth: Some(birth),
+            cursor: None,
+            request: None,
+            fault: Some(fault),
+        }
+    }
+
     /// How many queues its lineage has passed.
     pub fn hops(&self) -> u32
         ensures { result ≡ hops_by self.now.born self.now.birth }
     {
         match (self.born, &self.birth) {
-            (Born::Copy(_), Some(birth)) => birth.hops,
+            (Born::Copy(_) | Born::Part { .. }, Some(birth)) => birth.hops,
             _ => 0,
+        }
+    }
+
+    /// Where its last request was asked.
+    pub fn at(&self) -> At
+        ensures { result ≡ at_by self.now.cursor }
+    {
+        match &self.cursor {
+            Some(cursor) => cursor.get().at(),
+            None => At {
+                route: 0,
+                depth: 0,
+                index: 0,
+            },
         }
     }
 
@@ -152,6 +187,24 @@ pub fn hold(row: &mut Row, worker: u32) -> Option<Request>
     row.request.take()
 }
 
+/// The exchange waits until its parts, which this journal entry made, have ended; its request is handed out.
+pub fn join(row: &mut Row, entry: usize) -> Option<Request>
+    ensures row { row.new ≡ joining entry row.old }
+    ensures request { result ≡ row.old.request }
+{
+    row.stage = Stage::Joining(entry);
+    row.request.take()
+}
+
+/// The last of its parts has ended.
+pub fn wake(row: &mut Row)
+    ensures { row.new ≡ woken row.old }
+{
+    if let Stage::Joining(entry) = row.stage {
+        row.stage = Stage::Answered(entry);
+    }
+}
+
 /// The exchange ends so.
 pub fn close(row: &mut Row, stage: Stage)
     ensures { row.new ≡ closed stage row.old }
@@ -160,6 +213,31 @@ pub fn close(row: &mut Row, stage: Stage)
     drop(row.birth.take());
     drop(row.cursor.take());
     drop(row.request.take());
+    drop(row.fault.take());
+}
+
+/// The exchange is ended for want of memory; the end of a part is handed out, with the message that it was born with. It takes no
+/// memory.
+pub fn starve(row: &mut Row) -> Option<Ended>
+    ensures row { row.new ≡ closed (Stage.Starved) row.old }
+    ensures ended { result ≡ starved_end row.old.birth row.old.fault }
+{
+    let birth = row.birth.take();
+    let fault = row.fault.take();
+    close(row, Stage::Starved);
+    starved_end(birth, fault)
+}
+
+/// The end of a part that is starved, by its birth and its fault.
+fn starved_end(birth: Option<Birth>, fault: Option<Fault>) -> Option<Ended>
+    ensures { result ≡ starved_end birth fault }
+{
+    let Birth { message, .. } = birth?;
+    let fault = fault?;
+    Some(Ended {
+        end: End::Failed(fault),
+        message,
+    })
 }
 
 /// The stage of an end, and its fault.
@@ -238,13 +316,71 @@ pub fn offered_message(request: Option<Request>) -> Option<Message>
     }
 }
 
-/// The exchange ends by the end that it asks for.
-pub fn finish_asked(row: &mut Row)
-    ensures { row.new ≡ finished_asked row.old }
+/// A copy of the end that a part asks for, which its parent is told; None for any other exchange.
+pub fn part_end(row: &Row) -> Result<Option<End>, NoMemory>
+    ensures { IfOk result (λ e. e ≡ part_end row.now.born row.now.request) }
 {
-    let request = row.request.take();
-    if let Some(end) = end_asked(request) {
+    match (row.born, &row.request) {
+        (Born::Part { .. }, Some(Request::Finish { end, .. })) => Ok(Some(end.copy()?)),
+        _ => Ok(None),
+    }
+}
+
+/// The end and the message that an exchange asks to end with, handed out; any other request is dropped.
+fn finish_parts(request: Option<Request>) -> (Option<End>, Option<Message>)
+    ensures end { result.0 ≡ end_asked request }
+    ensures message { result.1 ≡ last_message request }
+{
+    match request {
+        Some(Request::Finish { end, message, .. }) => (Some(end), Some(message)),
+        other => {
+            drop(other);
+            (None, None)
+        }
+    }
+}
+
+/// An end with its message, where both are there.
+fn ended_with(end: Option<End>, message: Option<Message>) -> Option<Ended>
+    ensures { result ≡ ended_with end message }
+{
+    let end = end?;
+    let message = message?;
+    Some(Ended { end, message })
+}
+
+/// The exchange ends by the end that it asks for; its message is handed out with the end that its parent is told, where there is one.
+pub fn finish_asked(row: &mut Row, told: Option<End>) -> Option<Ended>
+    ensures row { row.new ≡ finished_asked row.old }
+    ensures ended { result ≡ ended_with told (last_message row.old.request) }
+{
+    let (end, message) = finish_parts(row.request.take());
+    if let Some(end) = end {
         finish(row, end);
+    }
+    ended_with(told, message)
+}
+
+/// How many parts are asked for.
+pub fn count_asked(request: &Option<Request>) -> usize
+    ensures { result ≡ count_asked request.now }
+{
+    match request {
+        Some(Request::Spawn { parts }) => parts.items().len(),
+        _ => 0,
+    }
+}
+
+/// The seeds of the parts that are asked for, handed out; any other request is dropped.
+pub fn seeds_asked(request: Option<Request>) -> Option<Vec<Seed>>
+    ensures { option_map (λ s. s.items) result ≡ seeds_asked request }
+{
+    match request {
+        Some(Request::Spawn { parts }) => Some(parts.into_vec()),
+        other => {
+            drop(other);
+            None
+        }
     }
 }
 

@@ -1,8 +1,6 @@
-use Rattle.std.proofs.Common.{◌≡◌, map, arith}
+use Rattle.std.proofs.Common.{◌≡◌, arith}
 use Rattle.std.proofs.lemmas.Grind.{common_steps}
-use Rattle.eip_route.specs.declared.route.Route.{Route}
-use Rattle.eip_plan.specs.Plan.{queue_rule}
-use Rattle.eip_tables.specs.Queues.{limit_of, limits}
+use Rattle.eip_tables.specs.Queues.{limits}
 use Rattle.eip_tables.proofs.queues.limits_of.Goals as goal
 
 pub returns : goal.returns

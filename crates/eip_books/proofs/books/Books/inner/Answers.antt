@@ -1,5 +1,5 @@
 use Rattle.std.proofs.Common.{◌∙◌, sym}
-use Rattle.eip_table_laws.proofs.InnerCalls.{kind-line, kind-route, kind-copy, kind-end}
+use Rattle.eip_table_laws.proofs.InnerCalls.{kind-line, kind-route, kind-copy, kind-parts, kind-ends, kind-end}
 use Rattle.eip_books.proofs.books.Books.inner.Goals as goal
 
 pub note-requires-clause-line : goal.note-requires-clause-line
@@ -13,3 +13,9 @@ enter-requires-clause-call c = let known = c.in_ok-look.ensures.known in kind-ro
 
 pub offer-requires-clause-copy : goal.offer-requires-clause-copy
 offer-requires-clause-copy c = let known = c.in_ok-look.ensures.known in kind-copy c.look.new.self.known c.args.number known.0 known.1 (sym (c.asked.ensures.kind known.0 known.1) ∙ c.in-Copy.is)
+
+pub spawn-requires-clause-parts : goal.spawn-requires-clause-parts
+spawn-requires-clause-parts c = let known = c.in_ok-look.ensures.known in kind-parts c.look.new.self.known c.args.number known.0 known.1 (sym (c.asked.ensures.kind known.0 known.1) ∙ c.in-Parts.is)
+
+pub join-requires-clause-ends : goal.join-requires-clause-ends
+join-requires-clause-ends c = let known = c.in_ok-look.ensures.known in kind-ends c.look.new.self.known c.args.number known.0 known.1 (sym (c.asked.ensures.kind known.0 known.1) ∙ c.in-Ends.is)

@@ -29,12 +29,12 @@ overflow_add-needed-3 c = omega (arith, within-limit (tables_of c.self.inside) c
 pub overflow_add-next : goal.overflow_add-next
 overflow_add-next c =
     let many = ap length c.reserve.ensures.items in
-    let few = births-few (plan_of c.self.inside.set) c.self.inside.journal.workers c.self.inside.journal.turns c.self.inside.journal.past c.self.invariant.stands.legal.entries c.self.invariant.stands.simple in
+    let few = births-few c.self.inside.set c.self.inside.journal.workers c.self.inside.journal.turns c.self.inside.journal.past c.self.invariant.stands.legal.entries c.self.invariant.stands.simple in
     omega (arith, c.len.ensures, many, rows-are (tables_of c.self.inside) c.self.invariant.stands, few, c.self.invariant.stands.turns, within-limit (tables_of c.self.inside) c.self.invariant.stands, c.self.invariant.stands.legal.few_turns)
 
 pub overflow_add-self : goal.overflow_add-self
 overflow_add-self c =
-    let few = births-few (plan_of c.self.inside.set) c.self.inside.journal.workers c.self.inside.journal.turns c.self.inside.journal.past c.self.invariant.stands.legal.entries c.self.invariant.stands.simple in
+    let few = births-few c.self.inside.set c.self.inside.journal.workers c.self.inside.journal.turns c.self.inside.journal.past c.self.invariant.stands.legal.entries c.self.invariant.stands.simple in
     omega (arith, live-within (tables_of c.self.inside) c.self.invariant.stands, rows-are (tables_of c.self.inside) c.self.invariant.stands, few, c.self.invariant.stands.turns, within-limit (tables_of c.self.inside) c.self.invariant.stands, c.self.invariant.stands.legal.few_turns)
 
 pub get-row-requires-clause-above : goal.get-row-requires-clause-above

@@ -1,45 +1,66 @@
-use Rattle.std.proofs.Common.{arith, refl}
+use Rattle.std.proofs.Common.{arith, ◌-◌, refl, ◌∙◌}
 use Rattle.eip_ledger.specs.declared.place.Place.TheVariants.{Ready}
-use Rattle.eip_books.specs.Facts.{tables_of}
-use Rattle.eip_table_laws.proofs.OwnCalls.{row-within, ready-some, stands-starve, starve-leaves, live-above}
 use Rattle.eip_tables.specs.State.{row_outside}
 use Rattle.eip_tables.specs.Moves.{closed}
 use Rattle.eip_tables.specs.declared.row.Stage.TheVariants as stage
+use Rattle.eip_table_laws.proofs.OwnCalls.{row-within, stands-starve, starve-leaves, starve-tells, starve-wakes, live-above}
 use Rattle.eip_table_laws.proofs.ListedNumbers.{leave-at}
+use Rattle.eip_books.specs.Facts.{tables_of}
+use Rattle.eip_table_laws.proofs.Ending.{behind-outside}
+use Rattle.eip_books.proofs.Waking.{if-woken}
 use Rattle.eip_books.proofs.books.Books.starve.Goals as goal
 
-pub get-requires-clause-above : goal.get-requires-clause-above
-get-requires-clause-above c = (row-within (tables_of c.self.inside) c.args.number Ready c.self.invariant.stands (rw (← c.self.view_is) at c.requires.ready)).0
+pub get-row-requires-clause-above : goal.get-row-requires-clause-above
+get-row-requires-clause-above c = (row-within (tables_of c.self.inside) c.args.number Ready c.self.invariant.stands (rw (← c.self.view_is) at c.requires.ready)).0
 
-pub get-requires-clause-within : goal.get-requires-clause-within
-get-requires-clause-within c = (row-within (tables_of c.self.inside) c.args.number Ready c.self.invariant.stands (rw (← c.self.view_is) at c.requires.ready)).1
+pub get-row-requires-clause-within : goal.get-row-requires-clause-within
+get-row-requires-clause-within c = (row-within (tables_of c.self.inside) c.args.number Ready c.self.invariant.stands (rw (← c.self.view_is) at c.requires.ready)).1
 
 pub leave-requires : goal.leave-requires
 leave-requires c =
-    starve-leaves (tables_of c.self.inside) c.args.worker c.args.number c.get.result.now c.self.invariant.stands (rw (← c.self.view_is) at c.requires.worker) (rw (← c.self.view_is) at c.requires.ready) c.get.ensures
+    starve-leaves (tables_of c.self.inside) c.args.worker c.args.number c.get-row.result.now c.self.invariant.stands (rw (← c.self.view_is) at c.requires.worker) (rw (← c.self.view_is) at c.requires.ready) c.get-row.ensures
 
-pub close-requires-clause-above : goal.close-requires-clause-above
-close-requires-clause-above c = (row-within (tables_of c.self.inside) c.args.number Ready c.self.invariant.stands (rw (← c.self.view_is) at c.requires.ready)).0
+pub starve-ended-requires-clause-above : goal.starve-ended-requires-clause-above
+starve-ended-requires-clause-above c = (row-within (tables_of c.self.inside) c.args.number Ready c.self.invariant.stands (rw (← c.self.view_is) at c.requires.ready)).0
 
-pub close-requires-clause-within : goal.close-requires-clause-within
-close-requires-clause-within c = (row-within (tables_of c.self.inside) c.args.number Ready c.self.invariant.stands (rw (← c.self.view_is) at c.requires.ready)).1
+pub starve-ended-requires-clause-within : goal.starve-ended-requires-clause-within
+starve-ended-requires-clause-within c = (row-within (tables_of c.self.inside) c.args.number Ready c.self.invariant.stands (rw (← c.self.view_is) at c.requires.ready)).1
+
+pub tell-woken-requires : goal.tell-woken-requires
+tell-woken-requires c =
+    rw (c.starve-ended.ensures.ended c.get-row.result.now c.get-row.ensures)
+    (starve-tells (tables_of c.self.inside) c.args.worker c.args.number c.get-row.result.now c.self.invariant.stands (rw (← c.self.view_is) at c.requires.worker) (rw (← c.self.view_is) at c.requires.ready) c.get-row.ensures c.close.new.joins c.close.ensures)
+
+pub wake-requires-clause-within : goal.wake-requires-clause-within
+wake-requires-clause-within c =
+    let tells = rw (c.starve-ended.ensures.ended c.get-row.result.now c.get-row.ensures) at c.tell-woken.ensures.tells in
+    rw (c.starve-ended.ensures.items c.get-row.result.now c.get-row.ensures)
+    (if-woken c.tell-woken.result c.self.inside.rows.items (c.args.number - 1) (closed stage.Starved c.get-row.result.now)
+    (starve-wakes (tables_of c.self.inside) c.args.worker c.args.number c.get-row.result.now c.self.invariant.stands (rw (← c.self.view_is) at c.requires.worker) (rw (← c.self.view_is) at c.requires.ready) c.get-row.ensures
+    c.close.new.joins c.close.ensures c.leave.new.queues c.tell-woken.new.joins c.tell-woken.result c.leave.ensures.leaves tells c.tell-woken.ensures.woken))
+
+pub wake-requires-clause-room : goal.wake-requires-clause-room
+wake-requires-clause-room c =
+    let room = rw (← c.self.view_is) at c.requires.room in
+    omega (arith, room, c.self.invariant.room_ready, c.remove.ensures.spare)
 
 pub overflow_sub-self : goal.overflow_sub-self
 overflow_sub-self c =
-    let r = ready-some (tables_of c.self.inside) c.args.number c.self.invariant.stands (rw (← c.self.view_is) at c.requires.ready) in
-    live-above (tables_of c.self.inside) c.args.number r.0 c.self.invariant.stands (rw (← c.self.view_is) at c.requires.ready) r.1
+    live-above (tables_of c.self.inside) c.args.number c.get-row.result.now c.self.invariant.stands (rw (← c.self.view_is) at c.requires.ready) c.get-row.ensures
 
 pub invariant_of-self : goal.invariant_of-self
 invariant_of-self c =
     let room = rw (← c.self.view_is) at c.requires.room in
+    let tells = rw (c.starve-ended.ensures.ended c.get-row.result.now c.get-row.ensures) at c.tell-woken.ensures.tells in
     record {
-      stands = rw (c.append_reserved.ensures.past, c.append_reserved.ensures.workers, c.append_reserved.ensures.turns, c.close.ensures.items c.get.result.now c.get.ensures, c.remove.ensures.numbers)
-          (stands-starve (tables_of c.self.inside) c.args.worker c.args.number c.get.result.now c.self.invariant.stands (rw (← c.self.view_is) at c.requires.worker) (rw (← c.self.view_is) at c.requires.ready) c.get.ensures c.leave.new.queues c.leave.ensures.leaves);
+      stands = rw (c.append_reserved.ensures.past, c.append_reserved.ensures.workers, c.append_reserved.ensures.turns, c.wake.ensures.rows, c.starve-ended.ensures.items c.get-row.result.now c.get-row.ensures, c.wake.ensures.numbers, c.remove.ensures.numbers)
+          (stands-starve (tables_of c.self.inside) c.args.worker c.args.number c.get-row.result.now c.self.invariant.stands (rw (← c.self.view_is) at c.requires.worker) (rw (← c.self.view_is) at c.requires.ready) c.get-row.ensures
+          c.close.new.joins c.close.ensures c.leave.new.queues c.tell-woken.new.joins c.tell-woken.result c.leave.ensures.leaves tells c.tell-woken.ensures.woken);
       few = c.self.invariant.few;
-      room_small = omega (arith, room);
-      room_journal = omega (arith, room);
-      room_rows = omega (arith, room);
-      room_ready = omega (arith, room);
+      room_small = omega (arith, room, c.self.invariant.room_small);
+      room_journal = omega (arith, room, c.append_reserved.ensures.spare, c.self.invariant.room_journal);
+      room_rows = omega (arith, room, c.starve-ended.ensures.spare, c.wake.ensures.spare, c.self.invariant.room_rows);
+      room_ready = omega (arith, room, c.remove.ensures.spare, c.wake.ensures.room, c.self.invariant.room_ready);
     }
 
 pub returns-clause-legal : goal.returns-clause-legal
@@ -47,5 +68,7 @@ returns-clause-legal c = (invariant_of-self c).stands.legal
 
 pub returns-clause-outside : goal.returns-clause-outside
 returns-clause-outside c =
-    let r = ready-some (tables_of c.self.inside) c.args.number c.self.invariant.stands (rw (← c.self.view_is) at c.requires.ready) in
-    rw (← c.self.view_is, c.close.ensures.items r.0 r.1) (leave-at row_outside c.self.inside.rows.items c.args.number (closed stage.Starved r.0) (row-within (tables_of c.self.inside) c.args.number Ready c.self.invariant.stands (rw (← c.self.view_is) at c.requires.ready)).0 refl)
+    rw (← c.self.view_is, c.wake.ensures.rows)
+    (behind-outside c.tell-woken.result c.starve-ended.new.self.items
+    ∙ rw (c.starve-ended.ensures.items c.get-row.result.now c.get-row.ensures)
+    (leave-at row_outside c.self.inside.rows.items c.args.number (closed stage.Starved c.get-row.result.now) (row-within (tables_of c.self.inside) c.args.number Ready c.self.invariant.stands (rw (← c.self.view_is) at c.requires.ready)).0 refl))

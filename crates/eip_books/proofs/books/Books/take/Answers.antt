@@ -50,7 +50,7 @@ returns-clause-may c =
 pub returns-clause-asked : goal.returns-clause-asked
 returns-clause-asked c =
     let k = known-outside (tables_of c.self.inside) c.self.invariant.stands c.args.number (rw (← c.self.view_is) at c.requires.known) in
-    let a = taken-asks (tables_of c.self.inside) c.args.worker c.args.number c.self.invariant.stands (rw (← c.self.view_is) at c.requires.worker) k.row k.at k.ready k.asks.cursor k.asks.request k.asks.asks k.asks.outside in
+    let a = taken-asks (tables_of c.self.inside) c.args.worker c.args.number c.self.invariant.stands (rw (← c.self.view_is) at c.requires.worker) k.row k.at k.ready k.asks.cursor k.asks.request k.asks.asks k.asks.outside (rw (← c.self.view_is) at c.requires.below) in
     let has = c.hold.ensures.request k.row k.at ∙ k.asks.has in
     let is = c.in-Some.is in
     let same : k.asks.request ≡ c.in-Some.request = cc in
@@ -68,7 +68,7 @@ pub returns-clause-place : goal.returns-clause-place
 returns-clause-place c =
     let k = known-outside (tables_of c.self.inside) c.self.invariant.stands c.args.number (rw (← c.self.view_is) at c.requires.known) in
     rw c.append_reserved.ensures.past
-    (taken-place (tables_of c.self.inside) c.args.worker c.args.number c.self.invariant.stands (rw (← c.self.view_is) at c.requires.worker) k.row k.at k.ready k.asks.cursor k.asks.request k.asks.asks k.asks.outside)
+    (taken-place (tables_of c.self.inside) c.args.worker c.args.number c.self.invariant.stands (rw (← c.self.view_is) at c.requires.worker) k.row k.at k.ready k.asks.cursor k.asks.request k.asks.asks k.asks.outside (rw (← c.self.view_is) at c.requires.below))
 
 pub returns-clause-outside : goal.returns-clause-outside
 returns-clause-outside c =
