@@ -52,6 +52,14 @@ fn routes_have_their_names_and_blocks(rt: HostRuntime) -> Result<(), Fail> {
             r#"[{"from":{"uri":"direct:d","steps":[{"choice":{"otherwise":{"steps":[]},"when":[{"constant":"true","steps":[]},{"ref":"empty","steps":[]}]}}]}}]"#,
             "route1 4 0",
         ),
+        (
+            r#"[{"from":{"uri":"direct:d","steps":[{"doTry":{"steps":[],"doCatch":[{"exception":"E","steps":[]},{"exception":"F","steps":[{"filter":{"constant":true,"steps":[]}}]}],"doFinally":{"steps":[]}}}]}}]"#,
+            "route1 6 0",
+        ),
+        (
+            r#"[{"from":{"uri":"direct:d","steps":[{"resequence":{"header":"h","steps":[{"filter":{"constant":true,"steps":[]}}]}}]}}]"#,
+            "route1 4 0",
+        ),
     ];
     for (file, expected) in rows {
         assert!(rt; is_counted(rt.alloc(), file, expected)?, "of {file}");

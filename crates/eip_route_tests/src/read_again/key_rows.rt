@@ -63,7 +63,23 @@ pub const UNKNOWN_KEYS: &str =
 [{"from":{"uri":"stream:in","steps":[{"resequence":{"expression":{"simple":"${body}"},"steps":[]}}]}}] => $[0].from.steps[0].resequence UnknownKey expression
 [{"from":{"uri":"stream:in","steps":[{"resequence":{"simple":{"expression":"${body}","other":"x"},"steps":[]}}]}}] => $[0].from.steps[0].resequence.simple UnknownKey other
 [{"from":{"uri":"stream:in","steps":[{"resequence":{"header":"h","steps":[],"batchConfig":{"batchSizes":1}}}]}}] => $[0].from.steps[0].resequence.batchConfig UnknownKey batchSizes
-[{"from":{"uri":"stream:in","steps":[{"resequence":{"header":"h","steps":[],"aggregationStrategy":"latest"}}]}}] => $[0].from.steps[0].resequence UnknownKey aggregationStrategy"#;
+[{"from":{"uri":"stream:in","steps":[{"resequence":{"header":"h","steps":[],"aggregationStrategy":"latest"}}]}}] => $[0].from.steps[0].resequence UnknownKey aggregationStrategy
+[{"from":{"uri":"stream:in","steps":[{"dotry":{"steps":[]}}]}}] => $[0].from.steps[0] UnknownStep dotry
+[{"from":{"uri":"stream:in","steps":[{"do_try":{"steps":[]}}]}}] => $[0].from.steps[0] UnknownStep do_try
+[{"from":{"uri":"stream:in","steps":[{"reSequence":{"header":"h","steps":[]}}]}}] => $[0].from.steps[0] UnknownStep reSequence
+[{"from":{"uri":"stream:in","steps":[{"doCatch":[]}]}}] => $[0].from.steps[0] UnknownStep doCatch
+[{"from":{"uri":"stream:in","steps":[{"doTry":{"steps":[],"docatch":[]}}]}}] => $[0].from.steps[0].doTry UnknownKey docatch
+[{"from":{"uri":"stream:in","steps":[{"doTry":{"steps":[],"do-Finally":{"steps":[]}}}]}}] => $[0].from.steps[0].doTry UnknownKey do-Finally
+[{"from":{"uri":"stream:in","steps":[{"doTry":{"steps":[],"doCatch":[{"exception":"E","steps":[],"onwhen":{"ref":"empty"}}]}}]}}] => $[0].from.steps[0].doTry.doCatch[0] UnknownKey onwhen
+[{"from":{"uri":"stream:in","steps":[{"split":{"tokenize":",","steps":[],"shareUnitofWork":true}}]}}] => $[0].from.steps[0].split UnknownKey shareUnitofWork
+[{"from":{"uri":"stream:in","steps":[{"multicast":{"steps":[{"to":"log:a"}],"share-unit-Of-work":true}}]}}] => $[0].from.steps[0].multicast UnknownKey share-unit-Of-work
+[{"from":{"uri":"stream:in","steps":[{"recipientList":{"header":"to","share_unit_of_work":true}}]}}] => $[0].from.steps[0].recipientList UnknownKey share_unit_of_work
+[{"from":{"uri":"stream:in","steps":[{"filter":{"constant":true,"steps":[],"shareUnitOfWork":true}}]}}] => $[0].from.steps[0].filter UnknownKey shareUnitOfWork
+[{"from":{"uri":"stream:in","steps":[{"idempotentConsumer":{"header":"h","steps":[],"Eager":true}}]}}] => $[0].from.steps[0].idempotentConsumer UnknownKey Eager
+[{"from":{"uri":"stream:in","steps":[{"idempotentConsumer":{"header":"h","steps":[],"removeonfailure":true}}]}}] => $[0].from.steps[0].idempotentConsumer UnknownKey removeonfailure
+[{"from":{"uri":"stream:in","steps":[{"resequence":{"header":"h","steps":[],"batchconfig":{}}}]}}] => $[0].from.steps[0].resequence UnknownKey batchconfig
+[{"from":{"uri":"stream:in","steps":[{"resequence":{"header":"h","steps":[],"batchSize":1}}]}}] => $[0].from.steps[0].resequence UnknownKey batchSize
+[{"from":{"uri":"stream:in","steps":[{"resequence":{"header":"h","steps":[],"batchConfig":{"batch-Timeout":1}}}]}}] => $[0].from.steps[0].resequence.batchConfig UnknownKey batch-Timeout"#;
 
 /// Items, steps and error handlers that have no key, or more than one.
 pub const NOT_ONE_KEY: &str = r#"[{}] => $[0] NotOneKey
@@ -82,7 +98,9 @@ pub const NOT_ONE_KEY: &str = r#"[{}] => $[0] NotOneKey
 [{"errorHandler":{"deadLetterChannel":{"deadLetterUri":"lane:x"},"defaultErrorHandler":{}}}] => $[0].errorHandler NotOneKey
 [{"errorHandler":{"deadLetterChannel":{"deadLetterUri":"lane:x"},"dead-letter-channel":{}}}] => $[0].errorHandler NotOneKey
 [{"errorHandler":{"defaultErrorHandler":{},"default-error-handler":{}}}] => $[0].errorHandler NotOneKey
-[{"errorHandler":{"defaultErrorHandler":{},"other":1}}] => $[0].errorHandler NotOneKey"#;
+[{"errorHandler":{"defaultErrorHandler":{},"other":1}}] => $[0].errorHandler NotOneKey
+[{"from":{"uri":"stream:in","steps":[{"doTry":{"steps":[]},"do-try":{"steps":[]}}]}}] => $[0].from.steps[0] NotOneKey
+[{"from":{"uri":"stream:in","steps":[{"resequence":{"header":"h","steps":[]},"id":"i"}]}}] => $[0].from.steps[0] NotOneKey"#;
 
 /// Objects without a key that they want.
 pub const MISSING_KEYS: &str = r#"[{"route":{"id":"r","steps":[]}}] => $[0].route MissingKey from

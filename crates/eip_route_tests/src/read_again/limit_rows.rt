@@ -50,7 +50,11 @@ pub const LIMITS: &str = r#"[]<1048575* > => $ TooLong
 [{"from":{"uri":"stream:in","steps":[<14*{"filter":{"constant":true,"steps":[>{"aggregate":{"correlationExpression":{"header":"h"},"completionSize":2,"steps":[{"shout":1}]}}<14*]}}>]}}] => $[0].from<14*.steps[0].filter>.steps[0].aggregate.steps[0] UnknownStep shout
 [{"from":{"uri":"stream:in","steps":[<14*{"filter":{"constant":true,"steps":[>{"resequence":{"header":"h","steps":[]}}<14*]}}>]}}] => $[0].from<14*.steps[0].filter>.steps[0].resequence.steps TooNested
 [{"from":{"uri":"stream:in","steps":[<13*{"filter":{"constant":true,"steps":[>{"resequence":{"header":"h","steps":[{"filter":{"constant":true,"steps":[]}}]}}<13*]}}>]}}] => $[0].from<13*.steps[0].filter>.steps[0].resequence.steps[0].filter.steps TooNested
-[{"from":{"uri":"stream:in","steps":[<14*{"filter":{"constant":true,"steps":[>{"resequence":{"header":"","steps":[]}}<14*]}}>]}}] => $[0].from<14*.steps[0].filter>.steps[0].resequence.header BadName"#;
+[{"from":{"uri":"stream:in","steps":[<14*{"filter":{"constant":true,"steps":[>{"resequence":{"header":"","steps":[]}}<14*]}}>]}}] => $[0].from<14*.steps[0].filter>.steps[0].resequence.header BadName
+[{"from":{"uri":"stream:in","steps":[<15*{"filter":{"constant":true,"steps":[>{"doTry":{"steps":[]}}<15*]}}>]}}] => $[0].from<15*.steps[0].filter>.steps[0].doTry.steps TooNested
+[{"from":{"uri":"stream:in","steps":[<15*{"filter":{"constant":true,"steps":[>{"doTry":{"steps":[],"doFinally":{"steps":[]}}}<15*]}}>]}}] => $[0].from<15*.steps[0].filter>.steps[0].doTry.doFinally.steps TooNested
+[{"from":{"uri":"stream:in","steps":[<15*{"filter":{"constant":true,"steps":[>{"doTry":{"steps":[],"doCatch":[{"exception":"E","steps":[]}],"doFinally":{"steps":[]}}}<15*]}}>]}}] => $[0].from<15*.steps[0].filter>.steps[0].doTry.doCatch[0].steps TooNested
+[{"from":{"uri":"stream:in","steps":[{"resequence":{"header":"<65*h>","steps":[]}}]}}] => $[0].from.steps[0].resequence.header BadName"#;
 
 /// Files within the limits with their canonical text.
 pub const WITHIN: &str = r#"[]<1048574* > => []
@@ -62,7 +66,9 @@ pub const WITHIN: &str = r#"[]<1048574* > => []
 [{"from":{"uri":"stream:in","steps":[<15*{"filter":{"constant":true,"steps":[>{"recipientList":{"header":"h"}}<15*]}}>]}}] => [{"route":{"from":{"steps":[<15*{"filter":{"constant":true,"steps":[>{"recipientList":{"header":"h"}}<15*]}}>],"uri":"stream:in"},"id":"route1"}}]
 [{"from":{"uri":"stream:in","steps":[<14*{"filter":{"constant":true,"steps":[>{"multicast":{"steps":[{"to":"log:a"},{"log":"m"}]}}<14*]}}>]}}] => [{"route":{"from":{"steps":[<14*{"filter":{"constant":true,"steps":[>{"multicast":{"steps":[{"to":"log:a"},{"log":"m"}]}}<14*]}}>],"uri":"stream:in"},"id":"route1"}}]
 [{"from":{"uri":"stream:in","steps":[<14*{"filter":{"constant":true,"steps":[>{"choice":{"otherwise":{"steps":[]},"when":[{"constant":true,"steps":[]}]}}<14*]}}>]}}] => [{"route":{"from":{"steps":[<14*{"filter":{"constant":true,"steps":[>{"choice":{"otherwise":{"steps":[]},"when":[{"constant":true,"steps":[]}]}}<14*]}}>],"uri":"stream:in"},"id":"route1"}}]
-[{"from":{"uri":"stream:in","steps":[<13*{"filter":{"constant":true,"steps":[>{"resequence":{"header":"h","steps":[{"log":"a"}]}}<13*]}}>]}}] => [{"route":{"from":{"steps":[<13*{"filter":{"constant":true,"steps":[>{"resequence":{"header":"h","steps":[{"log":"a"}]}}<13*]}}>],"uri":"stream:in"},"id":"route1"}}]"#;
+[{"from":{"uri":"stream:in","steps":[<13*{"filter":{"constant":true,"steps":[>{"resequence":{"header":"h","steps":[{"log":"a"}]}}<13*]}}>]}}] => [{"route":{"from":{"steps":[<13*{"filter":{"constant":true,"steps":[>{"resequence":{"header":"h","steps":[{"log":"a"}]}}<13*]}}>],"uri":"stream:in"},"id":"route1"}}]
+[{"from":{"uri":"stream:in","steps":[<14*{"filter":{"constant":true,"steps":[>{"doTry":{"doCatch":[{"exception":["E"],"steps":[{"log":"a"}]}],"doFinally":{"steps":[{"log":"b"}]},"steps":[{"log":"c"}]}}<14*]}}>]}}] => [{"route":{"from":{"steps":[<14*{"filter":{"constant":true,"steps":[>{"doTry":{"doCatch":[{"exception":["E"],"steps":[{"log":"a"}]}],"doFinally":{"steps":[{"log":"b"}]},"steps":[{"log":"c"}]}}<14*]}}>],"uri":"stream:in"},"id":"route1"}}]
+[{"from":{"uri":"stream:in","steps":[{"filter":{"simple":"${body} regex '<200*x>'","steps":[]}}]}}] => [{"route":{"from":{"steps":[{"filter":{"simple":"${body} regex '<200*x>'","steps":[]}}],"uri":"stream:in"},"id":"route1"}}]"#;
 
 /// Files whose canonical text, with its line feed, fills a route file but for a few bytes: a multicast of 95,316 branches,
 /// a choice of 38,832 cases, 27,592 filters.

@@ -194,7 +194,8 @@ pub const GROUPS: &str =
 [{"from":{"uri":"stream:in","steps":[{"idempotent-consumer":{"simple":"${body}","remove-on-failure":"false","eager":"false","skip-duplicate":false,"idempotent-repository":"r","steps":[]}}]}}] => [{"route":{"from":{"steps":[{"idempotentConsumer":{"eager":false,"idempotentRepository":"r","removeOnFailure":false,"simple":"${body}","skipDuplicate":false,"steps":[]}}],"uri":"stream:in"},"id":"route1"}}]
 [{"from":{"uri":"stream:in","steps":[{"idempotentConsumer":{"header":"h","steps":[],"eager":true,"skipDuplicate":true,"removeOnFailure":"true"}}]}}] => [{"route":{"from":{"steps":[{"idempotentConsumer":{"header":"h","steps":[]}}],"uri":"stream:in"},"id":"route1"}}]
 [{"from":{"uri":"stream:in","steps":[{"idempotentConsumer":{"header":"h","steps":[],"skipDuplicate":false}}]}}] => [{"route":{"from":{"steps":[{"idempotentConsumer":{"header":"h","skipDuplicate":false,"steps":[]}}],"uri":"stream:in"},"id":"route1"}}]
-[{"from":{"uri":"stream:in","steps":[{"idempotentConsumer":{"header":"h","steps":[],"idempotentRepository":"r.1"}}]}}] => [{"route":{"from":{"steps":[{"idempotentConsumer":{"header":"h","idempotentRepository":"r.1","steps":[]}}],"uri":"stream:in"},"id":"route1"}}]"##;
+[{"from":{"uri":"stream:in","steps":[{"idempotentConsumer":{"header":"h","steps":[],"idempotentRepository":"r.1"}}]}}] => [{"route":{"from":{"steps":[{"idempotentConsumer":{"header":"h","idempotentRepository":"r.1","steps":[]}}],"uri":"stream:in"},"id":"route1"}}]
+[{"from":{"uri":"stream:in","steps":[{"idempotentConsumer":{"header":"h","steps":[],"eager":true,"eager":false}}]}}] => [{"route":{"from":{"steps":[{"idempotentConsumer":{"eager":false,"header":"h","steps":[]}}],"uri":"stream:in"},"id":"route1"}}]"##;
 
 /// Tries with catches and a last block.
 pub const TRIES: &str =

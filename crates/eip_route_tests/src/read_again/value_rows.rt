@@ -146,7 +146,12 @@ pub const BAD_VALUES: &str =
 [{"from":{"uri":"stream:in","steps":[{"resequence":{"header":"h","steps":[],"batchConfig":{"batchSize":-1}}}]}}] => $[0].from.steps[0].resequence.batchConfig.batchSize BadValue
 [{"from":{"uri":"stream:in","steps":[{"resequence":{"header":"h","steps":[],"batchConfig":{"batchSize":"x"}}}]}}] => $[0].from.steps[0].resequence.batchConfig.batchSize BadValue
 [{"from":{"uri":"stream:in","steps":[{"resequence":{"header":"h","steps":[],"batchConfig":{"batchTimeout":0}}}]}}] => $[0].from.steps[0].resequence.batchConfig.batchTimeout BadValue
-[{"from":{"uri":"stream:in","steps":[{"resequence":{"header":"h","steps":[],"batchConfig":{"batchTimeout":1000000001}}}]}}] => $[0].from.steps[0].resequence.batchConfig.batchTimeout BadValue"###;
+[{"from":{"uri":"stream:in","steps":[{"resequence":{"header":"h","steps":[],"batchConfig":{"batchTimeout":1000000001}}}]}}] => $[0].from.steps[0].resequence.batchConfig.batchTimeout BadValue
+[{"from":{"uri":"stream:in","steps":[{"doTry":{"steps":[],"doCatch":[{"exception":"E","steps":[],"onWhen":{"ref":"full"}}]}}]}}] => $[0].from.steps[0].doTry.doCatch[0].onWhen.ref NotRegistered full
+[{"from":{"uri":"stream:in","steps":[{"resequence":{"header":"h","steps":[],"batchConfig":{"batchSize":"0"}}}]}}] => $[0].from.steps[0].resequence.batchConfig.batchSize BadValue
+[{"from":{"uri":"stream:in","steps":[{"resequence":{"header":"h","steps":[],"batchConfig":{"batchTimeout":-1}}}]}}] => $[0].from.steps[0].resequence.batchConfig.batchTimeout BadValue
+[{"from":{"uri":"stream:in","steps":[{"resequence":{"header":"h","steps":[],"batchConfig":{"batchTimeout":"1000000001"}}}]}}] => $[0].from.steps[0].resequence.batchConfig.batchTimeout BadValue
+[{"from":{"uri":"stream:in","steps":[{"resequence":{"header":"h","steps":[],"batchConfig":{"batchTimeout":"1s"}}}]}}] => $[0].from.steps[0].resequence.batchConfig.batchTimeout BadValue"###;
 
 /// Templates and predicates that cannot be read.
 pub const BAD_SIMPLE: &str =
@@ -269,7 +274,14 @@ pub const BAD_SIMPLE: &str =
 [{"from":{"uri":"stream:in","steps":[{"aggregate":{"correlationExpression":{"header":"h"},"completionPredicate":{"simple":{"expression":"-"}},"steps":[]}}]}}] => $[0].from.steps[0].aggregate.completionPredicate.simple.expression BadSimple 0
 [{"from":{"uri":"stream:in","steps":[{"resequence":{"simple":"a${body","steps":[]}}]}}] => $[0].from.steps[0].resequence.simple BadSimple 1
 [{"from":{"uri":"stream:in","steps":[{"resequence":{"simple":"${boddy}","steps":[]}}]}}] => $[0].from.steps[0].resequence.simple UnknownFunction 0
-[{"from":{"uri":"stream:in","steps":[{"resequence":{"simple":{"expression":"${header.}"},"steps":[]}}]}}] => $[0].from.steps[0].resequence.simple.expression UnknownFunction 0"#;
+[{"from":{"uri":"stream:in","steps":[{"resequence":{"simple":{"expression":"${header.}"},"steps":[]}}]}}] => $[0].from.steps[0].resequence.simple.expression UnknownFunction 0
+[{"from":{"uri":"stream:in","steps":[{"doTry":{"steps":[],"doCatch":[{"exception":"E","steps":[],"onWhen":{"simple":"${body} =="}}]}}]}}] => $[0].from.steps[0].doTry.doCatch[0].onWhen.simple BadSimple 10
+[{"from":{"uri":"stream:in","steps":[{"doTry":{"steps":[],"doCatch":[{"exception":"E","steps":[],"onWhen":{"simple":{"expression":"${body} regex '('"}}}]}}]}}] => $[0].from.steps[0].doTry.doCatch[0].onWhen.simple.expression BadPattern 14
+[{"from":{"uri":"stream:in","steps":[{"filter":{"simple":"${body} regex '(' x","steps":[]}}]}}] => $[0].from.steps[0].filter.simple BadPattern 14
+[{"from":{"uri":"stream:in","steps":[{"filter":{"simple":"${body} regex '(' && ${boddy} == 'x'","steps":[]}}]}}] => $[0].from.steps[0].filter.simple BadPattern 14
+[{"from":{"uri":"stream:in","steps":[{"filter":{"simple":"${boddy} == 'x' && ${body} regex '('","steps":[]}}]}}] => $[0].from.steps[0].filter.simple UnknownFunction 0
+[{"from":{"uri":"stream:in","steps":[{"filter":{"simple":"${body} regex '('","steps":[{"shout":1}]}},{"shout":1}]}}] => $[0].from.steps[0].filter.simple BadPattern 14
+[{"from":{"uri":"stream:in","steps":[{"filter":{"simple":"${body} regex '('","steps":[1],"other":1}}]}}] => $[0].from.steps[0].filter UnknownKey other"#;
 
 /// Files of which the first pattern is refused for its size.
 pub const FIRST_PATTERN_REFUSED: &str =
@@ -292,7 +304,8 @@ pub const FIRST_PATTERN_REFUSED: &str =
 [{"from":{"uri":"direct:a","steps":[{"filter":{"simple":"${body} regex 'a'","steps":[]}}]}},{"from":{"uri":"direct:a"}}] => $[0].from.steps[0].filter.simple PatternTooLarge 14
 [{"from":{"uri":"direct:a","steps":[{"filter":{"simple":"${body} regex 'a'","steps":[]}}]}},{"rout":1}] => $[0].from.steps[0].filter.simple PatternTooLarge 14
 [{"rout":1},{"from":{"uri":"direct:a","steps":[{"filter":{"simple":"${body} regex 'a'","steps":[]}}]}}] => $[0] UnknownKey rout
-[{"route":{"from":{"steps":[{"filter":{"simple":"${body} == 'regex'","steps":[]}}],"uri":"stream:in"},"id":"r"}}] => [{"route":{"from":{"steps":[{"filter":{"simple":"${body} == 'regex'","steps":[]}}],"uri":"stream:in"},"id":"r"}}]"#;
+[{"route":{"from":{"steps":[{"filter":{"simple":"${body} == 'regex'","steps":[]}}],"uri":"stream:in"},"id":"r"}}] => [{"route":{"from":{"steps":[{"filter":{"simple":"${body} == 'regex'","steps":[]}}],"uri":"stream:in"},"id":"r"}}]
+[{"from":{"uri":"stream:in","steps":[{"doTry":{"steps":[],"doCatch":[{"exception":"E","steps":[],"onWhen":{"simple":"${body} regex 'a'"}}]}}]}}] => $[0].from.steps[0].doTry.doCatch[0].onWhen.simple PatternTooLarge 14"#;
 
 /// Files of which the second pattern is refused for its size.
 pub const SECOND_PATTERN_REFUSED: &str =
@@ -302,4 +315,5 @@ pub const SECOND_PATTERN_REFUSED: &str =
 [{"from":{"uri":"stream:in","steps":[{"filter":{"simple":"${body} regex 'a' && ${body} regex 'a'","steps":[]}}]}}] => $[0].from.steps[0].filter.simple PatternTooLarge 35
 [{"from":{"uri":"stream:in","steps":[{"filter":{"simple":"${body} regex '('","steps":[]}},{"filter":{"simple":"${body} regex 'a'","steps":[]}}]}}] => $[0].from.steps[0].filter.simple BadPattern 14
 [{"from":{"uri":"stream:in","steps":[{"choice":{"when":[{"simple":"${body} regex 'a'","steps":[]}],"otherwise":{"steps":[{"filter":{"simple":"${body} regex 'a'","steps":[]}}]}}}]}}] => $[0].from.steps[0].choice.when[0].simple PatternTooLarge 14
-[{"onException":{"exception":"E","steps":[{"filter":{"simple":"${body} regex 'a'","steps":[]}}]}},{"from":{"uri":"direct:a","steps":[{"filter":{"simple":"${body} regex 'a'","steps":[]}}]}}] => $[1].from.steps[0].filter.simple PatternTooLarge 14"#;
+[{"onException":{"exception":"E","steps":[{"filter":{"simple":"${body} regex 'a'","steps":[]}}]}},{"from":{"uri":"direct:a","steps":[{"filter":{"simple":"${body} regex 'a'","steps":[]}}]}}] => $[1].from.steps[0].filter.simple PatternTooLarge 14
+[{"from":{"uri":"stream:in","steps":[{"doTry":{"steps":[{"filter":{"simple":"${body} regex 'a'","steps":[]}}],"doCatch":[{"exception":"E","onWhen":{"simple":"${body} regex 'b'"},"steps":[]}]}}]}}] => $[0].from.steps[0].doTry.steps[0].filter.simple PatternTooLarge 14"#;
