@@ -1,11 +1,13 @@
 -- What is always true of a journal that keeps the rules, as a legal one does.
-use Rattle.std.specs.Prelude.{ℕ, ◌≡◌, ◌≢◌, ◌+◌, ◌<◌, ◌≤◌, ◌⊎◌, Bool, true, List, ◌∷◌, Some, None, is_some, length, filter, map}
+use Rattle.std.specs.Prelude.{ℕ, ◌≡◌, ◌≢◌, ◌+◌, ◌<◌, ◌≤◌, ◌⊎◌, Bool, true, false, List, ◌∷◌, Some, None, is_some, length, filter, map}
 use Rattle.std.specs.List.{flat_map}
 use Rattle.eip_frames.specs.declared.answer.Answer.{Answer as Reply}
 use Rattle.eip_frames.specs.declared.request.Request.TheVariants.{Idem}
+use Rattle.eip_frames.specs.Fits.{is_outside}
 use Rattle.eip_ledger.specs.declared.entry.Entry.{Entry}
 use Rattle.eip_ledger.specs.declared.entry.Kind.{Kind}
 use Rattle.eip_ledger.specs.declared.entry.Kind.TheVariants.{Answer, Return}
+use Rattle.eip_ledger.specs.declared.place.Place.TheVariants.{Ready}
 use Rattle.eip_history.specs.Counts.{completed_count, handled_count, failed_count, waiting_count, total_count}
 use Rattle.eip_history.specs.Laws.{PlanLaws}
 use Rattle.eip_history.specs.Own.{Past, turns}
@@ -13,9 +15,9 @@ use Rattle.eip_history.specs.Owner.{owner}
 use Rattle.eip_history.specs.Groups.{Group}
 use Rattle.eip_history.specs.Births.{Asked, asked, groups}
 use Rattle.eip_history.specs.Pieces.{Mark, marked, is_of_key}
-use Rattle.eip_history.specs.Place.{ended, hands}
+use Rattle.eip_history.specs.Place.{ended, hands, place}
 use Rattle.eip_history.specs.Plan.{Plan}
-use Rattle.eip_history.specs.Rules.{KeepsRules, IsBelow, Claim, claims, is_holding}
+use Rattle.eip_history.specs.Rules.{KeepsRules, IsBelow, MayAnswer, Claim, claims, is_holding}
 use Rattle.eip_history.specs.Keys.{IsKeyAnswer, is_eager_of}
 use Rattle.eip_history.specs.Stop.{stop_of}
 use Rattle.eip_history.specs.Work.{work}
@@ -25,6 +27,11 @@ use Rattle.eip_history.proofs.Waits.{Acts}
 abbrev pub SomebodyActs : Type 0
 SomebodyActs = (s : Plan) → PlanLaws s → (workers limit : ℕ) (past : Past) → KeepsRules s workers limit past → hands s past ≡ 0 → stop_of s limit past ≡ None
     → IsBelow s limit past × Acts s limit past
+
+-- each request of a Ready exchange that is none of the outside has an answer that may come, where turns are left
+abbrev pub InnerAnswered : Type 0
+InnerAnswered = (s : Plan) → PlanLaws s → (limit : ℕ) (past : Past) (x : ℕ) (k : Asked) → place s past x ≡ Some Ready → asked s past x ≡ Some k
+    → is_outside k.request ≡ false → IsBelow s limit past → (a : Reply) × MayAnswer s limit past 0 x a
 
 -- each entry but a Return is a turn, or there is less left to do behind it
 abbrev pub TurnOrProgress : Type 0

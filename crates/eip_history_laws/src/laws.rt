@@ -1,10 +1,14 @@
-ghost use Rattle.eip_history_laws.specs.Statements.{SomebodyActs, TurnOrProgress, EndsOnce, OneEagerHolder, KeysAnswered, HeldForEver, EachArrivalOnce, TotalsAddUp, OwnersAreWorkers};
+ghost use Rattle.eip_history_laws.specs.Statements.{SomebodyActs, InnerAnswered, TurnOrProgress, EndsOnce, OneEagerHolder, KeysAnswered, HeldForEver, EachArrivalOnce, TotalsAddUp, OwnersAreWorkers};
 
 /// No run gets stuck: where nobody holds anything and the run has no stop, there are turns left, and an exchange is Ready,
-/// or a queue or a source has something to give, or a moment is due, or groups are closed by force. So a request that
-/// the run answers itself is answered: its exchange is Ready. It does nothing.
+/// or a queue or a source has something to give, or a moment is due, or groups are closed by force. It does nothing.
 pub fn waiting_law()
     ensures { SomebodyActs }
+{}
+
+/// A request that the run answers itself can be answered as long as turns are left. It does nothing.
+pub fn answering_law()
+    ensures { InnerAnswered }
 {}
 
 /// Each legal entry is a turn or leaves less to do, but for one that hands an exchange back. It does nothing.
