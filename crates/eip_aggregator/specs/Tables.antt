@@ -7,7 +7,7 @@ use Rattle.std.specs.Map.{lookup}
 use Rattle.std.specs.Option.{unwrap_or}
 use Rattle.std.specs.BTreeSet.{BTreeSet, contains}
 use Rattle.eip_exchange.specs.declared.message.Message.{Message}
-use Rattle.eip_exchange.specs.Keys.{writes}
+use Rattle.eip_aggregator.specs.Keys.{writes}
 use Rattle.eip_ordered.specs.Numbered.{value_at, Puts}
 use Rattle.eip_exchange.specs.declared.setting.Strategy.{Strategy}
 use Rattle.eip_frames.specs.declared.answer.Completion.{Completion}

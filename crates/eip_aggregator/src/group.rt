@@ -315,7 +315,7 @@ fn take_part(
         Ok(cause) => Ok(cause),
         Err(_) => {
             message.properties = unlabelled;
-            undo.apply(alloc, message);
+            undo.apply(message);
             Err(ArriveFault::NoMemory)
         }
     }

@@ -30,6 +30,7 @@ use eip_exchange::{End, Ending, Message};
 use eip_frames::Answer;
 use eip_join::Joins;
 use eip_ledger::{Entry, Journal, Kind, Note, Place, Refused, Stop};
+use eip_redelivery::Retries;
 use eip_route::RouteSet;
 use eip_rows::look::{first_look, offered_birth};
 use eip_rows::rows::Rows;
@@ -65,6 +66,8 @@ pub struct Books {
     pub(crate) live: u64,
     pub(crate) queues: Queues,
     pub(crate) joins: Joins,
+    pub(crate) clock: u64,
+    pub(crate) sleepers: Retries,
     pub(crate) room: u64,
 }
 
@@ -116,6 +119,8 @@ impl Books {
             live: 0,
             queues,
             joins: Joins::new(alloc),
+            clock: 0,
+            sleepers: Retries::new(alloc),
             room: 0,
         })
     }
@@ -438,6 +443,10 @@ impl Books {
                 self.join(worker, number)?;
                 Ok(Inner::Did)
             }
+            Asked::Moment => {
+                self.wait(worker, number)?;
+                Ok(Inner::Did)
+            }
             Asked::End => {
                 self.finish(worker, number)?;
                 Ok(Inner::Did)
@@ -482,14 +491,14 @@ impl Books {
         ensures none { IfNone result (self.now.outside ≡ []) }
         ensures legal { IsLegalRun self.now }
     {
-        self.rows.first_wanted(self.ready.numbers(), true)
+        self.rows.first_wanted(&self.ready, true)
     }
 
     /// The least number of a Ready exchange that is not known as Outside.
     pub fn unlooked(&self) -> Option<u64>
         ensures { result ≡ first (unlooked_numbers self.now.outside (ready_numbers (plan self.now) self.now.journal.past)) }
     {
-        self.rows.first_wanted(self.ready.numbers(), false)
+        self.rows.first_wanted(&self.ready, false)
     }
 
     /// A worker takes an exchange that is known as Outside in hand.

@@ -4,6 +4,7 @@
 pub mod books;
 mod ends;
 mod parts;
+mod sleep;
 pub mod ticket;
 
 pub use books::Books;

@@ -1,5 +1,5 @@
 -- Who acts next in the plain schedule, by what is known of a past.
-use Rattle.std.proofs.Common.{◌≡◌, ◌≢◌, ℕ, zero, suc, ◌+◌, ◌<◌, ◌==◌, ◌&&◌, not, Bool, true, false, List, [], ◌∷◌, ◌++◌, Some, None, filter, map, refl, sym, ap, subst, ◌∙◌, arith, cond, ◌⊎◌, inl, inr, eq-eqb}
+use Rattle.std.proofs.Common.{◌≡◌, ◌≢◌, ℕ, zero, suc, ◌+◌, ◌<◌, ◌==◌, ◌&&◌, not, Bool, true, false, List, [], ◌∷◌, ◌++◌, Option, Some, None, is_some, filter, map, refl, sym, ap, subst, ◌∙◌, arith, cond, ◌⊎◌, inl, inr, eq-eqb}
 use Rattle.std.specs.List.{slice_get}
 use Rattle.std.proofs.lemmas.Bool.{ne_eqb, cases_Bool, eqb-true}
 use Rattle.std.proofs.lemmas.List.{append-nil}
@@ -10,10 +10,11 @@ use Rattle.eip_ledger.specs.declared.place.Place.{Place}
 use Rattle.eip_ledger.specs.declared.place.Place.TheVariants as place_is
 use Rattle.eip_history.specs.Plan.{Plan}
 use Rattle.eip_history.specs.Own.{Past, SourceState, Idle, Out, Done, numbers_below, source_state, is_out, is_done, numbered}
-use Rattle.eip_history.specs.Births.{births}
+use Rattle.eip_history.specs.Births.{births, groups}
 use Rattle.eip_history.specs.Place.{place, place_of, numbers_at, number_of, ready_numbers, is_held, is_taken, pulls_out, takes_out, hands, end_of}
-use Rattle.eip_history.specs.Rules.{KeepsRules, May, IsSource, IsBelow, first, unfinished, startable}
-use Rattle.eip_history.specs.Stop.{Actor, TheExchange, TheSource, TheQueue, first_or, actor}
+use Rattle.eip_history.specs.Rules.{KeepsRules, May, IsSource, IsBelow, IsQuiet, first, unfinished, startable, dues, least, any_group}
+use Rattle.eip_history.specs.Groups.{is_forced}
+use Rattle.eip_history.specs.Stop.{Actor, TheExchange, TheSource, TheQueue, TheClock, TheForce, Nobody, first_or, actor}
 use Rattle.eip_history.specs.Laws.{PlanLaws}
 use Rattle.eip_history.specs.Tables.{put_in}
 use Rattle.eip_history.proofs.Stuck.{none-at, none-from, length-none, below-none}
@@ -89,6 +90,21 @@ module _ (s : Plan) (past : Past) where
       ∙ (none-acts (ready_numbers s past) TheExchange _ (first-none (ready_numbers s past) ready)
       ∙ (none-acts (startable s past) TheQueue _ (first-none (startable s past) queues)
       ∙ first-acts (unfinished s past) TheSource _ t h)))
+
+module _ (s : Plan) (past : Past) where
+  -- where nobody may act, and somebody is due, the clock acts
+  pub actor-clock : (t : ℕ) → IsQuiet s past → least (dues s past) ≡ Some t → actor s past ≡ TheClock
+  unfolding actor
+  actor-clock t quiet h =
+      let home = quiet.no_hand in
+      let pulls : pulls_out s past ≡ 0 = omega (arith, home) in
+      let takes : takes_out s past ≡ 0 = omega (arith, home) in
+      none-acts (numbers_at s past is_held) TheExchange _ (held-none s past takes)
+      ∙ (none-acts (numbers_below (λ u. is_out (source_state u past)) s.routes) TheSource _ (out-none s past pulls)
+      ∙ (none-acts (ready_numbers s past) TheExchange _ quiet.none_ready
+      ∙ (none-acts (startable s past) TheQueue _ quiet.none_startable
+      ∙ (none-acts (unfinished s past) TheSource _ quiet.sources_done
+      ∙ ap (λ (o : Option ℕ). cond (is_some o) TheClock (cond (any_group (is_forced s) (groups s past)) TheForce Nobody)) h))))
 
 -- ---- behind a Pull and behind a Take
 

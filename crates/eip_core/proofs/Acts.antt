@@ -11,7 +11,7 @@ use Rattle.eip_frames.specs.declared.answer.Answer.{Answer as Reply}
 use Rattle.eip_frames.specs.Fits.{is_outside}
 use Rattle.eip_ledger.specs.declared.entry.Entry.{Entry}
 use Rattle.eip_ledger.specs.declared.entry.Kind.{Kind}
-use Rattle.eip_ledger.specs.declared.entry.Kind.TheVariants.{Pull, Accept, Refuse, SourceEnd, SourceFault, Start, Answer, Starve, Return}
+use Rattle.eip_ledger.specs.declared.entry.Kind.TheVariants.{Pull, Accept, Refuse, SourceEnd, SourceFault, Start, Answer, Tick, Starve, Return}
 use Rattle.eip_ledger.specs.declared.place.Place.TheVariants as place_is
 use Rattle.eip_endpoint.specs.Lanes.{LaneView, LanesGrew}
 use Rattle.eip_exchange.specs.declared.message.Message.{Message}
@@ -38,10 +38,10 @@ use Rattle.eip_tables.specs.Places.{inner_of}
 use Rattle.eip_core.specs.Doors.{inlet_at, uri_at}
 use Rattle.eip_core.specs.Outside.{seen_answers, refusal_of, pulls_in}
 use Rattle.eip_core.specs.Drain.{Acts, Chosen, Drains, Progresses, Rests, doors}
-use Rattle.eip_core.proofs.Actors.{actor-ready, actor-queue, actor-source, actor-out, unfinished-first, first-pullable}
+use Rattle.eip_core.proofs.Actors.{actor-ready, actor-queue, actor-source, actor-clock, actor-out, unfinished-first, first-pullable}
 use Rattle.eip_core.proofs.Progress.{progress-one, progress-trans}
-use Rattle.eip_core.proofs.Quiet.{next-source}
-use Rattle.eip_core.proofs.Home.{home-answer, home-starve, home-start, hand-pull, back-pull, ready-place}
+use Rattle.eip_core.proofs.Quiet.{next-moment}
+use Rattle.eip_core.proofs.Home.{home-answer, home-starve, home-start, home-tick, hand-pull, back-pull, ready-place}
 use Rattle.eip_core.proofs.Compose.{drains-refl, drains-add, drains-none}
 
 -- what holds of the set, the limit and the past stands behind a call that made no entry
@@ -60,13 +60,6 @@ pub rests-below : (v : BooksView) → Rests v → IsBelow (plan v) v.journal.tur
 rests-below v r = (waits-below (plan v) v.journal.workers v.journal.turns v.journal.past r.legal.entries r.home r.waits).1
 
 -- ---- a pull and what came of it
-
--- with nobody Ready and no queue startable some source may be pulled
-pub pullable : (v : BooksView) → Rests v → first (ready_numbers (plan v) v.journal.past) ≡ None → first (startable (plan v) v.journal.past) ≡ None
-    → (t : ℕ) × May (plan v) v.journal.turns v.journal.past 0 (Pull t)
-pullable v r nobody no_queue =
-    let n = next-source (plan v) v.journal.workers v.journal.turns v.journal.past r.legal.entries r.simple (plan-laws v.set) r.home r.waits nobody no_queue in
-    (n.0, first-pullable (plan v) v.journal.turns 0 v.journal.past n.0 r.home (rests-below v r) n.1)
 
 -- the source that was pulled
 pub record Pulled (u v : BooksView) (t : ℕ) : Type 0 where
@@ -228,6 +221,33 @@ pub no-acts : (o : Option ℕ) (u : List ℕ) → acts_by o u [] ≡ []
 no-acts None u = refl
 no-acts (Some k) u = refl
 
+-- ---- a tick
+
+-- with nobody Ready, no queue startable and no source to be pulled the clock may move on
+pub tickable : (v : BooksView) → Rests v → first (ready_numbers (plan v) v.journal.past) ≡ None → first (startable (plan v) v.journal.past) ≡ None
+    → ((t : ℕ) → May (plan v) v.journal.turns v.journal.past 0 (Pull t) → ⊥) → (t : ℕ) × May (plan v) v.journal.turns v.journal.past 0 (Tick t)
+tickable v r nobody no_queue no_source =
+    let below = rests-below v r in
+    let n = next-moment (plan v) v.journal.workers v.journal.turns v.journal.past r.legal.entries r.simple (plan-laws v.set) r.home r.waits nobody no_queue
+    (λ t h. no_source t (first-pullable (plan v) v.journal.turns 0 v.journal.past t r.home below h)) in
+    (n.0, (n.1, below, n.2))
+
+-- a tick that came
+pub record Ticked (u v : BooksView) : Type 0 where
+  pub home : hands (plan u) u.journal.past ≡ 0
+  pub moment : ℕ
+  pub may : May (plan u) u.journal.turns u.journal.past 0 (Tick moment)
+  pub adds : Adds u v 0 (Tick moment)
+  pub legal : IsLegalRun v
+
+pub ticked : {u v : BooksView} → Rests u → ((t : ℕ) × May (plan u) u.journal.turns u.journal.past 0 (Tick t) × Adds u v 0 (Tick t)) → IsLegalRun v → Ticked u v
+ticked rests came legal = record { home = rests.home; moment = came.0; may = came.1; adds = came.2; legal = legal }
+
+pub drains-ticked : {u v : BooksView} (l : List LaneView) (i : List InletView) → Ticked u v → Drains u v l l i i
+drains-ticked {u} {v} l i t =
+    drains-add (drains-refl u l i) t.adds (LanesGrew-none 0 l) (InletsGrew-none 0 i)
+    (subst (λ (b : Actor). IsTrue (is_of b (Tick t.moment))) (sym (actor-clock (plan u) u.journal.past t.moment t.may.0 t.may.2)) refl)
+
 -- ---- an exchange that is answered by the hub, or starved
 
 pub chosen-none : {u v : BooksView} {x : ℕ} → AddsNone u v → Chosen u x → Chosen v x
@@ -246,6 +266,15 @@ added-legal {u} {v} {n} {k} a legal =
     (subst (λ (m : ℕ). KeepsRules (plan u) u.journal.workers m v.journal.past) a.same.turns
     (subst (λ (m : ℕ). KeepsRules (plan u) m v.journal.turns v.journal.past) a.same.workers
     (subst (λ (s : RouteSet). KeepsRules (plan_of s) v.journal.workers v.journal.turns v.journal.past) a.same.set legal.entries)))
+
+pub acts-ticked : {u v : BooksView} → Ticked u v → Acts u v
+acts-ticked {u} {v} t =
+    let here = added-legal t.adds t.legal in
+    record {
+      home = rw (t.adds.same.set, t.adds.past) (home-tick (plan u) u.journal.workers u.journal.turns 0 u.journal.past t.moment here t.home);
+      progress = rw (t.adds.same.set, t.adds.past)
+          (progress-one (plan u) (plan-laws u.set) u.journal.workers u.journal.turns 0 (Tick t.moment) u.journal.past here (λ x h. cc h));
+    }
 
 -- ---- a queue that starts its first exchange
 

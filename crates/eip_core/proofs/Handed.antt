@@ -1,4 +1,4 @@
--- Where a set is served, its sources have their inlets, and the lanes that it names are handed in.
+-- Where a set is served it can be run: its sources have their inlets, and the lanes that it names are handed in.
 use Rattle.std.proofs.Common.{◌≡◌, ℕ, zero, suc, true, false, List, [], ◌∷◌, Option, Some, None, ◌⊎◌, inl, inr, subst}
 use Rattle.std.specs.Option.{IsSome, is_some}
 use Rattle.std.specs.List.{slice_get}
@@ -11,7 +11,7 @@ use Rattle.eip_route.specs.declared.route.Route.{Route}
 use Rattle.eip_route.specs.declared.route.RouteSet.{RouteSet}
 use Rattle.eip_endpoint.specs.Lanes.{first_named}
 use Rattle.eip_plan.specs.Plan.{plan_of, is_source_route}
-use Rattle.eip_core.specs.Doors.{inlet_named, inlet_at, HasInlets, HasLanes}
+use Rattle.eip_core.specs.Doors.{inlet_named, inlet_at, HasInlets, CanRun}
 use Rattle.eip_core.specs.Served.{is_served_inlet, is_served_route, is_served_lane, are_served_routes, are_served_lanes}
 
 lane-handed : (lanes names : List (List ℕ)) → are_served_lanes lanes names ≡ true → (name : List ℕ) → is_among name names ≡ true → IsSome (first_named name lanes)
@@ -37,8 +37,8 @@ unfolding plan_of
 inlets-handed inlets set h t source = route-handed inlets set.routes h t source.1
 
 pub served-handed : (lanes inlets : List (List ℕ)) (set : RouteSet) (rs : List Route) (names : List (List ℕ)) → rs ≡ set.routes → names ≡ set.names.lanes
-    → are_served_routes inlets rs ≡ true → are_served_lanes lanes names ≡ true → HasInlets set inlets × HasLanes set lanes
-served-handed lanes inlets set rs names of_routes of_names inlets_in lanes_in = (
-  inlets-handed inlets set (subst (λ (xs : List Route). are_served_routes inlets xs ≡ true) of_routes inlets_in),
-  λ name a. lane-handed lanes set.names.lanes (subst (λ (ns : List (List ℕ)). are_served_lanes lanes ns ≡ true) of_names lanes_in) name a,
-)
+    → are_served_routes inlets rs ≡ true → are_served_lanes lanes names ≡ true → CanRun set lanes inlets
+served-handed lanes inlets set rs names of_routes of_names inlets_in lanes_in = record {
+  has_inlets = inlets-handed inlets set (subst (λ (xs : List Route). are_served_routes inlets xs ≡ true) of_routes inlets_in);
+  has_lanes = λ name a. lane-handed lanes set.names.lanes (subst (λ (ns : List (List ℕ)). are_served_lanes lanes ns ≡ true) of_names lanes_in) name a;
+}

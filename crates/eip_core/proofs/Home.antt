@@ -6,7 +6,7 @@ use Rattle.eip_exchange.specs.declared.birth.Birth.{Birth}
 use Rattle.eip_frames.specs.declared.answer.Answer.{Answer as Reply}
 use Rattle.eip_ledger.specs.declared.entry.Entry.{Entry}
 use Rattle.eip_ledger.specs.declared.entry.Kind.{Kind}
-use Rattle.eip_ledger.specs.declared.entry.Kind.TheVariants.{Pull, Start, Take, Answer, Starve}
+use Rattle.eip_ledger.specs.declared.entry.Kind.TheVariants.{Pull, Start, Take, Answer, Tick, Starve}
 use Rattle.eip_ledger.specs.declared.place.Place.{Place}
 use Rattle.eip_ledger.specs.declared.place.Place.TheVariants as place_is
 use Rattle.eip_history.specs.Plan.{Plan}
@@ -15,7 +15,7 @@ use Rattle.eip_history.specs.Births.{births}
 use Rattle.eip_history.specs.Place.{place, place_of, hands, is_taken, is_ready, ready_numbers, numbers_at, number_of}
 use Rattle.eip_history.specs.Rules.{KeepsRules, IsSource, first}
 use Rattle.eip_history.specs.Tables.{AreNumberedFrom, bit}
-use Rattle.eip_history.proofs.Limit.{within-own, within-source, within-take, within-pull, in-hand-taken, not-same}
+use Rattle.eip_history.proofs.Limit.{within-own, within-source, within-take, within-pull, within-none, in-hand-taken, not-same}
 use Rattle.eip_history.proofs.Unborn.{place-born, entry-born, legal-may}
 use Rattle.eip_history.proofs.Told.{births-numbered}
 
@@ -42,6 +42,10 @@ module _ (s : Plan) (w limit v : ℕ) (past : Past) where
       let b = entry-born s limit past v x (Start q x) (legal-may s w limit e past legal) (eq-eqb x x refl) in
       let h = within-own s w limit v x (Start q x) past b.0 legal b.1 (λ y ne. not-same y x ne) (eq-eqb x x refl) refl (λ u was. refl) in
       omega (arith, h, home)
+
+  -- nor does a tick
+  pub home-tick : (t : ℕ) → KeepsRules s w limit ((record { worker = v; kind = Tick t }) ∷ past) → hands s past ≡ 0 → hands s ((record { worker = v; kind = Tick t }) ∷ past) ≡ 0
+  home-tick t legal home = let h = within-none s w limit v (Tick t) past legal (λ x. refl) (λ u was. refl) in omega (arith, h, home)
 
   -- behind a Take one hand is out
   pub hand-take : (x : ℕ) (p : Place) → KeepsRules s w limit ((record { worker = v; kind = Take x }) ∷ past) → hands s past ≡ 0 → place s past x ≡ Some p

@@ -5,6 +5,7 @@ pub mod Quiet
 pub mod Compose
 pub mod Home
 pub mod Acts
-pub mod Sends
+pub mod Askable
+pub mod Asking
 pub mod Serving
 pub mod Turns

@@ -1,25 +1,21 @@
--- An exchange that is served by a lane: it is taken in hand, a call is made, and the answer is entered.
-use Rattle.std.proofs.Common.{◌≡◌, ◌≢◌, ℕ, zero, suc, ◌+◌, ◌<◌, ◌≤◌, ◌==◌, ◌||◌, Bool, true, false, IsTrue, List, [], ◌∷◌, Option, Some, None, map, filter, Result, Ok, Err, refl, sym, ap, subst, ◌∙◌, ◌⊎◌, inl, inr, arith, eq-eqb, nat_lt}
+-- An exchange that is served by somebody outside: it is taken in hand, a call is made, and the answer is entered.
+use Rattle.std.proofs.Common.{◌≡◌, ℕ, zero, suc, ◌+◌, ◌<◌, ◌≤◌, ◌==◌, ◌||◌, Bool, true, false, IsTrue, List, [], ◌∷◌, Option, Some, None, map, filter, Result, Ok, Err, refl, sym, ap, subst, ◌∙◌, ◌⊎◌, inl, inr, arith, eq-eqb, nat_lt}
 use Rattle.std.specs.List.{slice_get}
 use Rattle.std.proofs.lemmas.Bool.{cases_Bool, ltb-true, ltb-false}
 use Rattle.std.proofs.lemmas.List.{append-nil}
-use Rattle.eip_exchange.specs.declared.birth.Origin.{Origin}
-use Rattle.eip_exchange.specs.declared.birth.Origin.TheVariants as from
+use Rattle.eip_text.specs.declared.memory.NoMemory.{NoMemory}
 use Rattle.eip_exchange.specs.declared.birth.Birth.{Birth}
+use Rattle.eip_exchange.specs.declared.birth.Origin.{Origin}
 use Rattle.eip_route.specs.declared.route.RouteSet.{RouteSet}
 use Rattle.eip_frames.specs.declared.request.Request.{Request}
-use Rattle.eip_frames.specs.declared.request.Request.TheVariants as request
 use Rattle.eip_frames.specs.declared.answer.Answer.{Answer as Reply}
-use Rattle.eip_frames.specs.declared.answer.Answer.TheVariants as reply
-use Rattle.eip_frames.specs.Fits.{is_outside}
+use Rattle.eip_frames.specs.Fits.{fits, is_outside}
 use Rattle.eip_ledger.specs.declared.entry.Kind.{Kind}
 use Rattle.eip_ledger.specs.declared.entry.Kind.TheVariants.{Take, Answer, Starve}
 use Rattle.eip_ledger.specs.declared.place.Place.TheVariants as place_is
-use Rattle.eip_endpoint.specs.declared.endpoint.SendFault.{SendFault}
-use Rattle.eip_endpoint.specs.declared.endpoint.SendFault.TheVariants as fault
-use Rattle.eip_endpoint.specs.Lanes.{LaneView, LanesGrew, first_named, lane_names}
-use Rattle.eip_endpoint.specs.Inlets.{InletView, InletsGrew, inlet_names}
-use Rattle.eip_endpoint.specs.Outside.{Doors, lane_of, calls, calls_by, calls_for, commits, commits_for}
+use Rattle.eip_endpoint.specs.Lanes.{LaneView, LanesGrew}
+use Rattle.eip_endpoint.specs.Inlets.{InletView, InletsGrew}
+use Rattle.eip_endpoint.specs.Outside.{Doors, calls, calls_for, commits, commits_for}
 use Rattle.eip_endpoint.proofs.LaneLaws.{LanesGrew-none}
 use Rattle.eip_endpoint.proofs.InletLaws.{InletsGrew-none}
 use Rattle.eip_history.specs.Plan.{Plan}
@@ -37,15 +33,16 @@ use Rattle.eip_plan.specs.Plan.{plan_of}
 use Rattle.eip_plan.proofs.Laws.{plan-laws}
 use Rattle.eip_books.specs.View.{BooksView, plan, IsLegalRun, Adds}
 use Rattle.eip_tables.specs.Outside.{is_among, with_number, IsAsked}
-use Rattle.eip_core.specs.Doors.{doors_of, HasLanes, TellsNone}
-use Rattle.eip_core.specs.Outside.{seen_answers, calls_sent, is_of_registry, IsSendable}
-use Rattle.eip_core.specs.Drain.{Acts, Chosen, Drains, Progresses, doors}
+use Rattle.eip_history.specs.BookText.{origin_at}
+use Rattle.eip_core.specs.Doors.{CanRun}
+use Rattle.eip_core.specs.Outside.{Asks, IsAskable, seen_answers}
+use Rattle.eip_core.specs.Drain.{Acts, AsksFor, Chosen, Drains, Progresses, doors}
 use Rattle.eip_core.proofs.Actors.{actor-taken}
 use Rattle.eip_core.proofs.Progress.{progress-one, progress-trans}
 use Rattle.eip_core.proofs.Home.{hand-take, back-answer, back-starve}
 use Rattle.eip_core.proofs.Compose.{drains-refl, drains-add, drains-still}
-use Rattle.eip_core.proofs.Sends.{asked-sendable}
 use Rattle.eip_core.proofs.Acts.{chosen-ready, chosen-acts, added-legal}
+use Rattle.eip_core.proofs.Askable.{asked-askable, asked-origin}
 
 -- ---- which exchange is taken
 
@@ -151,25 +148,25 @@ answered-calls d a t =
     ap (λ o. calls d (seen_answers (served_by 0 o a))) t.asks.1.0
     ∙ (append-nil (calls_for d t.asks.0.request a) ∙ ap (λ r. calls_for d r a) t.asks.1.1)
 
--- an answer to a send tells no source of an end
-send-commits : (d : Doors) (names : List (List ℕ)) (o : Origin) (q : Request) (a : Reply) → IsSendable names q → commits_for d o q a ≡ []
-send-commits d names (from.Source r item) (request.Send t m) a h = refl
-send-commits d names _ (request.Send t m) a h = refl
-send-commits d names _ _ a h = absurd h
-
-answered-commits : {u v : BooksView} {n : ℕ} {q : Request} (d : Doors) (names : List (List ℕ)) (a : Reply) → Taken u v n q → IsSendable names q
-    → commits d (seen_answers (served_in (plan v) v.journal.past 0 (Answer n a))) ≡ []
-answered-commits {u} {v} {n} {q} d names a t h =
+answered-commits : {u v : BooksView} {n : ℕ} {q : Request} (d : Doors) (a : Reply) → (t : Taken u v n q)
+    → commits d (seen_answers (served_in (plan v) v.journal.past 0 (Answer n a))) ≡ commits_for d t.asks.0.birth.origin q a
+answered-commits d a t =
     ap (λ o. commits d (seen_answers (served_by 0 o a))) t.asks.1.0
-    ∙ (append-nil (commits_for d t.asks.0.birth.origin t.asks.0.request a)
-    ∙ (ap (λ r. commits_for d t.asks.0.birth.origin r a) t.asks.1.1 ∙ send-commits d names t.asks.0.birth.origin q a h))
+    ∙ (append-nil (commits_for d t.asks.0.birth.origin t.asks.0.request a) ∙ ap (λ r. commits_for d t.asks.0.birth.origin r a) t.asks.1.1)
 
-pub drains-answered : {u v w : BooksView} {n : ℕ} {q : Request} (a : Reply) (l m : List LaneView) (i : List InletView) (names : List (List ℕ)) → Taken u v n q → Adds v w 0 (Answer n a)
-    → IsSendable names q → LanesGrew 0 (calls_for (doors v l i) q a) l m → Drains u w l m i i
-drains-answered {u} {v} {w} {n} {q} a l m i names t adds sendable grew =
+-- what somebody outside did for a taken exchange
+taken-asks : {u v : BooksView} {n : ℕ} {q : Request} {r : Result Reply NoMemory} {l m : List LaneView} {i j : List InletView} → (t : Taken u v n q) → AsksFor v n q r l m i j
+    → Asks v.set t.asks.0.birth.origin q r l m i j
+taken-asks {u} {v} {n} t asks = asks t.asks.0.birth.origin (asked-origin (plan v) v.journal.past n t.asks.0 t.asks.1.0)
+
+-- its answer is entered
+pub drains-answered : {u v w : BooksView} {n : ℕ} {q : Request} {l m : List LaneView} {i j : List InletView} (a : Reply) → Taken u v n q → Adds v w 0 (Answer n a)
+    → AsksFor v n q (Ok a) l m i j → Drains u w l m i j
+drains-answered {u} {v} {w} {n} {q} {l} {m} {i} {j} a t adds asks =
+    let made = taken-asks t asks in
     drains-add (drains-taken l i t) adds
-    (subst (λ js. LanesGrew 0 js l m) (sym (answered-calls (doors v l i) a t)) grew)
-    (subst (λ js. InletsGrew 0 js i i) (sym (answered-commits (doors v l i) names a t sendable)) (InletsGrew-none 0 i)) (acts-held (Answer n a) t (eq-eqb n n refl))
+    (subst (λ js. LanesGrew 0 js l m) (sym (answered-calls (doors v l i) a t)) made.lanes)
+    (subst (λ js. InletsGrew 0 js i j) (sym (answered-commits (doors v l i) a t)) made.inlets) (acts-held (Answer n a) t (eq-eqb n n refl))
 
 pub acts-answered : {u v w : BooksView} {n : ℕ} {q : Request} (a : Reply) → Taken u v n q → Adds v w 0 (Answer n a) → IsLegalRun w → Acts u w
 acts-answered {u} {v} {w} {n} a t adds legal =
@@ -180,12 +177,19 @@ acts-answered {u} {v} {w} {n} a t adds legal =
           (progress-trans (first-progress t) (progress-one (plan v) (plan-laws v.set) v.journal.workers v.journal.turns 0 (Answer n a) v.journal.past here (λ y h. cc h)));
     }
 
+-- the answer fits what was asked
+pub answered-fits : {u v : BooksView} {n : ℕ} {q : Request} {l m : List LaneView} {i j : List InletView} (a : Reply) → Taken u v n q → AsksFor v n q (Ok a) l m i j → fits q a ≡ true
+answered-fits a t asks = (taken-asks t asks).fitting
+
 -- ---- given up
 
-pub drains-given_up : {u v w : BooksView} {n : ℕ} {q : Request} (l m : List LaneView) (i : List InletView) → Taken u v n q → Adds v w 0 (Starve n) → LanesGrew 0 [] l m → Drains u w l m i i
-drains-given_up {u} {v} {w} {n} l m i t adds grew =
-    drains-add (drains-still (drains-taken l i t) grew (InletsGrew-none 0 i)) adds
-    (LanesGrew-none 0 m) (InletsGrew-none 0 i) (acts-held (Starve n) t (eq-eqb n n refl))
+-- nobody answered, and nothing was done
+pub drains-given_up : {u v w : BooksView} {n : ℕ} {q : Request} {l m : List LaneView} {i j : List InletView} {none : NoMemory} → Taken u v n q → Adds v w 0 (Starve n)
+    → AsksFor v n q (Err none) l m i j → Drains u w l m i j
+drains-given_up {u} {v} {w} {n} {q} {l} {m} {i} {j} t adds asks =
+    let made = taken-asks t asks in
+    drains-add (drains-still (drains-taken l i t) made.lanes made.inlets) adds
+    (LanesGrew-none 0 m) (InletsGrew-none 0 j) (acts-held (Starve n) t (eq-eqb n n refl))
 
 pub acts-given_up : {u v w : BooksView} {n : ℕ} {q : Request} → Taken u v n q → Adds v w 0 (Starve n) → IsLegalRun w → Acts u w
 acts-given_up {u} {v} {w} {n} t adds legal =
@@ -196,43 +200,6 @@ acts-given_up {u} {v} {w} {n} t adds legal =
           (progress-trans (first-progress t) (progress-one (plan v) (plan-laws v.set) v.journal.workers v.journal.turns 0 (Starve n) v.journal.past here (λ y h. cc h)));
     }
 
--- ---- the call
-
--- what is asked behind the Take, of the outside and not of the registry, is a send to one of the lanes
-pub taken-sendable : {u v : BooksView} {n : ℕ} {q : Request} (lanes : List (List ℕ)) → Taken u v n q → HasLanes u.set lanes → TellsNone u.set → is_outside q ≡ true
-    → is_of_registry q ≡ false → IsSendable lanes q
-taken-sendable {u} {v} {n} {q} lanes t has none outside other =
-    let k = t.asks.0 in
-    let o : is_outside k.request ≡ true = ap is_outside t.asks.1.1 ∙ outside in
-    let r : is_of_registry k.request ≡ false = ap is_of_registry t.asks.1.1 ∙ other in
-    subst (IsSendable lanes) t.asks.1.1
-    (asked-sendable lanes v.set (subst (λ (s : RouteSet). HasLanes s lanes) (sym t.adds.same.set) has) (subst TellsNone (sym t.adds.same.set) none) v.journal.past n k t.asks.1.0 o r)
-
--- the answer that is entered for what a call came to
-abbrev pub answer_of : Result Unit SendFault → Reply
-answer_of (Ok u) = reply.Done
-answer_of (Err fault.Failed) = reply.SendFailed
-answer_of (Err fault.Exists) = reply.Exists
-answer_of (Err fault.NoMemory) = reply.Done
-
--- a call that was made is the one that its answer tells of
-pub calls-match : (set : RouteSet) (names inlets : List (List ℕ)) (q : Request) (a : Reply) (r : Result Unit SendFault) → IsSendable names q → r ≢ Err fault.NoMemory → a ≡ answer_of r
-    → calls_sent names q r ≡ calls_for (doors_of set names inlets) q a
-calls-match set names inlets (request.Send t m) a (Ok u) h made e = rw e refl
-calls-match set names inlets (request.Send t m) a (Err fault.Failed) h made e = rw e refl
-calls-match set names inlets (request.Send t m) a (Err fault.Exists) h made e = rw e refl
-calls-match set names inlets (request.Send t m) a (Err fault.NoMemory) h made e = absurd (made refl)
-calls-match set names inlets _ a r h made e = absurd h
-
-no-call : (o : Option ℕ) → calls_by o [] ≡ []
-no-call None = refl
-no-call (Some k) = refl
-
--- a call that found no memory is none
-pub calls-none : (names : List (List ℕ)) (q : Request) → calls_sent names q (Err fault.NoMemory) ≡ []
-calls-none names (request.Send t m) = no-call (first_named (lane_of t) names)
-calls-none names _ = refl
-
 -- what a take gave, where the least Ready exchange is known to wait for somebody outside
 pub taken : {u v : BooksView} {x n : ℕ} {q : Request} → Chosen u x → is_among x u.outside ≡ true
     → place (plan u) u.journal.past n ≡ Some place_is.Ready → ((y : ℕ) → y < n → is_among y u.outside ≡ false) → Adds u v 0 (Take n)
@@ -241,18 +208,27 @@ taken {u} {v} {x} {n} {q} chosen known ready least adds held asks legal =
     let same = taken-number (plan u) u.journal.past x n u.outside chosen.least known ready least in
     record { chosen = record { rests = chosen.rests; least = chosen.least ∙ ap Some (sym same) }; adds = adds; held = held; asks = asks; legal = legal }
 
--- the call that was made is what the entry of its answer says
-pub grew-answered : (set : RouteSet) (inlets : List (List ℕ)) (q : Request) (a : Reply) (r : Result Unit SendFault) (l m : List LaneView) → IsSendable (lane_names l) q → r ≢ Err fault.NoMemory
-    → a ≡ answer_of r → LanesGrew 0 (calls_sent (lane_names l) q r) l m → LanesGrew 0 (calls_for (doors_of set (lane_names l) inlets) q a) l m
-grew-answered set inlets q a r l m sendable made e grew =
-    subst (λ js. LanesGrew 0 js l m) (calls-match set (lane_names l) inlets q a r sendable made e) grew
+-- ---- the call
 
--- a call that found no memory left the lanes
-pub grew-none : (names : List (List ℕ)) (q : Request) (l m : List LaneView) → LanesGrew 0 (calls_sent names q (Err fault.NoMemory)) l m → LanesGrew 0 [] l m
-grew-none names q l m grew = subst (λ js. LanesGrew 0 js l m) (calls-none names q) grew
+-- what an exchange asks of the outside can be asked for it, wherever it came from
+pub askable : (v : BooksView) (x : ℕ) (q : Request) (o : Origin) (lanes inlets : List (List ℕ)) → IsAsked (plan v) v.journal.past x q → is_outside q ≡ true
+    → CanRun v.set lanes inlets → Some o ≡ origin_at (plan v) v.journal.past x → IsAskable v.set lanes inlets o q
+askable v x q o lanes inlets asks outside can from =
+    let k = asks.0 in
+    let both : Some o ≡ Some k.birth.origin = from ∙ asked-origin (plan v) v.journal.past x k asks.1.0 in
+    let same : o ≡ k.birth.origin = cc in
+    subst (λ (p : Origin). IsAskable v.set lanes inlets p q) (sym same)
+    (subst (λ (r : Request). IsAskable v.set lanes inlets k.birth.origin r) asks.1.1
+    (asked-askable lanes inlets v.set can v.journal.past x k asks.1.0 (ap is_outside asks.1.1 ∙ outside)))
 
--- the drain behind a call that was made
-pub drains-sent : {u v w : BooksView} {n : ℕ} {q : Request} (a : Reply) (r : Result Unit SendFault) (l m : List LaneView) (i : List InletView) → Taken u v n q → Adds v w 0 (Answer n a)
-    → IsSendable (lane_names l) q → r ≢ Err fault.NoMemory → a ≡ answer_of r → LanesGrew 0 (calls_sent (lane_names l) q r) l m → Drains u w l m i i
-drains-sent {u} {v} {w} {n} {q} a r l m i t adds sendable made e grew =
-    drains-answered a l m i (lane_names l) t adds sendable (grew-answered v.set (inlet_names i) q a r l m sendable made e grew)
+-- whoever asks is born
+pub asked-from : (v : BooksView) (x : ℕ) (q : Request) → IsAsked (plan v) v.journal.past x q → None ≡ origin_at (plan v) v.journal.past x → ⊥
+asked-from v x q asks none = let both : None ≡ Some asks.0.birth.origin = none ∙ asked-origin (plan v) v.journal.past x asks.0 asks.1.0 in cc both
+
+-- there is one place that it came from
+pub asks-for : (v : BooksView) (x : ℕ) (q : Request) (r : Result Reply NoMemory) (set : RouteSet) (o : Origin) (l m : List LaneView) (i j : List InletView) → set ≡ v.set
+    → Some o ≡ origin_at (plan v) v.journal.past x → Asks set o q r l m i j → AsksFor v x q r l m i j
+asks-for v x q r set o l m i j of_set from asks p h =
+    let both : Some o ≡ Some p = from ∙ h in
+    let same : o ≡ p = cc in
+    subst (λ (s : RouteSet). Asks s p q r l m i j) of_set (subst (λ (y : Origin). Asks set y q r l m i j) same asks)

@@ -1,13 +1,13 @@
 -- By which inlet the source of a route is read, and by which lane a target is sent to.
-use Rattle.std.specs.Prelude.{ℕ, ◌≡◌, true, false, List, [], Option, Some, None, IsSome, slice_get}
+use Rattle.std.specs.Prelude.{ℕ, ◌≡◌, true, List, [], Option, Some, None, IsSome, slice_get}
 use Rattle.eip_uri.specs.Inlets.{inlet_of}
 use Rattle.eip_uri.specs.Printed.{printed}
 use Rattle.eip_route.specs.Goals.{is_among}
 use Rattle.eip_route.specs.declared.route.Route.{Route}
 use Rattle.eip_route.specs.declared.route.RouteSet.{RouteSet}
-use Rattle.eip_endpoint.specs.Lanes.{first_named}
+use Rattle.eip_endpoint.specs.Inlets.{InletView, inlet_names}
+use Rattle.eip_endpoint.specs.Lanes.{LaneView, first_named, lane_names}
 use Rattle.eip_endpoint.specs.Outside.{Doors, lane_of}
-use Rattle.eip_meaning.specs.Meaning.{is_told_route}
 use Rattle.eip_history.specs.Rules.{IsSource}
 use Rattle.eip_plan.specs.Plan.{plan_of}
 
@@ -33,20 +33,23 @@ doors_of set lanes inlets = record {
   lane = λ t. first_named (lane_of t) lanes;
 }
 
+-- the doors of a set among these lanes and inlets
+abbrev pub doors_among : RouteSet → List LaneView → List InletView → Doors
+doors_among set ls is = doors_of set (lane_names ls) (inlet_names is)
+
+-- the route has an inlet to read from
+abbrev pub HasInlet : RouteSet → List (List ℕ) → ℕ → Type 0
+HasInlet set inlets t = IsSome (inlet_at inlets (slice_get set.routes t))
+
 -- each source of the set has its inlet
 abbrev pub HasInlets : RouteSet → List (List ℕ) → Type 0
-HasInlets set inlets = (t : ℕ) → IsSource (plan_of set) t → IsSome (inlet_at inlets (slice_get set.routes t))
+HasInlets set inlets = (t : ℕ) → IsSource (plan_of set) t → HasInlet set inlets t
 
 -- each lane that the set names is handed in
 abbrev pub HasLanes : RouteSet → List (List ℕ) → Type 0
 HasLanes set lanes = (name : List ℕ) → is_among name set.names.lanes ≡ true → IsSome (first_named name lanes)
 
--- no source of the set is to be told how its exchanges end: none reads files that are moved or deleted
-abbrev pub TellsNone : RouteSet → Type 0
-TellsNone set = (t : ℕ) → is_told_route (slice_get set.routes t) ≡ false
-
 -- the set can be run over lanes and inlets of these names
 pub record CanRun (set : RouteSet) (lanes inlets : List (List ℕ)) : Type 0 where
   pub has_inlets : HasInlets set inlets
   pub has_lanes : HasLanes set lanes
-  pub tells_none : TellsNone set

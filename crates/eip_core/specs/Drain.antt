@@ -1,5 +1,9 @@
 -- What a drain on one thread leaves.
-use Rattle.std.specs.Prelude.{ℕ, ◌≡◌, ◌<◌, ◌≤◌, ◌⊎◌, ◌++◌, IsTrue, List, [], ◌∷◌, Some, None}
+use Rattle.std.specs.Prelude.{ℕ, ◌≡◌, ◌<◌, ◌≤◌, ◌⊎◌, ◌++◌, IsTrue, List, [], ◌∷◌, Some, None, Result}
+use Rattle.eip_text.specs.declared.memory.NoMemory.{NoMemory as Starved}
+use Rattle.eip_exchange.specs.declared.birth.Origin.{Origin}
+use Rattle.eip_frames.specs.declared.request.Request.{Request}
+use Rattle.eip_frames.specs.declared.answer.Answer.{Answer as Reply}
 use Rattle.eip_ledger.specs.declared.place.Stop.{Stop}
 use Rattle.eip_ledger.specs.declared.place.Stop.TheVariants.{NoMemory}
 use Rattle.eip_endpoint.specs.Lanes.{LaneView, LanesGrew, lane_names}
@@ -11,10 +15,11 @@ use Rattle.eip_history.specs.Place.{hands, ready_numbers}
 use Rattle.eip_history.specs.Rules.{Served, served, first}
 use Rattle.eip_history.specs.Stop.{stop_of, actor, is_of}
 use Rattle.eip_history.specs.Work.{work}
+use Rattle.eip_history.specs.BookText.{origin_at}
 use Rattle.eip_plan.specs.Simple.{AnswersSimply}
 use Rattle.eip_books.specs.View.{BooksView, plan, IsLegalRun, IsSameRun}
-use Rattle.eip_core.specs.Doors.{CanRun, doors_of}
-use Rattle.eip_core.specs.Outside.{seen_answers, inlet_acts}
+use Rattle.eip_core.specs.Doors.{CanRun, doors_among}
+use Rattle.eip_core.specs.Outside.{Asks, seen_answers, inlet_acts}
 
 -- the stop of the journal, or want of memory
 abbrev pub IsStop : BooksView → Stop → Type 0
@@ -22,7 +27,7 @@ IsStop v stop = (stop ≡ NoMemory) ⊎ (stop_of (plan v) v.journal.turns v.jour
 
 -- the doors of a run among these lanes and inlets
 abbrev pub doors : BooksView → List LaneView → List InletView → Doors
-doors v ls is = doors_of v.set (lane_names ls) (inlet_names is)
+doors v ls is = doors_among v.set ls is
 
 -- the set of a run can be run over these lanes and inlets
 abbrev pub CanDrain : BooksView → List LaneView → List InletView → Type 0
@@ -39,6 +44,11 @@ pub record Rests (v : BooksView) : Type 0 where
 pub record Chosen (v : BooksView) (x : ℕ) : Type 0 where
   pub rests : Rests v
   pub least : first (ready_numbers (plan v) v.journal.past) ≡ Some x
+
+-- somebody outside was asked for an exchange, wherever it came from
+abbrev pub AsksFor : BooksView → ℕ → Request → Result Reply Starved → (lanes_old lanes_new : List LaneView) → (inlets_old inlets_new : List InletView) → Type 0
+AsksFor v x q r lanes_old lanes_new inlets_old inlets_new =
+    (o : Origin) → origin_at (plan v) v.journal.past x ≡ Some o → Asks v.set o q r lanes_old lanes_new inlets_old inlets_new
 
 -- each of the entries behind a past is worker 0's and of the actor whose turn it was
 abbrev pub IsPlainBehind : Plan → Past → Past → Type 0

@@ -46,5 +46,6 @@ untold = record { worker = 2; origin = from.Source 1 (codes "b1"); request = req
 
 -- only a Finish with commit tells the source
 pub second_told : commits_at 1 (codes "u") (commits pair_doors (untold ∷ finished reply.CommitFailed ∷ finished reply.Finished ∷ []))
-    ≡ (record { item = codes "b1"; end = end.Completed; outcome = commit.Failed }) ∷ (record { item = codes "b1"; end = end.Completed; outcome = commit.Done }) ∷ []
+    ≡ (record { item = codes "b1"; end = end.Completed; outcome = commit.Failed })
+    ∷ (record { item = codes "b1"; end = end.Completed; outcome = commit.Done }) ∷ []
 second_told = refl

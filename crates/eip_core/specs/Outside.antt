@@ -1,21 +1,30 @@
 -- What the entries of a journal say that inlets and lanes did.
-use Rattle.std.specs.Prelude.{ℕ, List, [], ◌∷◌, ◌++◌, Option, Some, None, IsSome, Result, Bool, true, false, bytes_eq, map}
+use Rattle.std.specs.Prelude.{ℕ, ◌≡◌, List, [], ◌∷◌, ◌++◌, Option, Some, None, IsSome, IfOk, Result, Ok, Err, Bool, true, false, bytes_eq, map, slice_get}
+use Rattle.eip_text.specs.declared.memory.NoMemory.{NoMemory}
+use Rattle.eip_exchange.specs.declared.birth.Origin.{Origin}
+use Rattle.eip_exchange.specs.declared.birth.Origin.TheVariants as from
+use Rattle.eip_exchange.specs.declared.end.End.{End}
+use Rattle.eip_exchange.specs.declared.message.Message.{Message}
+use Rattle.eip_route.specs.declared.route.RouteSet.{RouteSet}
+use Rattle.eip_frames.specs.declared.answer.Answer.{Answer as Reply}
 use Rattle.eip_frames.specs.declared.request.Request.{Request}
-use Rattle.eip_frames.specs.declared.request.Request.TheVariants.{Send, Process, Test}
+use Rattle.eip_frames.specs.declared.request.Request.TheVariants.{Send, Process, Test, Finish}
+use Rattle.eip_frames.specs.declared.request.Target.{Target}
+use Rattle.eip_frames.specs.Fits.{fits}
 use Rattle.eip_ledger.specs.declared.entry.Kind.{Kind}
 use Rattle.eip_ledger.specs.declared.entry.Kind.TheVariants.{Accept, Refuse, SourceEnd, SourceFault}
 use Rattle.eip_ledger.specs.declared.entry.Refused.{Refused as Cause}
 use Rattle.eip_ledger.specs.declared.entry.Refused.TheVariants as cause
+use Rattle.eip_endpoint.specs.declared.endpoint.Call.{Call}
 use Rattle.eip_endpoint.specs.declared.source.Refusal.{Refusal}
 use Rattle.eip_endpoint.specs.declared.source.Refusal.TheVariants as refusal
-use Rattle.eip_endpoint.specs.declared.source.Pulled.TheVariants.{Item, Refused, End}
-use Rattle.eip_endpoint.specs.declared.endpoint.SendFault.{SendFault}
-use Rattle.eip_endpoint.specs.Calls.{made}
-use Rattle.eip_endpoint.specs.Lanes.{LaneCall, first_named}
-use Rattle.eip_endpoint.specs.Inlets.{Gave, Failed, InletAct}
-use Rattle.eip_endpoint.specs.Outside.{Answered, Doors, lane_of, calls_by, acts_of, commits}
+use Rattle.eip_endpoint.specs.declared.source.Pulled.TheVariants.{Item, Refused, End as NoMore}
+use Rattle.eip_endpoint.specs.Lanes.{LaneCall, LaneView, LanesGrew, first_named}
+use Rattle.eip_endpoint.specs.Inlets.{Act, Gave, Failed, InletAct, InletView, InletsGrew}
+use Rattle.eip_endpoint.specs.Outside.{Answered, Doors, lane_of, call_by, calls_for, acts_by, acts_of, told_by, commits_for, commits}
 use Rattle.eip_history.specs.Own.{Past}
 use Rattle.eip_history.specs.Rules.{Served}
+use Rattle.eip_core.specs.Doors.{HasInlet, doors_among, inlet_at, uri_at}
 
 -- an answer of the journal as lanes and inlets see it
 abbrev pub answered_by : Served → Answered
@@ -34,7 +43,7 @@ refusal_of cause.TooLong = refusal.TooLong
 abbrev pub pulls_in : Doors → Kind → List InletAct
 pulls_in d (Accept t item m) = acts_of d t (Gave (Item item m) ∷ [])
 pulls_in d (Refuse t item c) = acts_of d t (Gave (Refused item (refusal_of c)) ∷ [])
-pulls_in d (SourceEnd t) = acts_of d t (Gave End ∷ [])
+pulls_in d (SourceEnd t) = acts_of d t (Gave NoMore ∷ [])
 pulls_in d (SourceFault t) = acts_of d t (Failed ∷ [])
 pulls_in d _ = []
 
@@ -49,21 +58,55 @@ inlet_acts d behind vs = pulls d behind ++ commits d (seen_answers vs)
 
 -- ---- one call
 
--- a processor or a predicate of the registry is asked
-abbrev pub is_of_registry : Request → Bool
-is_of_registry (Process name m) = true
-is_of_registry (Test name m) = true
-is_of_registry _ = false
+-- the source that an exchange came from has its inlet
+abbrev pub HasSource : RouteSet → (inlets : List (List ℕ)) → Origin → Type 0
+HasSource set inlets (from.Source t item) = HasInlet set inlets t
+HasSource set inlets _ = ⊥
 
--- a send to a lane that is among lanes of these names
-abbrev pub IsSendable : List (List ℕ) → Request → Type 0
-IsSendable lanes (Send t m) = IsSome (first_named (lane_of t) lanes)
-IsSendable lanes _ = ⊥
+-- a request that somebody outside can be asked: a send to a lane that is handed in, what the registry is asked, or the end of an exchange whose source
+-- is to be told and has its inlet
+abbrev pub IsAskable : RouteSet → (lanes inlets : List (List ℕ)) → Origin → Request → Type 0
+IsAskable set lanes inlets o (Send t m) = IsSome (first_named (lane_of t) lanes)
+IsAskable set lanes inlets o (Process name m) = Unit {0}
+IsAskable set lanes inlets o (Test name m) = Unit {0}
+IsAskable set lanes inlets o (Finish e m commit) = HasSource set inlets o × (commit ≡ true)
+IsAskable set lanes inlets o _ = ⊥
 
--- the call that an answer to a send tells of
-abbrev pub calls_sent : List (List ℕ) → Request → Result Unit SendFault → List LaneCall
-calls_sent lanes (Send t m) r = calls_by (first_named (lane_of t) lanes) (made t m r)
-calls_sent lanes _ r = []
+-- acts of the inlet of a route's source
+abbrev pub acts_from : RouteSet → (inlets : List (List ℕ)) → ℕ → List Act → List InletAct
+acts_from set inlets t acts = acts_by (inlet_at inlets (slice_get set.routes t)) (uri_at (slice_get set.routes t)) acts
+
+-- the call of a lane that an answer tells of; want of memory did nothing
+abbrev pub sent_by : Target → Message → Result Reply NoMemory → List Call
+sent_by t m (Ok a) = call_by t m a
+sent_by t m (Err f) = []
+
+-- what an answer says that a source was told; want of memory did nothing
+abbrev pub ended_by : List ℕ → End → Result Reply NoMemory → List Act
+ended_by item e (Ok a) = told_by item e a
+ended_by item e (Err f) = []
+
+-- the same for the source that an exchange came from
+abbrev pub source_told : RouteSet → (inlets : List (List ℕ)) → Origin → End → Result Reply NoMemory → List InletAct
+source_told set inlets (from.Source t item) e r = acts_from set inlets t (ended_by item e r)
+source_told set inlets _ e r = []
+
+-- the calls of lanes that an answer to a request tells of
+abbrev pub calls_told : Doors → Request → Result Reply NoMemory → List LaneCall
+calls_told d q (Ok a) = calls_for d q a
+calls_told d q (Err f) = []
+
+-- what an answer to the request of an exchange says that inlets were told
+abbrev pub commits_told : Doors → Origin → Request → Result Reply NoMemory → List InletAct
+commits_told d o q (Ok a) = commits_for d o q a
+commits_told d o q (Err f) = []
+
+-- somebody outside was asked: the answer fits, and lanes and inlets did what it says; where no memory was left, nothing
+pub record Asks (set : RouteSet) (o : Origin) (q : Request) (r : Result Reply NoMemory) (lanes_old lanes_new : List LaneView)
+    (inlets_old inlets_new : List InletView) : Type 0 where
+  pub fitting : IfOk r (λ a. fits q a ≡ true)
+  pub lanes : LanesGrew 0 (calls_told (doors_among set lanes_old inlets_old) q r) lanes_old lanes_new
+  pub inlets : InletsGrew 0 (commits_told (doors_among set lanes_old inlets_old) o q r) inlets_old inlets_new
 
 -- what stands behind the word is this name
 abbrev pub is_rest : Option (List ℕ) → List ℕ → Bool

@@ -1,21 +1,44 @@
 ghost use Rattle.std.specs.Prelude.{◌≡◌, ◌≤◌, ◌<◌, true, None, Some, OnOk, IfOk, IfSome, IfNone};
+ghost use Rattle.eip_frames.specs.Fits.{is_outside};
 ghost use Rattle.eip_history.specs.Own.{turns};
 ghost use Rattle.eip_history.specs.Place.{hands, ready_numbers};
-ghost use Rattle.eip_history.specs.Rules.{first, startable};
+ghost use Rattle.std.specs.Prelude.{ℕ};
+ghost use Rattle.eip_ledger.specs.declared.entry.Kind.TheVariants.{Pull};
+ghost use Rattle.eip_history.specs.Rules.{May, first, startable};
 ghost use Rattle.eip_history.specs.Stop.{stop_of};
 ghost use Rattle.eip_books.specs.View.{plan, IsLegalRun};
-ghost use Rattle.eip_tables.specs.Outside.{is_among};
-ghost use Rattle.eip_core.specs.Drain.{Acts, CanDrain, Chosen, Drains, IsStop, Rests};
+ghost use Rattle.eip_tables.specs.Outside.{is_among, IsAsked};
+ghost use Rattle.eip_core.specs.Drain.{Acts, AsksFor, CanDrain, Chosen, Drains, IsStop, Rests};
 
-use crate::outside::{is_of_registry, pull_source, refused, send};
+use crate::outside::{ask, pull_source, refused};
 use crate::registry::Registry;
-use eip_endpoint::{Inlets, Lanes, PullFault, Pulled, SendFault};
+use eip_endpoint::{Inlets, Lanes, PullFault, Pulled};
 use eip_frames::Answer;
-use eip_hub::{Hub, Inner};
+use eip_hub::{Hub, Inner, Ticket};
 use eip_ledger::Stop;
 use eip_text::NoMemory;
 
-/// Pulls the first source that has not ended, and enters what came of it.
+/// The clock moves on to the least moment at which somebody is due. Where a run goes on, and neither an exchange nor a queue nor a source
+/// may act, somebody is.
+fn tick_once<L: Lanes, I: Inlets>(
+    hub: &mut Hub,
+    lanes: &mut L,
+    inlets: &mut I,
+) -> Result<(), NoMemory>
+    requires rests { Rests hub.old }
+    requires nobody { first (ready_numbers (plan hub.old) hub.old.journal.past) ≡ None }
+    requires no_queue { first (startable (plan hub.old) hub.old.journal.past) ≡ None }
+    requires no_source { (t : ℕ) → May (plan hub.old) hub.old.journal.turns hub.old.journal.past 0 (Pull t) → ⊥ }
+    ensures legal { IsLegalRun hub.new }
+    ensures drains { Drains hub.old hub.new (L.views lanes.old) (L.views lanes.new) (I.views inlets.old) (I.views inlets.new) }
+    ensures acts { OnOk result (Acts hub.old hub.new) }
+{
+    let _ = lanes.count();
+    let _ = inlets.count();
+    if hub.tick(0)? { Ok(()) } else { unreachable!() }
+}
+
+/// Pulls the first source that has not ended, and enters what came of it; where all have ended, the clock moves on.
 fn pull_once<L: Lanes, I: Inlets>(
     hub: &mut Hub,
     lanes: &mut L,
@@ -32,7 +55,7 @@ fn pull_once<L: Lanes, I: Inlets>(
 {
     let _ = lanes.count();
     let Some(source) = hub.pull(0) else {
-        unreachable!()
+        return tick_once(hub, lanes, inlets);
     };
     match pull_source(hub.set(), inlets, source) {
         Ok(Pulled::Item { item, message }) => hub.accept(0, source, item, message),
@@ -44,9 +67,9 @@ fn pull_once<L: Lanes, I: Inlets>(
     Ok(())
 }
 
-/// Has the request of the least Ready exchange, which is one of the outside, answered by its lane, or gives the exchange up where
-/// the registry is asked. The exchange is in hand for the time of the call, which takes no memory from the hub, so the answer of a
-/// call that was made is always entered.
+/// Has the request of the least Ready exchange, which is one of the outside, answered there, or gives the exchange up where nobody
+/// answers. The exchange is in hand for the time of the call, which takes no memory from the hub, so the answer of a call that was
+/// made is always entered.
 fn serve<L: Lanes, I: Inlets>(hub: &mut Hub, lanes: &mut L, inlets: &mut I, number: u64)
     requires chosen { Chosen hub.old number }
     requires known { is_among number hub.old.outside ≡ true }
@@ -56,21 +79,31 @@ fn serve<L: Lanes, I: Inlets>(hub: &mut Hub, lanes: &mut L, inlets: &mut I, numb
     ensures drains { Drains hub.old hub.new (L.views lanes.old) (L.views lanes.new) (I.views inlets.old) (I.views inlets.new) }
     ensures acts { Acts hub.old hub.new }
 {
-    let _ = inlets.count();
     let Some(ticket) = hub.take(0) else {
         unreachable!()
     };
-    if is_of_registry(&ticket.request) {
-        // The registry has no processors and predicates yet, so nobody can answer.
-        hub.give_up(ticket);
-        return;
+    match answer_of(hub, lanes, inlets, &ticket) {
+        Ok(answer) => hub.settle(ticket, answer),
+        Err(NoMemory) => hub.give_up(ticket),
     }
-    match send(lanes, &ticket.request) {
-        Ok(()) => hub.settle(ticket, Answer::Done),
-        Err(SendFault::Failed) => hub.settle(ticket, Answer::SendFailed),
-        Err(SendFault::Exists) => hub.settle(ticket, Answer::Exists),
-        Err(SendFault::NoMemory) => hub.give_up(ticket),
-    }
+}
+
+/// What somebody outside answers to the request of a ticket.
+fn answer_of<L: Lanes, I: Inlets>(
+    hub: &Hub,
+    lanes: &mut L,
+    inlets: &mut I,
+    ticket: &Ticket,
+) -> Result<Answer, NoMemory>
+    requires asked { IsAsked (plan hub.now) hub.now.journal.past ticket.now.number ticket.now.request }
+    requires of_outside { is_outside ticket.now.request ≡ true }
+    requires can_run { CanDrain hub.now (L.views lanes.old) (I.views inlets.old) }
+    ensures { AsksFor hub.now ticket.now.number ticket.now.request result (L.views lanes.old) (L.views lanes.new) (I.views inlets.old) (I.views inlets.new) }
+{
+    let Some(origin) = hub.origin(ticket.number) else {
+        unreachable!()
+    };
+    ask(hub.set(), lanes, inlets, origin, &ticket.request)
 }
 
 /// Does what the least Ready exchange asks for, or ends it for want of memory.
@@ -90,7 +123,7 @@ fn run_ready<L: Lanes, I: Inlets>(hub: &mut Hub, lanes: &mut L, inlets: &mut I, 
 }
 
 /// One act of the plain schedule: of the least Ready exchange, or else of the first startable queue, or else of the first source
-/// that has not ended.
+/// that has not ended, or else of the clock.
 fn act<L: Lanes, I: Inlets>(hub: &mut Hub, lanes: &mut L, inlets: &mut I) -> Result<(), NoMemory>
     requires rests { Rests hub.old }
     requires can_run { CanDrain hub.old (L.views lanes.old) (I.views inlets.old) }
@@ -139,7 +172,7 @@ fn take_turn<L: Lanes, I: Inlets>(
 
 /// Drains the sources of a run through the hub, by the plain schedule of one worker: the least Ready exchange acts, or else
 /// the first startable queue starts the first exchange that waits in it, or else the first source that has not ended is
-/// pulled. It always returns: the stop of the journal, or `NoMemory`.
+/// pulled, or else the clock moves on to the least moment at which somebody is due. It always returns: the stop of the journal, or `NoMemory`.
 pub fn drain_alone<L: Lanes, I: Inlets>(
     hub: &mut Hub,
     lanes: &mut L,

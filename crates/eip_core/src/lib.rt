@@ -1,10 +1,10 @@
 // A run on one thread: the hub is drained by the plain schedule, over lanes and inlets that are handed in.
 #![tactic(auto)]
 
-pub mod drain;
-pub mod outside;
-pub mod registry;
-pub mod served;
+mod drain;
+mod outside;
+mod registry;
+mod served;
 
 pub use drain::drain_alone;
 pub use registry::Registry;

@@ -1,31 +1,32 @@
-ghost use Rattle.std.specs.Prelude.{◌≡◌, ◌<◌, IfOk, IfSome, IsSome, IsErrOf, Some, length, slice_get, true, bytes_eq, option_map};
+ghost use Rattle.std.specs.Prelude.{◌≡◌, ◌<◌, IfOk, IfSome, IsSome, Some, length, slice_get, bytes_eq, option_map, true};
+ghost use Rattle.eip_uri.specs.Printed.{printed};
+ghost use Rattle.eip_exchange.specs.declared.message.Message.{Message as AMessage};
 ghost use Rattle.eip_frames.specs.Fits.{fits};
-ghost use Rattle.eip_frames.specs.declared.answer.Answer.TheVariants.{Exists};
+ghost use Rattle.eip_frames.specs.declared.request.Request.TheVariants.{Send, Finish};
 ghost use Rattle.eip_endpoint.specs.Pulls.{IsFair};
 ghost use Rattle.eip_endpoint.specs.Lanes.{LanesGrew, first_named, lane_names};
 ghost use Rattle.eip_endpoint.specs.Inlets.{InletsGrew, acts_of_pull, inlet_names};
-ghost use Rattle.eip_endpoint.specs.Outside.{acts_by, lane_of};
-ghost use Rattle.eip_core.specs.Doors.{inlet_at, uri_at};
-ghost use Rattle.eip_core.specs.Outside.{refusal_of, is_of_registry, IsSendable, calls_sent, is_rest};
+ghost use Rattle.eip_endpoint.specs.Outside.{calls_by, lane_of};
+ghost use Rattle.eip_tables.specs.Origin.{origin_seen};
+ghost use Rattle.eip_core.specs.Doors.{HasInlet, inlet_at, uri_at};
+ghost use Rattle.eip_core.specs.Outside.{Asks, HasSource, IsAskable, acts_from, is_rest, refusal_of, sent_by, source_told};
 
-use eip_endpoint::{Inlets, Lanes, PullFault, Pulled, Refusal, SendFault, find_inlet};
-use eip_frames::{Request, Target};
+use eip_endpoint::{CommitFault, Inlets, Lanes, PullFault, Pulled, Refusal, SendFault, find_inlet};
+use eip_exchange::{End, Message};
+use eip_frames::{Answer, Request, Target};
+use eip_hub::OriginView;
 use eip_ledger::Refused;
 use eip_route::RouteSet;
-use eip_text::Text;
 use eip_text::cuts::behind;
+use eip_text::{NoMemory, Text};
+use eip_uri::Uri;
 
-/// Pulls from the inlet of a route's source.
-pub fn pull_source<I: Inlets>(
-    set: &RouteSet,
-    inlets: &mut I,
-    source: u32,
-) -> Result<Pulled, PullFault>
-    requires { IsSome (inlet_at (inlet_names (I.views inlets.old)) (slice_get set.now.routes source)) }
-    ensures grew { InletsGrew 0
-        (acts_by (inlet_at (inlet_names (I.views inlets.old)) (slice_get set.now.routes source)) (uri_at (slice_get set.now.routes source)) (acts_of_pull result))
-        (I.views inlets.old) (I.views inlets.new) }
-    ensures fair { IfOk result IsFair }
+/// The index of the inlet that the source of a route is read by, and the URI that it reads.
+fn door<'a, I: Inlets>(set: &'a RouteSet, inlets: &I, source: u32) -> (usize, &'a Uri)
+    requires { HasInlet set.now (inlet_names (I.views inlets.now)) source }
+    ensures inlet { inlet_at (inlet_names (I.views inlets.now)) (slice_get set.now.routes source) ≡ Some result.0 }
+    ensures within { result.0 < length (I.views inlets.now) }
+    ensures uri { uri_at (slice_get set.now.routes source) ≡ printed result.1.now }
 {
     let Some(route) = set.routes.items().get(source as usize) else {
         unreachable!()
@@ -36,7 +37,45 @@ pub fn pull_source<I: Inlets>(
     let Some(index) = find_inlet(inlets, name.as_bytes()) else {
         unreachable!()
     };
-    inlets.pull_at(index, &route.from)
+    (index, &route.from)
+}
+
+/// Pulls from the inlet of a route's source.
+pub fn pull_source<I: Inlets>(
+    set: &RouteSet,
+    inlets: &mut I,
+    source: u32,
+) -> Result<Pulled, PullFault>
+    requires { HasInlet set.now (inlet_names (I.views inlets.old)) source }
+    ensures grew { InletsGrew 0 (acts_from set.now (inlet_names (I.views inlets.old)) source (acts_of_pull result))
+        (I.views inlets.old) (I.views inlets.new) }
+    ensures fair { IfOk result IsFair }
+{
+    let (index, from) = door(set, inlets, source);
+    inlets.pull_at(index, from)
+}
+
+/// Tells the source that an exchange came from how it ended.
+fn tell<I: Inlets>(
+    set: &RouteSet,
+    inlets: &mut I,
+    origin: OriginView<'_>,
+    end: &End,
+) -> Result<Answer, NoMemory>
+    requires { HasSource set.now (inlet_names (I.views inlets.old)) (origin_seen origin) }
+    ensures grew { InletsGrew 0 (source_told set.now (inlet_names (I.views inlets.old)) (origin_seen origin.entry) end.now result)
+        (I.views inlets.old) (I.views inlets.new) }
+    ensures fitting { (m : AMessage) → IfOk result (λ a. fits (Finish end.now m true) a ≡ true) }
+{
+    let OriginView::Source { route, item } = origin else {
+        unreachable!()
+    };
+    let (index, from) = door(set, inlets, route);
+    match inlets.commit_at(index, from, item, end) {
+        Ok(()) => Ok(Answer::Finished),
+        Err(CommitFault::Failed) => Ok(Answer::CommitFailed),
+        Err(CommitFault::NoMemory) => Err(NoMemory),
+    }
 }
 
 /// Whether a lane of this name is the one that a target is sent on.
@@ -73,30 +112,42 @@ fn find_lane_of<L: Lanes>(lanes: &L, target: &Target) -> Option<usize>
     None
 }
 
-/// Whether a processor or a predicate of the registry is asked.
-pub fn is_of_registry(request: &Request) -> bool
-    ensures { result ≡ is_of_registry request.now }
-{
-    match request {
-        Request::Process { .. } | Request::Test { .. } => true,
-        _ => false,
-    }
-}
-
-/// Makes the call that a Send asks for, on the first lane of the target's name.
-pub fn send<L: Lanes>(lanes: &mut L, request: &Request) -> Result<(), SendFault>
-    requires { IsSendable (lane_names (L.views lanes.old)) request.now }
-    ensures grew { LanesGrew 0 (calls_sent (lane_names (L.views lanes.old)) request.now result)
+/// Sends a message on the first lane of the target's name.
+fn send<L: Lanes>(lanes: &mut L, target: &Target, message: &Message) -> Result<Answer, NoMemory>
+    requires { IsSome (first_named (lane_of target.now) (lane_names (L.views lanes.old))) }
+    ensures grew { LanesGrew 0 (calls_by (first_named (lane_of target.now) (lane_names (L.views lanes.old))) (sent_by target.now message.now result))
         (L.views lanes.old) (L.views lanes.new) }
-    ensures exists { IsErrOf result SendFault.Exists → fits request.now Exists ≡ true }
+    ensures fitting { IfOk result (λ a. fits (Send target.now message.now) a ≡ true) }
 {
-    let Request::Send { target, message } = request else {
-        unreachable!()
-    };
     let Some(index) = find_lane_of(lanes, target) else {
         unreachable!()
     };
-    lanes.send_at(index, target, message)
+    match lanes.send_at(index, target, message) {
+        Ok(()) => Ok(Answer::Done),
+        Err(SendFault::Failed) => Ok(Answer::SendFailed),
+        Err(SendFault::Exists) => Ok(Answer::Exists),
+        Err(SendFault::NoMemory) => Err(NoMemory),
+    }
+}
+
+/// Asks somebody outside for an exchange that came from there: the lane of a send, or the source that is told of its end. On
+/// `NoMemory` nothing was done. The registry has no processors and predicates yet, so it answers nobody.
+pub fn ask<L: Lanes, I: Inlets>(
+    set: &RouteSet,
+    lanes: &mut L,
+    inlets: &mut I,
+    origin: OriginView<'_>,
+    request: &Request,
+) -> Result<Answer, NoMemory>
+    requires { IsAskable set.now (lane_names (L.views lanes.old)) (inlet_names (I.views inlets.old)) (origin_seen origin) request.now }
+    ensures { Asks set.now (origin_seen origin.entry) request.now result (L.views lanes.old) (L.views lanes.new) (I.views inlets.old) (I.views inlets.new) }
+{
+    match request {
+        Request::Send { target, message } => send(lanes, target, message),
+        Request::Finish { end, .. } => tell(set, inlets, origin, end),
+        Request::Process { .. } | Request::Test { .. } => Err(NoMemory),
+        _ => unreachable!(),
+    }
 }
 
 /// The cause of a refusal in the words of the journal.

@@ -1,7 +1,7 @@
 ghost use Rattle.std.specs.Prelude.{◌≡◌, IfOk, true};
 ghost use Rattle.eip_endpoint.specs.Lanes.{lane_names};
 ghost use Rattle.eip_endpoint.specs.Inlets.{inlet_names};
-ghost use Rattle.eip_core.specs.Doors.{HasInlets, HasLanes};
+ghost use Rattle.eip_core.specs.Doors.{CanRun};
 ghost use Rattle.eip_core.specs.Served as spec;
 
 use crate::registry::Registry;
@@ -49,10 +49,10 @@ fn names_of_inlets<I: Inlets>(alloc: Global, inlets: &I) -> Result<Vec<Text>, No
     Ok(names)
 }
 
-/// Whether the inlets of a set's sources and the lanes that it names are handed in.
+/// Whether the inlets of a set's sources and the lanes that it names are handed in, so that it can be drained.
 pub fn is_served<L: Lanes, I: Inlets>(set: &RouteSet, lanes: &L, inlets: &I) -> bool
     ensures exact { result ≡ spec.is_served (lane_names (L.views lanes.now)) (inlet_names (I.views inlets.now)) set.now }
-    ensures handed_in { result ≡ true → HasInlets set.now (inlet_names (I.views inlets.now)) × HasLanes set.now (lane_names (L.views lanes.now)) }
+    ensures can_run { result ≡ true → CanRun set.now (lane_names (L.views lanes.now)) (inlet_names (I.views inlets.now)) }
 {
     are_served_routes(set.routes.items(), inlets)
         && are_served_lanes(set.names.lanes.items(), lanes)

@@ -1,4 +1,5 @@
 mod Answering
+mod Ending
 mod Fitting
 mod Following
 mod Replying

@@ -13,6 +13,7 @@ ghost use Rattle.eip_progress.specs.Rest.{rest, rest_of, behind_all, now_mean, I
 
 use crate::asked::asked;
 use crate::ends::{end_answered, is_told_origin};
+use crate::last::{ask_to_end, last_message};
 use crate::parts::{between_parts, is_between};
 use crate::waits::on_answer;
 use eip_copies::copy_frames;
@@ -114,7 +115,8 @@ impl Advance for Cursor {
     }
 }
 
-/// From one part of a sequential fan-out to the next, where no more has to be done. The cost is that of the two parts.
+/// From one part of a sequential fan-out to the next, or from the last step to the end, where no more has to be done: the message
+/// stays where it is.
 fn in_turn(
     cursor: &mut Cursor,
     alloc: Global,
@@ -130,7 +132,7 @@ fn in_turn(
             if is_in_turn(&cursor.state) {
                 answered_in_turn(cursor, alloc, set, answer)
             } else {
-                Ok(None)
+                ended_in_turn(cursor, alloc, set, answer)
             }
         }
         None => Ok(None),
@@ -170,6 +172,25 @@ fn answered_in_turn(
             drop(mem::replace(&mut cursor.state, state));
             Ok(None)
         }
+    }
+}
+
+fn ended_in_turn(
+    cursor: &mut Cursor,
+    alloc: Global,
+    set: &RouteSet,
+    answer: &Answer,
+) -> Result<Option<Next>, NoMemory>
+    requires { AnswerFits (rest set.now cursor.old []) answer.now }
+    ensures ok { IfOk result (λ o. MatchOption o (cursor.new ≡ cursor.old) (λ n. Follows set.now cursor.old (answer.now ∷ []) cursor.new n)) }
+    ensures err { OnErr result (cursor.new ≡ cursor.old) }
+{
+    match last_message(cursor, alloc, set, answer)? {
+        Some(message) => {
+            let next = ask_to_end(cursor, message);
+            Ok(Some(next))
+        }
+        None => Ok(None),
     }
 }
 

@@ -4,6 +4,7 @@
 mod asked;
 mod cursor;
 mod ends;
+mod last;
 mod parts;
 mod waits;
 

@@ -1,11 +1,7 @@
-ghost use Rattle.std.specs.Prelude.{◌≡◌, ◌+◌, ◌++◌, IfOk, OnOk, Some, reverse, string_bytes};
-ghost use Rattle.eip_exchange.specs.declared.birth.Origin.{Origin as AnOrigin};
-ghost use Rattle.eip_ledger.specs.declared.place.Place.{Place as APlace};
-ghost use Rattle.eip_history.specs.Place.{place};
-ghost use Rattle.eip_history.specs.Counts.{total_count};
-ghost use Rattle.eip_history.specs.BookText.{origin_at, exchange_line, exchanges_text, refusals_text, summary_text_of, book_text_of};
-ghost use Rattle.eip_books.specs.View.{plan};
+ghost use Rattle.std.specs.Prelude.{◌≡◌, ◌++◌, IfOk, OnOk, reverse, string_bytes};
+ghost use Rattle.eip_history.specs.BookText.{refusals_text};
 ghost use Rattle.eip_endbook.specs.Names.{route_names};
+ghost use Rattle.eip_endbook.specs.Texts.{AppendsExchange, book_of, exchanges_of, summary_of};
 
 use crate::counts::totals;
 use crate::lines;
@@ -16,24 +12,24 @@ use eip_text::{NoMemory, Text};
 use std::alloc::Global;
 
 /// Appends the line of the exchange with this number, if it is born.
-fn push_exchange(alloc: Global, out: &mut String, hub: &Hub, number: u64) -> Result<(), NoMemory>
-    ensures { OnOk result ((o : AnOrigin) (p : APlace) → origin_at (plan hub.now) hub.now.journal.past number ≡ Some o → place (plan hub.now) hub.now.journal.past number ≡ Some p → string_bytes out.new ≡ string_bytes out.old ++ exchange_line (route_names hub.now.set) number o p) }
+fn push_exchange(out: &mut String, hub: &Hub, number: u64) -> Result<(), NoMemory>
+    ensures { OnOk result (AppendsExchange hub.now number (string_bytes out.old) (string_bytes out.new)) }
 {
     let Some(origin) = hub.origin(number) else {
         return Ok(());
     };
-    let Some(place) = hub.place(alloc, number)? else {
+    let Some(place) = hub.place(number)? else {
         return Ok(());
     };
     lines::push_exchange(out, hub.set(), number, &origin, &place)
 }
 
 /// Appends the lines of all exchanges, by number.
-fn push_exchanges(alloc: Global, out: &mut String, hub: &Hub) -> Result<(), NoMemory>
-    ensures { OnOk result (string_bytes out.new ≡ string_bytes out.old ++ exchanges_text (plan hub.now) (route_names hub.now.set) hub.now.journal.past (total_count (plan hub.now) hub.now.journal.past)) }
+fn push_exchanges(out: &mut String, hub: &Hub) -> Result<(), NoMemory>
+    ensures { OnOk result (string_bytes out.new ≡ string_bytes out.old ++ exchanges_of hub.now) }
 {
     for before in 0..hub.total() {
-        push_exchange(alloc, out, hub, before + 1)?;
+        push_exchange(out, hub, before + 1)?;
     }
     Ok(())
 }
@@ -50,7 +46,7 @@ fn push_refusals(out: &mut String, set: &RouteSet, entries: &[Entry]) -> Result<
 
 /// Appends the last three lines of the book.
 fn push_summary(out: &mut String, hub: &Hub, stop: &Stop) -> Result<(), NoMemory>
-    ensures { OnOk result (string_bytes out.new ≡ string_bytes out.old ++ summary_text_of (plan hub.now) (route_names hub.now.set) hub.now.journal.past stop.now) }
+    ensures { OnOk result (string_bytes out.new ≡ string_bytes out.old ++ summary_of hub.now stop.now) }
 {
     let summary = totals(hub);
     lines::push_accepted(out, &summary)?;
@@ -59,20 +55,22 @@ fn push_summary(out: &mut String, hub: &Hub, stop: &Stop) -> Result<(), NoMemory
     Ok(())
 }
 
-/// The book of a run: a line for each exchange by its number, a line for each refused item, a line for each open group, and the summary.
+/// The book of a run: a line for each exchange by its number, a line for each refused item, a line for each open group, and the
+/// summary.
 pub fn book_text(alloc: Global, hub: &Hub, stop: &Stop) -> Result<Text, NoMemory>
-    ensures { IfOk result (λ t. t ≡ book_text_of (plan hub.now) (route_names hub.now.set) hub.now.journal.past stop.now) }
+    ensures { IfOk result (λ t. t ≡ book_of hub.now stop.now) }
 {
     let mut out = String::new(alloc);
-    push_exchanges(alloc, &mut out, hub)?;
+    push_exchanges(&mut out, hub)?;
     push_refusals(&mut out, hub.set(), hub.journal().entries())?;
     push_summary(&mut out, hub, stop)?;
     Ok(Text::of(out))
 }
 
-/// The last three lines of the book: how many items were accepted and refused, how many exchanges there are and how they ended, and why the run stopped.
+/// The last three lines of the book: how many items were accepted and refused, how many exchanges there are and how they ended,
+/// and why the run stopped.
 pub fn summary_text(alloc: Global, hub: &Hub, stop: &Stop) -> Result<Text, NoMemory>
-    ensures { IfOk result (λ t. t ≡ summary_text_of (plan hub.now) (route_names hub.now.set) hub.now.journal.past stop.now) }
+    ensures { IfOk result (λ t. t ≡ summary_of hub.now stop.now) }
 {
     let mut out = String::new(alloc);
     push_summary(&mut out, hub, stop)?;

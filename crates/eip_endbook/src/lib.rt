@@ -1,11 +1,11 @@
 // The texts of a run: its log, its book and the book's summary.
 #![tactic(auto)]
 
-pub mod book;
-pub mod counts;
-pub mod lines;
-pub mod log;
-pub mod names;
+mod book;
+mod counts;
+mod lines;
+mod log;
+mod names;
 
 pub use book::{book_text, summary_text};
 pub use counts::{Summary, totals};

@@ -1,7 +1,8 @@
 ghost use Rattle.std.specs.Prelude.{◌≡◌, ◌++◌, OnOk, codes, decimal, string_bytes};
-ghost use Rattle.eip_history.specs.BookText.{note_line, origin_text, end_text, state_text, exchange_line, cause_text, refused_line, refused_line_in, accepted_line, total_line, stop_line};
+ghost use Rattle.eip_history.specs.BookText.{note_line, origin_text, end_text, state_text, exchange_line, cause_text, refused_line, refused_line_in, accepted_line, stop_line};
 ghost use Rattle.eip_tables.specs.Origin.{origin_seen};
 ghost use Rattle.eip_endbook.specs.Names.{route_names};
+ghost use Rattle.eip_endbook.specs.Texts.{total_of};
 
 use crate::counts::Summary;
 use crate::names::{queue_name, route_id};
@@ -163,7 +164,7 @@ fn push_count(out: &mut String, word: &str, count: u64) -> Result<(), NoMemory>
 
 /// Appends the line of exchanges: `total B completed C handled H failed F waiting W`.
 pub fn push_total(out: &mut String, summary: &Summary) -> Result<(), NoMemory>
-    ensures { OnOk result (string_bytes out.new ≡ string_bytes out.old ++ total_line summary.now.total summary.now.completed summary.now.handled summary.now.failed summary.now.waiting) }
+    ensures { OnOk result (string_bytes out.new ≡ string_bytes out.old ++ total_of summary.now) }
 {
     push_count(out, "total ", summary.total)?;
     push_count(out, " completed ", summary.completed)?;

@@ -1,7 +1,7 @@
 -- The sets of the tests can be run.
 use Rattle.std.proofs.Common.{zero, suc, [], ◌∷◌, codes, refl}
 use Rattle.eip_plan.specs.Plan.{plan_of}
-use Rattle.eip_core.specs.Doors.{HasInlets, HasLanes, TellsNone, CanRun}
+use Rattle.eip_core.specs.Doors.{HasInlets, HasLanes, CanRun}
 use Rattle.eip_engine_tests.specs.Rows.{logging, circling}
 
 has-inlets : HasInlets logging (codes "stream" ∷ [])
@@ -12,12 +12,8 @@ has-inlets (suc t) source = absurd (let g = source.1 in cc g)
 has-lanes : HasLanes logging []
 has-lanes name h = absurd (cc h)
 
-tells-none : TellsNone logging
-tells-none zero = refl
-tells-none (suc t) = refl
-
 pub logging-runs : CanRun logging [] (codes "stream" ∷ [])
-logging-runs = record { has_inlets = has-inlets; has_lanes = has-lanes; tells_none = tells-none }
+logging-runs = record { has_inlets = has-inlets; has_lanes = has-lanes }
 
 circling-inlets : HasInlets circling (codes "stream" ∷ [])
 unfolding plan_of
@@ -28,10 +24,5 @@ circling-inlets (suc (suc t)) source = absurd (let g = source.1 in cc g)
 circling-lanes : HasLanes circling []
 circling-lanes name h = absurd (cc h)
 
-circling-untold : TellsNone circling
-circling-untold zero = refl
-circling-untold (suc zero) = refl
-circling-untold (suc (suc t)) = refl
-
 pub circling-runs : CanRun circling [] (codes "stream" ∷ [])
-circling-runs = record { has_inlets = circling-inlets; has_lanes = circling-lanes; tells_none = circling-untold }
+circling-runs = record { has_inlets = circling-inlets; has_lanes = circling-lanes }

@@ -132,8 +132,8 @@ fn left(alloc: Global, hub: &mut Hub) -> Result<(Stop, bool, bool), NoMemory>
     requires past { hub.old.journal.past ≡ [] }
 {
     let stop = drained(alloc, hub)?;
-    let first = is_completed(hub.place(alloc, 1)?);
-    let second = is_ready(hub.place(alloc, 2)?);
+    let first = is_completed(hub.place(1)?);
+    let second = is_ready(hub.place(2)?);
     Ok((stop, first, second))
 }
 
@@ -150,9 +150,9 @@ fn left_circling(alloc: Global, hub: &mut Hub) -> Result<(Stop, [bool; 3]), NoMe
     requires past { hub.old.journal.past ≡ [] }
 {
     let stop = drained(alloc, hub)?;
-    let ready = is_ready(hub.place(alloc, 25)?);
-    let queued = is_queued(hub.place(alloc, 26)?);
-    let unborn = hub.place(alloc, 27)?.is_none();
+    let ready = is_ready(hub.place(25)?);
+    let queued = is_queued(hub.place(26)?);
+    let unborn = hub.place(27)?.is_none();
     Ok((stop, [ready, queued, unborn]))
 }
 

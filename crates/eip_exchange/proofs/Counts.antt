@@ -1,10 +1,8 @@
 -- What the calls of headers do to their count.
-use Rattle.std.proofs.Common.{◌≡◌, ◌≤◌, ◌<◌, ℕ, ◌+◌, ◌^◌, Bool, true, false, cond, not, ◌&&◌, nat_le, List, [], ◌∷◌, length, Some, is_some, refl, sym, ap, subst, true≢false, arith, Result, Ok, Err, OnOk, OnErr}
+use Rattle.std.proofs.Common.{◌≡◌, ◌≤◌, ◌<◌, ℕ, ◌+◌, Bool, true, false, cond, not, ◌&&◌, nat_le, List, [], ◌∷◌, length, Some, is_some, refl, sym, ap, subst, true≢false, arith}
 use Rattle.std.proofs.lemmas.Bool.{leb-false, lt-leb}
 use Rattle.eip_exchange.specs.Pairs.{Pairs, value_of, put, without}
 use Rattle.eip_exchange.specs.Headers.{same_name, get_header, put_header, is_redelivery, is_one_too_many, counted}
-use Rattle.eip_exchange.specs.Keys.{Entries, pairs_of}
-use Rattle.eip_exchange.proofs.Keyed.{length-pairs_of}
 
 pub counted-le-length : (ps : Pairs) → counted ps ≤ length ps
 counted-le-length [] = omega arith
@@ -59,16 +57,6 @@ module _ (same : List ℕ → List ℕ → Bool) where
 pub counted-put_header : (name value : List ℕ) (ps : Pairs) → is_one_too_many name ps ≡ false → counted ps ≤ 64 → counted (put_header name value ps) ≤ 64
 counted-put_header name value ps room limit = within same_name name value ps (is_some (get_header name ps)) (is_redelivery name) refl refl room limit
 
--- fewer than 64 entries are fewer than 64 that count
-pub few-counted : (es : Entries) (n : ℕ) → n ≡ length es → n < 64 → nat_le 64 (counted (pairs_of es)) ≡ false
-few-counted es n e h = lt-leb 64 (counted (pairs_of es)) (omega (arith, e, h, counted-le-length (pairs_of es), length-pairs_of es))
-
--- and as many as a map holds are counted by a machine's number
-pub counted-fits : (es : Entries) (n rest : ℕ) → n + rest ≡ counted (pairs_of es) → length es < 2 ^ 63 → n + 1 < 2 ^ 64
-counted-fits es n rest e h = omega (arith, e, h, counted-le-length (pairs_of es), length-pairs_of es)
-
--- an insertion within the limit, or none
-pub counted-inserted : {T E : Type 0} (r : Result T E) (old new : Entries) (name value : List ℕ) → is_one_too_many name (pairs_of old) ≡ false → counted (pairs_of old) ≤ 64
-    → OnOk r (pairs_of new ≡ put_header name value (pairs_of old)) → OnErr r (new ≡ old) → counted (pairs_of new) ≤ 64
-counted-inserted (Ok x) old new name value room limit set same = subst (λ ps. counted ps ≤ 64) (sym set) (counted-put_header name value (pairs_of old) room limit)
-counted-inserted (Err e) old new name value room limit set same = subst (λ es. counted (pairs_of es) ≤ 64) (sym same) limit
+-- fewer than 64 pairs are fewer than 64 that count
+pub few-counted : (ps : Pairs) (n : ℕ) → n ≡ length ps → n < 64 → nat_le 64 (counted ps) ≡ false
+few-counted ps n e h = lt-leb 64 (counted ps) (omega (arith, e, h, counted-le-length ps))

@@ -1,5 +1,5 @@
 pub mod Pairs
+pub mod Places
 pub mod Headers
-pub mod Keys
 pub mod Ends
 pub mod Limits

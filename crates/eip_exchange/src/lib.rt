@@ -5,7 +5,7 @@ pub mod birth;
 pub mod end;
 pub mod headers;
 pub mod message;
-pub mod name;
+mod pairs;
 pub mod properties;
 pub mod setting;
 

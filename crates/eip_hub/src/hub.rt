@@ -1,10 +1,10 @@
 ghost use Rattle.std.specs.Prelude.{◌≡◌, ◌+◌, ◌<◌, ◌≤◌, [], ℕ, length, IfOk, OnOk, OnErr, Some, IfSome, IfNone, true, false};
-ghost use Rattle.eip_ledger.specs.declared.entry.Kind.TheVariants.{Pull, Accept, Refuse, SourceEnd, SourceFault, Take, Starve, Answer as Answered};
+ghost use Rattle.eip_ledger.specs.declared.entry.Kind.TheVariants.{Pull, Accept, Refuse, SourceEnd, SourceFault, Take, Tick, Starve, Answer as Answered};
 ghost use Rattle.eip_ledger.specs.declared.place.Place.TheVariants.{Ready, InHand};
 ghost use Rattle.eip_history.specs.Own.{turns};
 ghost use Rattle.eip_history.specs.Births.{births, asked};
 ghost use Rattle.eip_history.specs.Place.{ready_numbers, place};
-ghost use Rattle.eip_history.specs.Rules.{May, first, startable, IsBelow, outside_asked};
+ghost use Rattle.eip_history.specs.Rules.{first, startable, outside_asked};
 ghost use Rattle.eip_history.specs.Stop.{stop_of};
 ghost use Rattle.eip_history.specs.Texts.{notes};
 ghost use Rattle.eip_history.specs.Tables.{without};
@@ -13,6 +13,7 @@ ghost use Rattle.eip_plan.specs.Simple.{AnswersSimply};
 ghost use Rattle.eip_tables.specs.declared.asking.Inner.TheVariants.{Did, Outside};
 ghost use Rattle.eip_books.specs.View.{plan, IsLegalRun, Adds, AddsNone, AddsAnswer, StartsFirst};
 ghost use Rattle.eip_tables.specs.Places.{inner_of};
+ghost use Rattle.eip_hub.specs.Events.{Allows, Enters, IsBelowLimit, IsNewRun, UsesRoom, place_in};
 ghost use Rattle.eip_tables.specs.Outside.{is_among, outside_after, unlooked_numbers, IsAsked};
 ghost use Rattle.std.specs.Prelude.{option_map};
 ghost use Rattle.eip_history.specs.BookText.{origin_at};
@@ -30,6 +31,7 @@ use std::marker::Model;
 /// The state of a run: a legal journal of its route set, and what is known of it.
 #[derive(Drop)]
 pub struct Hub {
+    alloc: Global,
     books: Books,
 }
 
@@ -48,15 +50,10 @@ impl Hub {
         requires workers { workers ≤ 16 }
         requires some { 1 ≤ turns }
         requires limit { turns ≤ 1000000 }
-        ensures set { IfOk result (λ h. h.set ≡ set) }
-        ensures workers { IfOk result (λ h. h.journal.workers ≡ workers) }
-        ensures turns { IfOk result (λ h. h.journal.turns ≡ turns) }
-        ensures past { IfOk result (λ h. h.journal.past ≡ []) }
-        ensures room { IfOk result (λ h. h.room ≡ 0) }
-        ensures outside { IfOk result (λ h. h.outside ≡ []) }
+        ensures { IfOk result (λ h. IsNewRun set workers turns h) }
     {
         let books = Books::new(alloc, set, workers, turns)?;
-        Ok(Hub { books })
+        Ok(Hub { alloc, books })
     }
 
     /// The set whose run this is.
@@ -79,15 +76,15 @@ impl Hub {
     pub fn into_journal(self) -> Journal
         ensures { result ≡ self.journal }
     {
-        let Hub { books } = self;
+        let Hub { books, .. } = self;
         books.into_journal()
     }
 
     /// Where an exchange stands; None exactly for a number that is not born.
-    pub fn place(&self, alloc: Global, number: u64) -> Result<Option<Place>, NoMemory>
-        ensures { IfOk result (λ p. p ≡ place (plan self.now) self.now.journal.past number) }
+    pub fn place(&self, number: u64) -> Result<Option<Place>, NoMemory>
+        ensures { IfOk result (λ p. p ≡ place_in self.now number) }
     {
-        self.books.place(alloc, number)
+        self.books.place(self.alloc, number)
     }
 
     /// Where an exchange comes from, with an item lent from the journal; None exactly for a number that is not born.
@@ -99,7 +96,7 @@ impl Hub {
 
     /// How an exchange ended; None exactly where it is not born or has not ended.
     pub fn ended(&self, number: u64) -> Option<Ending>
-        ensures { result ≡ ending_at (place (plan self.now) self.now.journal.past number) }
+        ensures { result ≡ ending_at (place_in self.now number) }
     {
         self.books.ended(number)
     }
@@ -163,13 +160,11 @@ impl Hub {
     pub fn pull(&mut self, worker: u32) -> Option<u32>
         requires worker { worker ≤ self.old.journal.workers }
         requires room { 1 ≤ self.old.room }
-        ensures may { IfSome result (λ t. May (plan self.old) self.old.journal.turns self.old.journal.past worker (Pull t)) }
-        ensures adds { IfSome result (λ t. Adds self.old self.new worker (Pull t)) }
-        ensures room { IfSome result (λ _. self.new.room + 1 ≡ self.old.room) }
-        ensures outside { self.new.outside ≡ self.old.outside }
-        ensures least { IfSome result (λ t. (r : ℕ) → r < t → May (plan self.old) self.old.journal.turns self.old.journal.past worker (Pull r) → ⊥) }
+        ensures may { IfSome result (λ t. Allows self.old worker (Pull t)) }
+        ensures enters { IfSome result (λ t. UsesRoom self.old self.new worker (Pull t) self.old.outside) }
+        ensures least { IfSome result (λ t. (r : ℕ) → r < t → Allows self.old worker (Pull r) → ⊥) }
         ensures none { IfNone result (self.new ≡ self.old) }
-        ensures exact { IfNone result ((r : ℕ) → May (plan self.old) self.old.journal.turns self.old.journal.past worker (Pull r) → ⊥) }
+        ensures exact { IfNone result ((r : ℕ) → Allows self.old worker (Pull r) → ⊥) }
         ensures legal { IsLegalRun self.new }
     {
         let source = self.books.idle_source()?;
@@ -184,11 +179,8 @@ impl Hub {
     /// The pulled source gave an item, which is a new exchange.
     pub fn accept(&mut self, worker: u32, source: u32, item: Text, message: Message)
         requires worker { worker ≤ self.old.journal.workers }
-        requires may { May (plan self.old) self.old.journal.turns self.old.journal.past worker (Accept source item message) }
-        ensures adds { Adds self.old self.new worker (Accept source item message) }
-        ensures legal { IsLegalRun self.new }
-        ensures room { self.new.room ≡ self.old.room }
-        ensures outside { self.new.outside ≡ self.old.outside }
+        requires may { Allows self.old worker (Accept source item message) }
+        ensures { Enters self.old self.new worker (Accept source item message) }
     {
         self.books.accept(worker, source, item, message);
     }
@@ -196,11 +188,8 @@ impl Hub {
     /// The pulled source gave an item that is no exchange.
     pub fn refuse(&mut self, worker: u32, source: u32, item: Text, cause: Refused)
         requires worker { worker ≤ self.old.journal.workers }
-        requires may { May (plan self.old) self.old.journal.turns self.old.journal.past worker (Refuse source item cause) }
-        ensures adds { Adds self.old self.new worker (Refuse source item cause) }
-        ensures legal { IsLegalRun self.new }
-        ensures room { self.new.room ≡ self.old.room }
-        ensures outside { self.new.outside ≡ self.old.outside }
+        requires may { Allows self.old worker (Refuse source item cause) }
+        ensures { Enters self.old self.new worker (Refuse source item cause) }
     {
         self.books.refuse(worker, source, item, cause);
     }
@@ -208,11 +197,8 @@ impl Hub {
     /// The pulled source has no more.
     pub fn source_end(&mut self, worker: u32, source: u32)
         requires worker { worker ≤ self.old.journal.workers }
-        requires may { May (plan self.old) self.old.journal.turns self.old.journal.past worker (SourceEnd source) }
-        ensures adds { Adds self.old self.new worker (SourceEnd source) }
-        ensures legal { IsLegalRun self.new }
-        ensures room { self.new.room ≡ self.old.room }
-        ensures outside { self.new.outside ≡ self.old.outside }
+        requires may { Allows self.old worker (SourceEnd source) }
+        ensures { Enters self.old self.new worker (SourceEnd source) }
     {
         self.books.source_end(worker, source);
     }
@@ -220,11 +206,8 @@ impl Hub {
     /// The pulled source failed and is pulled no more.
     pub fn source_fault(&mut self, worker: u32, source: u32)
         requires worker { worker ≤ self.old.journal.workers }
-        requires may { May (plan self.old) self.old.journal.turns self.old.journal.past worker (SourceFault source) }
-        ensures adds { Adds self.old self.new worker (SourceFault source) }
-        ensures legal { IsLegalRun self.new }
-        ensures room { self.new.room ≡ self.old.room }
-        ensures outside { self.new.outside ≡ self.old.outside }
+        requires may { Allows self.old worker (SourceFault source) }
+        ensures { Enters self.old self.new worker (SourceFault source) }
     {
         self.books.source_fault(worker, source);
     }
@@ -237,7 +220,7 @@ impl Hub {
         ensures starts { IfSome result (λ x. StartsFirst self.old self.new worker x) }
         ensures room { IfSome result (λ _. self.new.room + 1 ≡ self.old.room) }
         ensures none { IfNone result (self.new ≡ self.old) }
-        ensures exact { IfNone result (IsBelow (plan self.old) self.old.journal.turns self.old.journal.past → startable (plan self.old) self.old.journal.past ≡ []) }
+        ensures exact { IfNone result (IsBelowLimit self.old → startable (plan self.old) self.old.journal.past ≡ []) }
         ensures outside { self.new.outside ≡ self.old.outside }
         ensures legal { IsLegalRun self.new }
     {
@@ -247,12 +230,37 @@ impl Hub {
         self.books.start(worker)
     }
 
+    /// Moves the clock on to the least moment at which somebody is due, and whoever is due then may act again. False exactly where somebody
+    /// may act, nobody is due, or the limit is met. On `NoMemory` no entry is made.
+    pub fn tick(&mut self, worker: u32) -> Result<bool, NoMemory>
+        requires worker { worker ≤ self.old.journal.workers }
+        ensures ticked { IfOk result (λ b. b ≡ true → (t : ℕ) × Allows self.old worker (Tick t) × Adds self.old self.new worker (Tick t)) }
+        ensures none { IfOk result (λ b. b ≡ false → self.new ≡ self.old) }
+        ensures exact { IfOk result (λ b. b ≡ false → (t : ℕ) → Allows self.old worker (Tick t) → ⊥) }
+        ensures err { OnErr result (AddsNone self.old self.new) }
+        ensures outside { self.new.outside ≡ self.old.outside }
+        ensures legal { IsLegalRun self.new }
+        ensures room { self.new.room ≡ self.old.room }
+    {
+        if !self.books.is_below() {
+            return Ok(false);
+        }
+        let Some(now) = self.books.due() else {
+            return Ok(false);
+        };
+        if !self.books.is_quiet() {
+            return Ok(false);
+        }
+        self.books.tick(worker, now)?;
+        Ok(true)
+    }
+
     /// Does what a Ready exchange asks for, where no one outside is needed; else it is known as Outside from now on.
     /// On `NoMemory` no entry is made.
     pub fn inner(&mut self, worker: u32, number: u64) -> Result<Inner, NoMemory>
         requires worker { worker ≤ self.old.journal.workers }
-        requires ready { place (plan self.old) self.old.journal.past number ≡ Some Ready }
-        requires below { IsBelow (plan self.old) self.old.journal.turns self.old.journal.past }
+        requires ready { place_in self.old number ≡ Some Ready }
+        requires below { IsBelowLimit self.old }
         ensures did { IfOk result (λ i. i ≡ Did → AddsAnswer self.old self.new worker number) }
         ensures outside { IfOk result (λ i. i ≡ Outside → AddsNone self.old self.new) }
         ensures exact { IfOk result (λ i. i ≡ inner_of (outside_asked (asked (plan self.old) self.old.journal.past number))) }
@@ -268,12 +276,9 @@ impl Hub {
     /// A Ready exchange is ended for want of memory.
     pub fn starve(&mut self, worker: u32, number: u64)
         requires worker { worker ≤ self.old.journal.workers }
-        requires ready { place (plan self.old) self.old.journal.past number ≡ Some Ready }
+        requires ready { place_in self.old number ≡ Some Ready }
         requires room { 1 ≤ self.old.room }
-        ensures adds { Adds self.old self.new worker (Starve number) }
-        ensures legal { IsLegalRun self.new }
-        ensures room { self.new.room + 1 ≡ self.old.room }
-        ensures outside { self.new.outside ≡ without number self.old.outside }
+        ensures { UsesRoom self.old self.new worker (Starve number) (without number self.old.outside) }
     {
         self.books.starve(worker, number);
     }
@@ -283,17 +288,15 @@ impl Hub {
         requires worker { worker ≤ self.old.journal.workers }
         requires room { 1 ≤ self.old.room }
         ensures worker { IfSome result (λ t. t.worker ≡ worker) }
-        ensures may { IfSome result (λ t. May (plan self.old) self.old.journal.turns self.old.journal.past worker (Take t.number)) }
-        ensures adds { IfSome result (λ t. Adds self.old self.new worker (Take t.number)) }
+        ensures may { IfSome result (λ t. Allows self.old worker (Take t.number)) }
+        ensures enters { IfSome result (λ t. UsesRoom self.old self.new worker (Take t.number) (without t.number self.old.outside)) }
         ensures asked { IfSome result (λ t. IsAsked (plan self.new) self.new.journal.past t.number t.request) }
         ensures of_outside { IfSome result (λ t. is_outside t.request ≡ true) }
-        ensures place { IfSome result (λ t. place (plan self.new) self.new.journal.past t.number ≡ Some (InHand worker)) }
+        ensures place { IfSome result (λ t. place_in self.new t.number ≡ Some (InHand worker)) }
         ensures known { IfSome result (λ t. is_among t.number self.old.outside ≡ true) }
         ensures least { IfSome result (λ t. (x : ℕ) → x < t.number → is_among x self.old.outside ≡ false) }
-        ensures outside { IfSome result (λ t. self.new.outside ≡ without t.number self.old.outside) }
-        ensures room { IfSome result (λ _. self.new.room + 1 ≡ self.old.room) }
         ensures none { IfNone result (self.new ≡ self.old) }
-        ensures exact { IfNone result (IsBelow (plan self.old) self.old.journal.turns self.old.journal.past → self.old.outside ≡ []) }
+        ensures exact { IfNone result (IsBelowLimit self.old → self.old.outside ≡ []) }
         ensures legal { IsLegalRun self.new }
     {
         let number = self.books.known_outside()?;
@@ -307,12 +310,9 @@ impl Hub {
     pub fn settle(&mut self, ticket: Ticket, answer: Answer)
         requires worker { ticket.worker ≤ self.old.journal.workers }
         requires fits { fits ticket.request answer ≡ true }
-        requires place { place (plan self.old) self.old.journal.past ticket.number ≡ Some (InHand ticket.worker) }
+        requires place { place_in self.old ticket.number ≡ Some (InHand ticket.worker) }
         requires asked { IsAsked (plan self.old) self.old.journal.past ticket.number ticket.request }
-        ensures adds { Adds self.old self.new ticket.worker (Answered ticket.number answer) }
-        ensures legal { IsLegalRun self.new }
-        ensures room { self.new.room ≡ self.old.room }
-        ensures outside { self.new.outside ≡ self.old.outside }
+        ensures { Enters self.old self.new ticket.worker (Answered ticket.number answer) }
     {
         self.books.settle(ticket, answer);
     }
@@ -320,11 +320,8 @@ impl Hub {
     /// An exchange in hand is ended for want of memory.
     pub fn give_up(&mut self, ticket: Ticket)
         requires worker { ticket.worker ≤ self.old.journal.workers }
-        requires place { place (plan self.old) self.old.journal.past ticket.number ≡ Some (InHand ticket.worker) }
-        ensures adds { Adds self.old self.new ticket.worker (Starve ticket.number) }
-        ensures legal { IsLegalRun self.new }
-        ensures room { self.new.room ≡ self.old.room }
-        ensures outside { self.new.outside ≡ self.old.outside }
+        requires place { place_in self.old ticket.number ≡ Some (InHand ticket.worker) }
+        ensures { Enters self.old self.new ticket.worker (Starve ticket.number) }
     {
         self.books.give_up(ticket);
     }

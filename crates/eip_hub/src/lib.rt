@@ -1,7 +1,9 @@
 // The hub: the state machine that every event of a run passes through. Each event adds one legal entry to the journal.
 #![tactic(auto)]
 
-pub mod hub;
+mod hub;
 
 pub use eip_books::{Inner, OriginView, Ticket};
+pub use eip_exchange::Ending;
+pub use eip_ledger::{Note, Place, Stop};
 pub use hub::Hub;

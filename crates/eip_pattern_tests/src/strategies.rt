@@ -238,7 +238,7 @@ fn is_taken_back(alloc: Global, strategy: &Strategy) -> Result<bool, StrategyFau
     let mut so_far = add(alloc, strategy, None, &first)?;
     let before = message_said(alloc, &so_far)?;
     let undo = add_in_place(alloc, strategy, &mut so_far, &new)?;
-    undo.apply(alloc, &mut so_far);
+    undo.apply(&mut so_far);
     Ok(message_said(alloc, &so_far)?.as_str() == before.as_str())
 }
 

@@ -16,6 +16,7 @@ use Rattle.eip_frames.specs.declared.answer.Completion.TheVariants as by
 use Rattle.eip_history.specs.Groups.{is_due, is_forced, closed_by}
 use Rattle.eip_history.specs.Births.{Asked, Story, story, births, groups, made_at, made_by, made_for, part_births, group_births, next_number, grouped, grouped_by, grouped_for}
 use Rattle.eip_history.specs.Rules.{KeepsRules, May}
+use Rattle.eip_history.specs.TableWords.{is_sleep}
 use Rattle.eip_history.proofs.Told.{births-more}
 use Rattle.eip_history.proofs.Unborn.{legal-tail, legal-may}
 use Rattle.eip_history.proofs.Over.{Each, each-append}
@@ -30,6 +31,7 @@ simple-asked (request.Offer q discard m) a i h = tt
 simple-asked (request.Call r) a i h = tt
 simple-asked (request.Spawn seeds) a i h = tt
 simple-asked (request.Join first count) a i h = tt
+simple-asked (request.Wait t) a i h = tt
 simple-asked (request.Log n t) a i h = tt
 simple-asked (request.Finish e m c) a i h = tt
 simple-asked q reply.Done i h = absurd (cc h)
@@ -44,6 +46,7 @@ simple-asked q reply.Dropped i h = absurd (cc h)
 simple-asked q reply.Entered i h = absurd (cc h)
 simple-asked q (reply.Born first count) i h = absurd (cc h)
 simple-asked q (reply.Joined parts) i h = absurd (cc h)
+simple-asked q (reply.Slept d) i h = absurd (cc h)
 simple-asked q reply.Noted i h = absurd (cc h)
 simple-asked q reply.Finished i h = absurd (cc h)
 simple-asked q reply.CommitFailed i h = absurd (cc h)
@@ -63,6 +66,7 @@ fits-simple (request.Offer q discard m) reply.Dropped i h = tt
 fits-simple (request.Call r) reply.Entered i h = tt
 fits-simple (request.Spawn seeds) (reply.Born first count) i h = tt
 fits-simple (request.Join first count) (reply.Joined parts) i h = tt
+fits-simple (request.Wait t) (reply.Slept d) i h = tt
 fits-simple (request.Log n t) reply.Noted i h = tt
 fits-simple (request.Finish e m c) reply.Finished i h = tt
 fits-simple (request.Finish e m c) reply.CommitFailed i h = tt
@@ -73,6 +77,7 @@ fits-simple (request.Offer q discard m) _ i h = absurd (cc h)
 fits-simple (request.Call r) _ i h = absurd (cc h)
 fits-simple (request.Spawn seeds) _ i h = absurd (cc h)
 fits-simple (request.Join first count) _ i h = absurd (cc h)
+fits-simple (request.Wait t) _ i h = absurd (cc h)
 fits-simple (request.Log n t) _ i h = absurd (cc h)
 fits-simple (request.Finish e m c) _ i h = absurd (cc h)
 fits-simple _ _ i h = absurd i
@@ -121,6 +126,15 @@ outside-unborn q (reply.Born first count) o h = by_request q o h
     by_request _ o h = absurd (cc h)
 outside-unborn q _ o h = refl
 
+-- nobody outside lets an exchange sleep
+pub outside-wakeful : (q : Request) (a : Reply) → is_outside q ≡ true → fits q a ≡ true → is_sleep a ≡ false
+outside-wakeful q (reply.Slept d) o h = by_request q o h
+  where
+    by_request : (q : Request) → is_outside q ≡ true → fits q (reply.Slept d) ≡ true → is_sleep (reply.Slept d) ≡ false
+    by_request (request.Wait t) o h = absurd (cc o)
+    by_request _ o h = absurd (cc h)
+outside-wakeful q _ o h = refl
+
 made-simple : (s : Plan) (t : Story) (past : Past) (k : Asked) (q : Request) (a : Reply) → IsSimple q → bears a ≡ false → made_for s t past k q a ≡ []
 made-simple s t past k (request.Send g m) a i n = refl
 made-simple s t past k (request.Process n m) a i none = refl
@@ -131,6 +145,7 @@ made-simple s t past k (request.Call r) a i n = refl
 made-simple s t past k (request.Spawn seeds) (reply.Born first count) i none = absurd (cc none)
 made-simple s t past k (request.Spawn seeds) _ i none = refl
 made-simple s t past k (request.Join first count) a i n = refl
+made-simple s t past k (request.Wait x) a i none = refl
 made-simple s t past k (request.Log n x) a i none = refl
 made-simple s t past k (request.Finish e m c) a i n = refl
 made-simple s t past k _ a i n = absurd i
@@ -143,6 +158,7 @@ grouped-simple t past k (request.Offer q discard m) a i = refl
 grouped-simple t past k (request.Call r) a i = refl
 grouped-simple t past k (request.Spawn seeds) a i = refl
 grouped-simple t past k (request.Join first count) a i = refl
+grouped-simple t past k (request.Wait x) a i = refl
 grouped-simple t past k (request.Log n x) a i = refl
 grouped-simple t past k (request.Finish e m c) a i = refl
 grouped-simple t past k _ a i = absurd i
@@ -191,6 +207,7 @@ made-simply s limit w past (Answer x (reply.Holds b)) i m h = made-answer s limi
 made-simply s limit w past (Answer x (reply.Full l)) i m h = made-answer s limit w past x (reply.Full l) i refl m
 made-simply s limit w past (Answer x reply.Dropped) i m h = made-answer s limit w past x reply.Dropped i refl m
 made-simply s limit w past (Answer x reply.Entered) i m h = made-answer s limit w past x reply.Entered i refl m
+made-simply s limit w past (Answer x (reply.Slept d)) i m h = made-answer s limit w past x (reply.Slept d) i refl m
 made-simply s limit w past (Answer x reply.Noted) i m h = made-answer s limit w past x reply.Noted i refl m
 made-simply s limit w past (Answer x reply.Finished) i m h = made-answer s limit w past x reply.Finished i refl m
 made-simply s limit w past (Answer x reply.CommitFailed) i m h = made-answer s limit w past x reply.CommitFailed i refl m

@@ -1,4 +1,4 @@
--- Journals in which nothing is answered but requests that make no group, wait for no moment and take no key.
+-- Journals in which nothing is answered but requests that make no group and take no key.
 use Rattle.std.specs.Prelude.{Bool, true, false, [], ◌∷◌}
 use Rattle.eip_exchange.specs.declared.birth.Origin.{Origin}
 use Rattle.eip_exchange.specs.declared.birth.Origin.TheVariants as from
@@ -10,7 +10,7 @@ use Rattle.eip_ledger.specs.declared.entry.Kind.{Kind}
 use Rattle.eip_ledger.specs.declared.entry.Kind.TheVariants.{Answer}
 use Rattle.eip_history.specs.Own.{Past}
 
--- a request that makes no group, waits for no moment and takes no key
+-- a request that makes no group and takes no key
 abbrev pub IsSimple : Request → Type 0
 IsSimple (request.Send t m) = Unit {0}
 IsSimple (request.Process n m) = Unit {0}
@@ -19,6 +19,7 @@ IsSimple (request.Offer q discard m) = Unit {0}
 IsSimple (request.Call r) = Unit {0}
 IsSimple (request.Spawn seeds) = Unit {0}
 IsSimple (request.Join first count) = Unit {0}
+IsSimple (request.Wait t) = Unit {0}
 IsSimple (request.Log n t) = Unit {0}
 IsSimple (request.Finish e m commit) = Unit {0}
 IsSimple _ = ⊥
@@ -37,6 +38,7 @@ IsSimpleAnswer reply.Dropped = Unit {0}
 IsSimpleAnswer reply.Entered = Unit {0}
 IsSimpleAnswer (reply.Born first count) = Unit {0}
 IsSimpleAnswer (reply.Joined parts) = Unit {0}
+IsSimpleAnswer (reply.Slept d) = Unit {0}
 IsSimpleAnswer reply.Noted = Unit {0}
 IsSimpleAnswer reply.Finished = Unit {0}
 IsSimpleAnswer reply.CommitFailed = Unit {0}

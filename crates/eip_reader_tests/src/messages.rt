@@ -228,7 +228,8 @@ fn a_copied_message_stands_alone(rt: HostRuntime) -> Result<(), Fail> {
 
 #[test]
 fn empty_lists_are_small(rt: HostRuntime) {
-    assert!(rt; size_of::<Headers>() == 16);
-    assert!(rt; size_of::<Properties>() == 16);
-    assert!(rt; size_of::<Message>() == 56);
+    // A list without memory is an address, a length and a capacity.
+    assert!(rt; size_of::<Headers>() == 24);
+    assert!(rt; size_of::<Properties>() == 24);
+    assert!(rt; size_of::<Message>() == size_of::<Text>() + 48);
 }

@@ -2,7 +2,7 @@ ghost use Rattle.std.specs.Prelude.{vec_capacity, vec_len, ◌≡◌, ◌+◌, �
 ghost use Rattle.eip_tables.specs.declared.row.Row.{Row as ARow};
 ghost use Rattle.std.specs.Prelude.{OnErr};
 ghost use Rattle.eip_tables.specs.declared.row.Stage.TheVariants.{Starved};
-ghost use Rattle.eip_tables.specs.Moves.{started, begun, answered, held, joining, closed, starved_end, last_message, ended_with, finished_asked, ended_by};
+ghost use Rattle.eip_tables.specs.Moves.{started, begun, answered, held, joining, sleeping, closed, starved_end, last_message, ended_with, finished_asked, ended_by};
 ghost use Rattle.eip_tables.specs.Parts.{seed_rows, starving_faults, rows_behind};
 ghost use Rattle.eip_tables.specs.State.{outside_at, is_wanted};
 ghost use Rattle.eip_tables.specs.Numbers.{IsNumberOf};
@@ -15,6 +15,7 @@ use eip_frames::{Answer, Request, Seed};
 use eip_progress::{Boxed, Cursor};
 use eip_route::RouteSet;
 use eip_tables::parts::{self, Parent};
+use eip_tables::rising::RisingNumbers;
 use eip_tables::row::{self, Row};
 use eip_tables::wanted::first_wanted;
 use eip_text::NoMemory;
@@ -162,6 +163,17 @@ impl Rows {
         row::join(&mut self.rows[(number - 1) as usize], entry)
     }
 
+    /// The exchange sleeps until this moment, by the answer of this journal entry; what it asked is handed out.
+    pub fn sleep(&mut self, number: u64, entry: usize, due: u64) -> Option<Request>
+        requires above { 0 < number }
+        requires within { number ≤ length self.old.items }
+        ensures items { (r : ARow) → slice_get self.old.items (number - 1) ≡ Some r → self.new.items ≡ slice_set self.old.items (number - 1) (sleeping entry due r) }
+        ensures request { (r : ARow) → slice_get self.old.items (number - 1) ≡ Some r → result ≡ r.request }
+        ensures spare { self.old.spare ≤ self.new.spare }
+    {
+        row::sleep(&mut self.rows[(number - 1) as usize], entry, due)
+    }
+
     /// The rows of the parts that these seeds make go behind the others, into room that was reserved, each with a fault for the case
     /// that it is starved.
     pub fn put_parts(&mut self, parent: Parent, seeds: Vec<Seed>, faults: Vec<Fault>)
@@ -174,7 +186,7 @@ impl Rows {
         parts::put_parts(&mut self.rows, parent, seeds, faults);
     }
 
-    /// The last part of the exchange has ended.
+    /// What the exchange has waited for has come: the last of its parts has ended, or its moment is there.
     pub fn wake(&mut self, number: u64)
         requires above { 0 < number }
         requires within { number ≤ length self.old.items }
@@ -218,9 +230,9 @@ impl Rows {
     }
 
     /// The first of these numbers whose exchange is known to ask somebody outside, or is not, as it is wanted.
-    pub fn first_wanted(&self, numbers: &[u64], outside: bool) -> Option<u64>
-        requires { All (IsNumberOf self.now.items) numbers.now }
-        ensures { result ≡ first (filter (λ x. is_wanted outside (outside_at self.now.items x)) numbers.now) }
+    pub fn first_wanted(&self, numbers: &RisingNumbers, outside: bool) -> Option<u64>
+        requires { All (IsNumberOf self.now.items) numbers.now.numbers }
+        ensures { result ≡ first (filter (λ x. is_wanted outside (outside_at self.now.items x)) numbers.now.numbers) }
     {
         first_wanted(self.rows.as_slice(), numbers, outside)
     }

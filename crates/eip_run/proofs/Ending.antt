@@ -1,5 +1,5 @@
 -- What a command comes to, by what was prepared and told.
-use Rattle.std.proofs.Common.{◌≡◌, ℕ, ◌≤◌, true, ◌++◌, List, [], Option, Some, None, Result, Ok, Err, codes, refl, sym, ap, subst, ◌∙◌, inl, inr}
+use Rattle.std.proofs.Common.{◌≡◌, ℕ, ◌≤◌, ◌++◌, List, [], Option, Some, None, Result, Ok, Err, codes, refl, sym, ap, subst, ◌∙◌, inl, inr}
 use Rattle.std.proofs.lemmas.List.{append-nil}
 use Rattle.eip_text.specs.Json.{Json, json_read}
 use Rattle.eip_run.specs.Built.{is_built}
@@ -47,7 +47,7 @@ use Rattle.eip_run.specs.Reports.{IsStill, Ran, IsRun, Comes, Reports, NoCommand
 use Rattle.eip_core.specs.Served.{names_of}
 use Rattle.eip_core.proofs.Compose.{plain-behind}
 use Rattle.eip_run.proofs.Runnable.{Runs, valid-runs}
-use Rattle.eip_run.proofs.Sites.{none-front, none-behind, built-where}
+use Rattle.eip_run.proofs.Sites.{none-front, none-behind}
 
 none-plain : (s : Plan) → IsPlain s []
 unfolding IsPlain
@@ -158,7 +158,7 @@ drain-runs : (ls is : List (List ℕ)) (p : Path) (limit : ℕ) (read : FileRead
 drain-runs ls is p limit read h =
     let n = names_of ls is in
     let set = set_in n read in
-    valid-runs n set (file-valid n read (none-front (sites_in n read) (unless_built (is_built set)) h)) (file-names n read) (built-where (sites_in n read) (is_built set) h)
+    valid-runs n set (file-valid n read (none-front (sites_in n read) (unless_built (is_built set)) h)) (file-names n read)
 
 -- routes that are drained can be run
 pub routes-run : (x : Asked) (p : Path) (limit : ℕ) (set : RouteSet) → HasRoutes x (Drain p limit) set → Runs set x.lanes x.inlets

@@ -1,16 +1,13 @@
--- A valid set of the part that is run can be run over the lanes and inlets with whose names it was read.
+-- A valid set can be run over the lanes and inlets with whose names it was read.
 use Rattle.std.proofs.Common.{◌≡◌, ℕ, zero, suc, ◌+◌, ◌≤◌, ◌&&◌, ◌||◌, Bool, true, false, cond, List, [], ◌∷◌, length, Option, Some, None, refl, subst, arith}
 use Rattle.std.specs.Prelude.{All, nat_lt, bytes_eq, is_some}
 use Rattle.std.specs.Option.{IsSome}
-use Rattle.std.specs.List.{list_all, slice_get, position_from}
+use Rattle.std.specs.List.{slice_get, position_from}
 use Rattle.std.proofs.lemmas.Bool.{and_parts, ltb-false}
 use Rattle.eip_text.specs.Names.{is_name}
 use Rattle.eip_uri.specs.Inlets.{inlet_of}
 use Rattle.eip_uri.specs.Ranges.{is_uri}
 use Rattle.eip_uri.specs.Sides.{is_consumer}
-use Rattle.eip_uri.specs.declared.uri.Uri.{Uri}
-use Rattle.eip_uri.specs.declared.uri.Uri.TheVariants as uri
-use Rattle.eip_run.specs.Built.{is_built, is_built_source, is_built_route, are_built_routes, are_built_blocks, is_empty, is_plain_handler}
 use Rattle.eip_route.specs.Faults.{or_else, set_fault}
 use Rattle.eip_route.specs.Goals.{is_among}
 use Rattle.eip_route.specs.Valid.{IsValid, is_given_among, is_source, is_route}
@@ -19,7 +16,6 @@ use Rattle.eip_route.specs.declared.fault.SetFault.TheVariants.{TooManyRoutes}
 use Rattle.eip_route.specs.declared.route.Names.{Names}
 use Rattle.eip_route.specs.declared.route.Route.{Route}
 use Rattle.eip_route.specs.declared.route.RouteSet.{RouteSet}
-use Rattle.eip_meaning.specs.Meaning.{is_told, is_told_route}
 use Rattle.eip_plan.specs.Plan.{is_source_route, plan_of}
 use Rattle.eip_core.specs.Doors.{inlet_named, inlet_at, HasInlets, HasLanes, CanRun}
 
@@ -52,22 +48,6 @@ has-inlets : (n : Names) (set : RouteSet) → All (λ (r : Route). is_route n r 
 unfolding plan_of
 has-inlets n set valid t is = inlets-of n set.routes t valid is.1
 
-source-untold : (u : Uri) → is_built_source u ≡ true → is_told u ≡ false
-source-untold uri.StreamIn h = refl
-source-untold (uri.Direct name) h = refl
-source-untold (uri.Seda name size consumers discard) h = refl
-source-untold (uri.File folder after failed exist) h = absurd (cc h)
-source-untold (uri.Log name) h = absurd (cc h)
-source-untold (uri.Line host port) h = absurd (cc h)
-source-untold (uri.Listen port) h = absurd (cc h)
-source-untold (uri.Lane name) h = absurd (cc h)
-source-untold (uri.Load n) h = absurd (cc h)
-
-none-told : (rs : List Route) (t : ℕ) → list_all is_built_route rs ≡ true → is_told_route (slice_get rs t) ≡ false
-none-told [] t h = refl
-none-told (r ∷ rs) zero h = source-untold r.from (and_parts (is_built_route r) (list_all is_built_route rs) h).0
-none-told (r ∷ rs) (suc t) h = none-told rs t (and_parts (is_built_route r) (list_all is_built_route rs) h).1
-
 -- ---- lanes
 
 has-lanes : (set : RouteSet) → HasLanes set set.names.lanes
@@ -88,17 +68,9 @@ few-routes set h = by_count _ (nat_lt 256 (length set.routes)) h (ltb-false 256 
     by_count later true h few = absurd (cc h)
     by_count later false h few = few refl
 
-built-sources : (set : RouteSet) → is_built set ≡ true → list_all is_built_route set.routes ≡ true
-unfolding is_built
-built-sources set h = (and_parts (are_built_routes set.routes) (are_built_blocks set.blocks && (is_empty set.clauses && is_plain_handler set.handler)) h).0
-
-pub valid-runs : (n : Names) (set : RouteSet) → IsValid set → set.names ≡ n → is_built set ≡ true → Runs set n.lanes n.inlets
-valid-runs n set valid same built =
+pub valid-runs : (n : Names) (set : RouteSet) → IsValid set → set.names ≡ n → Runs set n.lanes n.inlets
+valid-runs n set valid same =
     subst (λ (m : Names). Runs set m.lanes m.inlets) same (record {
-      can_run = record {
-        has_inlets = has-inlets set.names set valid.routes;
-        has_lanes = has-lanes set;
-        tells_none = λ t. none-told set.routes t (built-sources set built);
-      };
+      can_run = record { has_inlets = has-inlets set.names set valid.routes; has_lanes = has-lanes set };
       few = few-routes set valid.checked;
     })

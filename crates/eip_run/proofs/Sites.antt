@@ -103,10 +103,6 @@ unfolding first_fault
 none-behind [] c h = cc h
 none-behind (s ∷ a) c h = none-behind a c (later-none s.0 (cause_at s.1) (first_fault (a ++ whole_file c)) h).1
 
-pub built-where : (a : List Site) (b : Bool) → first_fault (a ++ unless_built b) ≡ None → b ≡ true
-built-where a true h = refl
-built-where a false h = absurd (none-behind a cause.NotBuilt h)
-
 pub unbuilt-stops : (b : Bool) (f : RouteFault) → Stops (unless_built b) f → ⊥
 unfolding Stops
 unbuilt-stops true f h = h

@@ -1,23 +1,15 @@
 -- The part of routes that is run today.
-use Rattle.std.specs.Prelude.{Bool, true, false, ◌&&◌, nat_eq, List, length, is_none}
+use Rattle.std.specs.Prelude.{Bool, true, false, ◌&&◌, List}
 use Rattle.std.specs.List.{list_all}
 use Rattle.eip_exchange.specs.declared.setting.How.{How}
 use Rattle.eip_exchange.specs.declared.setting.How.TheVariants as how_is
-use Rattle.eip_exchange.specs.declared.setting.Policy.{Policy}
 use Rattle.eip_uri.specs.declared.uri.Uri.{Uri}
 use Rattle.eip_uri.specs.declared.uri.Uri.TheVariants as uri
 use Rattle.eip_route.specs.declared.step.Step.{Step}
 use Rattle.eip_route.specs.declared.step.Step.TheVariants as step
 use Rattle.eip_route.specs.declared.route.Block.{Block}
-use Rattle.eip_route.specs.declared.route.Handler.{Handler}
 use Rattle.eip_route.specs.declared.route.Route.{Route}
 use Rattle.eip_route.specs.declared.route.RouteSet.{RouteSet}
-
-abbrev pub is_plain_policy : Policy → Bool
-is_plain_policy p = is_none p.maximum && (is_none p.delay && (is_none p.multiplier && (is_none p.backing_off && is_none p.greatest)))
-
-abbrev pub is_plain_handler : Handler → Bool
-is_plain_handler h = is_none h.dead && is_plain_policy h.policy
 
 -- a split into the parts of the body; that of a batch comes with groups
 abbrev pub is_built_split : How → Bool
@@ -68,9 +60,6 @@ are_built_routes rs = list_all is_built_route rs
 abbrev pub are_built_blocks : List Block → Bool
 are_built_blocks bs = list_all is_built_block bs
 
-abbrev pub is_empty : {A : Type 0} → List A → Bool
-is_empty xs = nat_eq (length xs) 0
-
--- every route begins at one of these, every step is one of these, there are no clauses, and the handler is the default one without attributes
+-- every route begins at one of these, and every step is one of these
 unfoldable pub is_built : RouteSet → Bool
-is_built set = are_built_routes set.routes && (are_built_blocks set.blocks && (is_empty set.clauses && is_plain_handler set.handler))
+is_built set = are_built_routes set.routes && are_built_blocks set.blocks

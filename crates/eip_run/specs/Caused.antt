@@ -147,9 +147,11 @@ pub record Causes (x : Setting) (o : Outcome) : Type 0 where
   pub cause : CauseOf x o
   pub patterns : PatternsOf x o
   pub no_command : command_of x.words ≡ None → (o ≡ outcome.Words) ⊎ (o ≡ outcome.NoMemory)
-  pub no_routes : (k : Command) (read : FileRead) (f : RouteFault) → InFile x k read → first_fault (sites (asked x) k read) ≡ Some f → IsRefusedFor (sites (asked x) k read) f o
+  pub no_routes : (k : Command) (read : FileRead) (f : RouteFault) → InFile x k read → first_fault (sites (asked x) k read) ≡ Some f
+      → IsRefusedFor (sites (asked x) k read) f o
   pub faultless : IsUnharmed x → IsFaultless o
-  pub drained : (p : Path) (limit : ℕ) (read : FileRead) → InFile x (Drain p limit) read → IsRight (sites (asked x) (Drain p limit) read) → IsUnharmed x → Completes o
+  pub drained : (p : Path) (limit : ℕ) (read : FileRead) → InFile x (Drain p limit) read → IsRight (sites (asked x) (Drain p limit) read)
+      → IsUnharmed x → Completes o
   pub checked : (p : Path) (read : FileRead) → InFile x (Check p) read → IsRight (sites (asked x) (Check p) read) → IsUnharmed x → Prints o
 
 -- the report of a command: what it came to, with its text written, from its cause, with its status. The files are as before

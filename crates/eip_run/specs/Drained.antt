@@ -14,7 +14,8 @@ use Rattle.std.specs.Prelude.{codes}
 -- a run was told, or it found no memory to begin with
 pub data Drained (set : RouteSet) (limit : ℕ) (j : JournalView) (lanes_before lanes_after : List LaneView) (inlets_before inlets_after : List InletView)
     (before after : Option (List ℕ)) (faults_before faults_after : ℕ) : Outcome → Type 0 where
-  RanTo : (s : Stop) (o : Outcome) → Ran set limit j s lanes_before lanes_after inlets_before inlets_after → TellsRun set j.past s before after faults_before faults_after o
+  RanTo : (s : Stop) (o : Outcome) → Ran set limit j s lanes_before lanes_after inlets_before inlets_after
+      → TellsRun set j.past s before after faults_before faults_after o
       → Drained set limit j lanes_before lanes_after inlets_before inlets_after before after faults_before faults_after o
   NotBegun : (o : Outcome) → IsNew j → lanes_after ≡ lanes_before → inlets_after ≡ inlets_before
       → Told outcome.NoMemory (codes "error memory\n") before after faults_before faults_after o

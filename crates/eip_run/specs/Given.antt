@@ -37,7 +37,13 @@ pub record Setting : Type 0 where
   pub journal : JournalView
 
 abbrev pub asked : Setting → Asked
-asked x = record { words = x.words; before = x.before.materials; after = x.after.materials; lanes = lane_names x.before.lanes; inlets = inlet_names x.before.inlets }
+asked x = record {
+  words = x.words;
+  before = x.before.materials;
+  after = x.after.materials;
+  lanes = lane_names x.before.lanes;
+  inlets = inlet_names x.before.inlets;
+}
 
 -- by the members of the objects
 abbrev pub materials : {F : Type 0} → FilesMembers F → F → ℕ → Materials

@@ -14,8 +14,8 @@ use Rattle.eip_endpoint.specs.declared.files.FileRead.{FileRead}
 use Rattle.eip_endpoint.specs.declared.sink.SinkFault.{SinkFault}
 use Rattle.eip_endpoint.specs.declared.sink.SinkFault.TheVariants as fault
 use Rattle.eip_endpoint.specs.Sinks.{Wrote, sink_failure}
-use Rattle.eip_endpoint.specs.Lanes.{LaneView, LanesGrew, lane_names}
-use Rattle.eip_endpoint.specs.Inlets.{InletView, InletsGrew, inlet_names}
+use Rattle.eip_endpoint.specs.Lanes.{LaneView, LanesGrew}
+use Rattle.eip_endpoint.specs.Inlets.{InletView, InletsGrew}
 use Rattle.eip_endpoint.specs.Outside.{calls}
 use Rattle.eip_ledger.specs.View.{JournalView}
 use Rattle.eip_ledger.specs.declared.place.Stop.{Stop}
@@ -26,7 +26,7 @@ use Rattle.eip_history.specs.Stop.{stop_of, IsPlain}
 use Rattle.eip_history.specs.BookText.{log_text_of, book_text_of}
 use Rattle.eip_plan.specs.Plan.{plan_of}
 use Rattle.eip_endbook.specs.Names.{route_names}
-use Rattle.eip_core.specs.Doors.{doors_of}
+use Rattle.eip_core.specs.Doors.{doors_among}
 use Rattle.eip_core.specs.Outside.{seen_answers, inlet_acts}
 use Rattle.eip_run.specs.declared.report.Outcome.{Outcome}
 use Rattle.eip_run.specs.declared.report.Outcome.TheVariants as outcome
@@ -48,14 +48,15 @@ pub record IsStill (x : Setting) : Type 0 where
 
 -- the headline of a run of a set with a limit on its turns: the journal is a legal history of the set in which each entry was made by the actor whose
 -- turn it was, its stop is what it says, and lanes and inlets did what its entries and answers say, in their order
-pub record Ran (set : RouteSet) (limit : ℕ) (j : JournalView) (s : Stop) (lanes_before lanes_after : List LaneView) (inlets_before inlets_after : List InletView) : Type 0 where
+pub record Ran (set : RouteSet) (limit : ℕ) (j : JournalView) (s : Stop) (lanes_before lanes_after : List LaneView)
+    (inlets_before inlets_after : List InletView) : Type 0 where
   pub workers : j.workers ≡ 0
   pub turns : j.turns ≡ limit
   pub legal : IsLegal (plan_of set) 0 limit j.past
   pub plain : IsPlain (plan_of set) j.past
   pub stops : (s ≡ stop.NoMemory) ⊎ (stop_of (plan_of set) limit j.past ≡ Some s)
-  pub lanes : LanesGrew 0 (calls (doors_of set (lane_names lanes_before) (inlet_names inlets_before)) (seen_answers (served (plan_of set) j.past))) lanes_before lanes_after
-  pub inlets : InletsGrew 0 (inlet_acts (doors_of set (lane_names lanes_before) (inlet_names inlets_before)) j.past (served (plan_of set) j.past)) inlets_before inlets_after
+  pub lanes : LanesGrew 0 (calls (doors_among set lanes_before inlets_before) (seen_answers (served (plan_of set) j.past))) lanes_before lanes_after
+  pub inlets : InletsGrew 0 (inlet_acts (doors_among set lanes_before inlets_before) j.past (served (plan_of set) j.past)) inlets_before inlets_after
 
 -- the run that a command made
 abbrev pub IsRun : Setting → RouteSet → (limit : ℕ) → Stop → Type 0
@@ -70,21 +71,25 @@ pub data Comes (x : Setting) : Outcome → List ℕ → Type 0 where
   -- the words are no command
   NoCommand : command_of x.words ≡ None → IsStill x → IsCalm (asked x) → Comes x outcome.Words (codes "error words\n")
   -- the route file could not be read, and the count of faults of the files rose
-  NotRead : (k : Command) → command_of x.words ≡ Some k → IsStill x → Rises 1 x.before.materials.files_faults x.after.materials.files_faults → x.after.materials.pattern_faults ≡ x.before.materials.pattern_faults
-      → Comes x outcome.FilesFault (codes "error files\n")
+  NotRead : (k : Command) → command_of x.words ≡ Some k → IsStill x → Rises 1 x.before.materials.files_faults x.after.materials.files_faults
+      → x.after.materials.pattern_faults ≡ x.before.materials.pattern_faults → Comes x outcome.FilesFault (codes "error files\n")
   -- the route file has a fault, which is its first one or that of a refused pattern before it
   NoRoutes : (k : Command) (read : FileRead) (f : RouteFault) → command_of x.words ≡ Some k → IsStill x → WasRead (asked x) (path_in k) read
       → Finds (sites (asked x) k read) x.before.materials.pattern_faults x.after.materials.pattern_faults f → Comes x (outcome.Routes f) (fault_line f)
   -- the routes were checked
   WasChecked : (p : Path) (set : RouteSet) → HasRoutes (asked x) (Check p) set → IsStill x → Comes x outcome.Checked (canonical_text set)
   -- the routes ran to a stop, with the limit on turns of the words
-  Stopped : (p : Path) (limit : ℕ) (set : RouteSet) (s : Stop) → HasRoutes (asked x) (Drain p limit) set → IsRun x set limit s → s ≢ stop.NoMemory → Comes x (outcome.Ran s) (run_text set x.journal.past s)
+  Stopped : (p : Path) (limit : ℕ) (set : RouteSet) (s : Stop) → HasRoutes (asked x) (Drain p limit) set → IsRun x set limit s → s ≢ stop.NoMemory
+      → Comes x (outcome.Ran s) (run_text set x.journal.past s)
   -- the routes ran until no memory was left
-  Starved : (p : Path) (limit : ℕ) (set : RouteSet) → HasRoutes (asked x) (Drain p limit) set → IsRun x set limit stop.NoMemory → Comes x (outcome.Ran stop.NoMemory) (codes "error memory\n")
+  Starved : (p : Path) (limit : ℕ) (set : RouteSet) → HasRoutes (asked x) (Drain p limit) set → IsRun x set limit stop.NoMemory
+      → Comes x (outcome.Ran stop.NoMemory) (codes "error memory\n")
   -- no memory was left before the routes ran, or for the text of a check, or to tell a fault of the file
-  LacksMemory : IsStill x → x.after.materials.files_faults ≡ x.before.materials.files_faults → IsSpared (asked x) → Comes x outcome.NoMemory (codes "error memory\n")
+  LacksMemory : IsStill x → x.after.materials.files_faults ≡ x.before.materials.files_faults → IsSpared (asked x)
+      → Comes x outcome.NoMemory (codes "error memory\n")
   -- no memory was left for the text of a run
-  LacksText : (p : Path) (limit : ℕ) (set : RouteSet) (s : Stop) → HasRoutes (asked x) (Drain p limit) set → IsRun x set limit s → s ≢ stop.NoMemory → Comes x outcome.NoMemory (codes "error memory\n")
+  LacksText : (p : Path) (limit : ℕ) (set : RouteSet) (s : Stop) → HasRoutes (asked x) (Drain p limit) set → IsRun x set limit s → s ≢ stop.NoMemory
+      → Comes x outcome.NoMemory (codes "error memory\n")
 
 -- a text was written for an outcome, or the front of it where the sink failed, and the outcome is what that left of it
 pub record Told (told : Outcome) (text : List ℕ) (before after : Option (List ℕ)) (faults_before faults_after : ℕ) (o : Outcome) : Type 0 where

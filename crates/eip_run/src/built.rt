@@ -1,22 +1,19 @@
 ghost use Rattle.std.specs.Prelude.{◌≡◌};
 ghost use Rattle.eip_run.specs.Built as spec;
 
-use eip_exchange::{How, Policy};
-use eip_route::{Block, Handler, Route, RouteSet, Step};
+use eip_exchange::How;
+use eip_route::{Block, Route, RouteSet, Step};
 use eip_uri::Uri;
 
 /// Whether the set is of the part that is run today: every source is `stream:in`, a `direct:` or a `seda:`; every step is a
 /// `setBody`, `setHeader`, `setProperty`, `removeHeader`, `to`, `log`, `throwException`, `process`, `choice`, `filter`,
-/// `split` (save that of a batch), `multicast`, `recipientList` or `doTry`; there are no clauses, and the error handler is
-/// the default one without attributes. It takes no memory.
+/// `split` (save that of a batch), `multicast`, `recipientList` or `doTry`; and whatever the error handler and the clauses
+/// are. It takes no memory.
 #[tactic(auto, unfolding(crate::specs::Built::is_built))]
 pub fn is_built(set: &RouteSet) -> bool
     ensures { result ≡ spec.is_built set.now }
 {
-    are_built_routes(set.routes.items())
-        && are_built_blocks(set.blocks.items())
-        && set.clauses.items().is_empty()
-        && is_plain_handler(&set.handler)
+    are_built_routes(set.routes.items()) && are_built_blocks(set.blocks.items())
 }
 
 fn are_built_routes(routes: &[Route]) -> bool
@@ -88,21 +85,4 @@ fn is_built_step(step: &Step) -> bool
         Step::Split { how, .. } => is_built_split(how),
         Step::Aggregate(_) | Step::Idempotent { .. } => false,
     }
-}
-
-/// Whether it is the default error handler (Camel manual, *DefaultErrorHandler*) without attributes.
-fn is_plain_handler(handler: &Handler) -> bool
-    ensures { result ≡ spec.is_plain_handler handler.now }
-{
-    handler.dead.is_none() && is_plain_policy(&handler.policy)
-}
-
-fn is_plain_policy(policy: &Policy) -> bool
-    ensures { result ≡ spec.is_plain_policy policy.now }
-{
-    policy.maximum.is_none()
-        && policy.delay.is_none()
-        && policy.multiplier.is_none()
-        && policy.backing_off.is_none()
-        && policy.greatest.is_none()
 }

@@ -98,7 +98,9 @@ fn routes_for<P: Patterns, L: Lanes, I: Inlets>(
     inlets: &I,
     registry: &Registry,
 ) -> Result<RouteSet, Refusal>
-    ensures { Answers (sites_for command.now (lane_names (L.views lanes.now)) (inlet_names (I.views inlets.now)) read.now) (set_for (lane_names (L.views lanes.now)) (inlet_names (I.views inlets.now)) read.now) (P.pattern_faults patterns.old) (P.pattern_faults patterns.new) result }
+    ensures { Answers (sites_for command.now (lane_names (L.views lanes.now)) (inlet_names (I.views inlets.now)) read.now)
+        (set_for (lane_names (L.views lanes.now)) (inlet_names (I.views inlets.now)) read.now)
+        (P.pattern_faults patterns.old) (P.pattern_faults patterns.new) result }
 {
     let Ok(names) = names_of(alloc, registry, lanes, inlets) else {
         return Err(Refusal::NoMemory);

@@ -54,7 +54,7 @@ fn file_of(alloc: Global, bytes: &str, failing: u64) -> Result<MemoryFiles, NoMe
 }
 
 /// A lane of this name that fails the calls of these numbers.
-fn lane(alloc: Global, name: &str, failing: Vec<u64>) -> Result<Lane<MemoryLane>, NoMemory> {
+pub fn lane(alloc: Global, name: &str, failing: Vec<u64>) -> Result<Lane<MemoryLane>, NoMemory> {
     let name = Text::of_str(alloc, name)?;
     let object = MemoryLane::new(alloc, failing);
     Ok(Lane { name, object })

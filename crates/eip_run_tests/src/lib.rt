@@ -6,6 +6,8 @@ mod calls;
 #[cfg(test)]
 mod commands;
 #[cfg(test)]
+mod errors;
+#[cfg(test)]
 mod given;
 #[cfg(test)]
 mod lines;

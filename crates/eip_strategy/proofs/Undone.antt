@@ -1,10 +1,9 @@
 -- A body that grew is made as it was.
-use Rattle.std.proofs.Common.{◌≡◌, ℕ, ◌+◌, ◌-◌, ◌<◌, ◌≤◌, append-nil, List, [], ◌∷◌, ◌++◌, length, take, get_or, Ok, refl, sym, ap, subst, ◌∙◌, arith, append_assoc, length-append}
+use Rattle.std.proofs.Common.{◌≡◌, ℕ, ◌+◌, ◌-◌, ◌<◌, append-nil, List, [], ◌∷◌, ◌++◌, length, take, get_or, Ok, refl, sym, ap, subst, ◌∙◌, arith, append_assoc, length-append}
 use Rattle.std.specs.Prelude.{◌≢◌}
 use Rattle.std.specs.Str.{IsUtf8}
 use Rattle.std.proofs.Math.Seq.{take-append_seam}
-use Rattle.std.specs.String.Boundary.{IsSplitPoint}
-use Rattle.std.proofs.lemmas.Str.{IsUtf8-take, IsCharBoundary-before_ascii, IsCharBoundary-from_take}
+use Rattle.std.proofs.lemmas.Str.{IsUtf8-take, IsCharBoundary-before_ascii}
 use Rattle.json.specs.Print.{quoted}
 use Rattle.eip_exchange.specs.declared.message.Message.{Message}
 use Rattle.eip_exchange.specs.declared.setting.Strategy.{Strategy}
@@ -73,14 +72,6 @@ undoes_grown Grouped old new body ready keeps grows utf8 h =
     undoes_open old closed.0 (44 ∷ []) (quoted new) body closed.1 (sym (within 65536 _ body h) ∙ sym (group_grown old.body closed.0 new ready closed.1)) utf8
 undoes_grown Sum old new body ready keeps grows utf8 h = absurd (grows refl)
 undoes_grown Batch old new body ready keeps grows utf8 h = absurd (keeps.1 refl)
-
--- ---- where it may be cut
-
-pub split_start : (bytes text : List ℕ) (n : ℕ) → bytes ≡ text → IsUtf8 bytes → n ≤ length text → IsUtf8 (take n text) → IsSplitPoint bytes n
-split_start bytes text n same utf8 le start =
-    let long : length bytes ≡ length text = ap length same in
-    let place = IsCharBoundary-from_take bytes n utf8 (omega arith) (subst (λ (xs : List ℕ). IsUtf8 (take n xs)) (sym same) start) in
-    (place.0, λ _. place.1)
 
 closed_some : (text front : List ℕ) → text ≡ front ++ 93 ∷ [] → 0 < length text
 closed_some text front e = let long : length text ≡ length front + 1 = (last_is text front e).0 in omega arith

@@ -1,4 +1,4 @@
-ghost use Rattle.std.specs.Prelude.{◌≡◌, ◌≢◌, ◌↔◌, ◌<◌, ◌-◌, [], length, Some, Ok, IfOk, OnOk, OnErr, IsNone};
+ghost use Rattle.std.specs.Prelude.{◌≡◌, ◌≢◌, ◌↔◌, ◌<◌, ◌-◌, [], length, Some, Ok, IfOk, OnOk, OnErr, IsNone, string_bytes};
 ghost use Rattle.std.specs.Option.{option_map};
 ghost use Rattle.eip_exchange.specs.declared.setting.Strategy.TheVariants.{Sum};
 ghost use Rattle.eip_resequence.specs.Packing.{IsPacked};
@@ -17,7 +17,7 @@ use crate::growing::{Growing, LIMIT};
 use crate::steps::step;
 use crate::undo::Undo;
 use eip_exchange::{Message, Strategy};
-use eip_text::Text;
+use eip_text::{NoMemory, Text};
 use std::alloc::Global;
 use std::mem::replace;
 
@@ -48,7 +48,7 @@ pub fn add(
     ensures says { Says (λ m. m) result (added strategy.now old new.now) }
     ensures ready { IfOk result (λ m. IsReadyBody strategy.now m.body) }
 {
-    let so_far = growing_of(old);
+    let so_far = growing_of(alloc, old)?;
     Ok(step(alloc, strategy, so_far, new)?.into_message())
 }
 
@@ -81,8 +81,7 @@ fn pack_in_place(alloc: Global, so_far: &mut Message, new: &Message) -> Result<U
     ensures err { OnErr result (so_far.new ≡ so_far.old) }
     ensures undo { IfOk result (λ u. Undoes u so_far.old so_far.new) }
 {
-    let taken = replace(&mut so_far.body, Text::of(String::new(alloc)));
-    let mut body = taken.into_string();
+    let mut body = take_body(alloc, so_far)?;
     let front = front_len(body.as_str());
     let done = push_message(alloc, &mut body, new);
     so_far.body = Text::of(body);
@@ -132,8 +131,7 @@ fn grow_body(
     ensures err { OnErr result (so_far.new ≡ so_far.old) }
     ensures undo { IfOk result (λ u. Undoes u so_far.old so_far.new) }
 {
-    let taken = replace(&mut so_far.body, Text::of(String::new(alloc)));
-    let mut body = taken.into_string();
+    let mut body = take_body(alloc, so_far)?;
     let undo = undo_of(strategy, body.as_str());
     let done = grow(alloc, strategy, &mut body, &new.body);
     so_far.body = Text::of(body);
@@ -152,12 +150,28 @@ fn undo_of(strategy: &Strategy, body: &str) -> Undo
     }
 }
 
-fn growing_of(old: Option<Message>) -> Option<Growing>
-    ensures { option_map grown result ≡ old }
+/// Takes the body out of a message, to grow. Where memory is wanting for that it stays.
+fn take_body(alloc: Global, message: &mut Message) -> Result<String, NoMemory>
+    ensures body { IfOk result (λ b. string_bytes b ≡ message.old.body) }
+    ensures rest { OnOk result (message.new ≡ record message.old { body = [] }) }
+    ensures err { OnErr result (message.new ≡ message.old) }
+{
+    let taken = replace(&mut message.body, Text::of(String::new(alloc)));
+    match taken.into_string(alloc) {
+        Ok(body) => Ok(body),
+        Err(taken) => {
+            message.body = taken;
+            Err(NoMemory)
+        }
+    }
+}
+
+fn growing_of(alloc: Global, old: Option<Message>) -> Result<Option<Growing>, NoMemory>
+    ensures { IfOk result (λ g. option_map grown g ≡ old) }
 {
     match old {
-        None => None,
-        Some(old) => Some(Growing::of(old)),
+        None => Ok(None),
+        Some(old) => Ok(Some(Growing::of(alloc, old)?)),
     }
 }
 

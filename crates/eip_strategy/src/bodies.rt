@@ -79,8 +79,14 @@ fn replace_by_sum(alloc: Global, body: &mut String, new: &Text) -> Result<(), St
         (bounded 65536 (in_decimal (sum_of (whole_of (string_bytes body.old)) (whole_of new.now)))) }
     ensures err { OnErr result (string_bytes body.new ≡ string_bytes body.old) }
 {
-    *body = sum_text(alloc, body.as_bytes(), new)?.into_string();
-    Ok(())
+    let sum = sum_text(alloc, body.as_bytes(), new)?;
+    match sum.into_string(alloc) {
+        Ok(sum) => {
+            *body = sum;
+            Ok(())
+        }
+        Err(_) => Err(StrategyFault::NoMemory),
+    }
 }
 
 /// The sum of two bodies, in decimal.

@@ -19,19 +19,22 @@ pub struct Growing {
 }
 
 impl Growing {
-    /// A message that is taken over, without a copy.
-    pub fn of(message: Message) -> Growing
-        ensures { grown result ≡ message }
+    /// A message that is taken over, without a copy of a long body.
+    pub fn of(alloc: Global, message: Message) -> Result<Growing, NoMemory>
+        ensures { IfOk result (λ g. grown g ≡ message) }
     {
         let Message {
             body,
             headers,
             properties,
         } = message;
-        Growing {
-            body: body.into_string(),
-            headers,
-            properties,
+        match body.into_string(alloc) {
+            Ok(body) => Ok(Growing {
+                body,
+                headers,
+                properties,
+            }),
+            Err(_) => Err(NoMemory),
         }
     }
 

@@ -27,7 +27,7 @@ ready-lives r h = by_state (state_of r) h
     by_state (state.Ended c) h = absurd (cc h)
     by_state _ h = refl
 
-ready-counts : (n : ℕ) (rs : List Row) → length (row_numbers row_ready n rs) ≤ row_count row_live rs
+pub ready-counts : (n : ℕ) (rs : List Row) → length (row_numbers row_ready n rs) ≤ row_count row_live rs
 ready-counts n [] = omega arith
 ready-counts n (r ∷ rs) =
     let ih = ready-counts (n + 1) rs in

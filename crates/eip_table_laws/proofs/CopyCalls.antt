@@ -30,6 +30,7 @@ use Rattle.eip_table_laws.proofs.RowNumbers.{numbers-join}
 use Rattle.eip_table_laws.proofs.RowPlaces.{Placed, row-place, row-on}
 use Rattle.eip_table_laws.proofs.RowSteps.{unasked-started}
 use Rattle.eip_table_laws.proofs.JoinsKept.{joins-stay}
+use Rattle.eip_table_laws.proofs.SleepersKept.{sleepers-stay}
 use Rattle.eip_table_laws.proofs.OwnEvents.{stands-one, of-start, apart-quiet}
 use Rattle.eip_table_laws.proofs.OwnCalls.{IsAt, is-at, row-within, placed-some}
 use Rattle.eip_table_laws.proofs.HandCalls.{place-at}
@@ -41,6 +42,7 @@ waiting-state b state.New p q h i = absurd (cc (sym (ap (is_in q) h) ∙ i))
 waiting-state b (state.Asks c r) p q h i = absurd (cc (sym (ap (is_in q) h) ∙ i))
 waiting-state b (state.Held c w) p q h i = absurd (cc (sym (ap (is_in q) h) ∙ i))
 waiting-state b (state.Joining c j) p q h i = absurd (cc (sym (ap (is_in q) h) ∙ i))
+waiting-state b (state.Asleep c j due) p q h i = absurd (cc (sym (ap (is_in q) h) ∙ i))
 waiting-state b (state.Answered c j) p q h i = absurd (cc (sym (ap (is_in q) h) ∙ i))
 waiting-state b (state.Ended c) p q h i = absurd (cc (sym (ap (is_in q) h) ∙ i))
 waiting-state b state.Broken p q h i = absurd h
@@ -95,11 +97,12 @@ module _ {routes : RouteSet} {workers limit : ℕ} {past : Past} (t : Tables) (w
         let b : row_held r ≡ false = ap state_held waits in
         let l : row_live r ≡ true = ap state_live waits in
         rw (append-nil t.notes, add-zero t.turns) at
-        (stands-one routes workers limit past t w x (x - 1) (Start q x) r (started r) (put_in x t.ready) t.taken t.live queues t.joins st lw may (of-start w q x) refl above row
+        (stands-one routes workers limit past t w x (x - 1) (Start q x) r (started r) (put_in x t.ready) t.taken t.live queues t.joins t.sleepers st lw may (of-start w q x) refl above row
         (λ legal. apart-quiet routes workers limit w x (Start q x) past legal (of-start w q x) refl refl)
         (λ d d_at h.
         row-on routes (record { worker = w; kind = Start q x }) past d r (started r) h refl refl refl l
         (let g : IsWaiting past d = rw waits at h.stands in
         subst (λ (n : ℕ). IsUnasked ((record { worker = w; kind = Start q n }) ∷ past) d) (number-of d d_at) (unasked-started past w q d g.none)))
         (ap (put_in x) st.ready ∙ sym (rw number at (numbers-join row_ready 1 t.rows (x - 1) r (started r) row (ap state_ready waits) refl)))
-        (rw b refl) (rw l refl) queues_are (λ legal. joins-stay routes workers limit w (Start q x) past t.joins legal refl st.joins))
+        (rw b refl) (rw l refl) queues_are (λ legal. joins-stay routes workers limit w (Start q x) past t.joins legal refl st.joins)
+        (λ legal. sleepers-stay routes workers limit w (Start q x) past t.sleepers legal refl st.sleepers))

@@ -35,7 +35,7 @@ use Rattle.eip_history.proofs.Places.{ended-is}
 use Rattle.eip_history.proofs.Unborn.{birth-stays}
 use Rattle.eip_plan.specs.Plan.{plan_of}
 use Rattle.eip_plan.specs.Simple.{IsSimple}
-use Rattle.eip_plan.proofs.Items.{bears, outside-simple, fits-simple, outside-unqueued, outside-unborn, unborn-births}
+use Rattle.eip_plan.proofs.Items.{bears, outside-simple, fits-simple, outside-unqueued, outside-unborn, outside-wakeful, unborn-births}
 use Rattle.eip_meaning.proofs.Laws.{asked-finish}
 use Rattle.eip_progress.specs.declared.cursor.Cursor.{Cursor}
 use Rattle.eip_seda.specs.Consuming.{QueueView}
@@ -64,6 +64,7 @@ use Rattle.eip_table_laws.proofs.QueueCalls.{queues-stay, queues-on, leaving-ans
 use Rattle.eip_table_laws.proofs.Leaving.{ends-some, may-leave, queues-ended}
 use Rattle.eip_table_laws.proofs.PartFacts.{IsNoJoin, unopened, stands-alive}
 use Rattle.eip_table_laws.proofs.JoinsKept.{joins-stay, joins-on}
+use Rattle.eip_table_laws.proofs.SleepersKept.{sleepers-stay}
 use Rattle.eip_table_laws.proofs.Telling.{IsShut, shut-none, may-tell, joins-alone, joins-ended, moves-alone, also-moves, woken-within, starved-end, starved-told}
 use Rattle.eip_table_laws.proofs.OwnEvents.{AlsoMoves, StandsApart, stands-one, apart-quiet, apart-lives, notes_in, of-take, of-answer, of-starve}
 use Rattle.eip_table_laws.proofs.Ending.{stands-end}
@@ -147,6 +148,7 @@ held-placed b state.New p w e h = absurd (cc (sym e ∙ h))
 held-placed b (state.Asks c q) p w e h = absurd (cc (sym e ∙ h))
 held-placed b (state.Held c v) p w e h = let same : v ≡ w = (let both = sym h ∙ e in cc) in (c, ap (state.Held c) same)
 held-placed b (state.Joining c i) p w e h = absurd (cc (sym e ∙ h))
+held-placed b (state.Asleep c i due) p w e h = absurd (cc (sym e ∙ h))
 held-placed b (state.Answered c i) p w e h = absurd (cc (sym e ∙ h))
 held-placed b (state.Ended c) p w e h = absurd (cc (sym e ∙ h))
 held-placed b state.Broken p w e h = absurd h
@@ -157,6 +159,7 @@ held-fields (stage.Held v) (Some d) oq f c w h = (cc, refl)
 held-fields stage.Asks (Some d) (Some q) f c w h = absurd (cc h)
 held-fields stage.Failed oc oq (Some f) c w h = absurd (cc h)
 held-fields (stage.Joining i) (Some d) oq f c w h = absurd (cc h)
+held-fields (stage.Asleep i due) (Some d) oq f c w h = absurd (cc h)
 held-fields (stage.Answered i) (Some d) oq f c w h = absurd (cc h)
 held-fields _ _ _ f c w h = absurd (cc h)
 
@@ -318,7 +321,7 @@ module _ {routes : RouteSet} {workers limit : ℕ} {past : Past} (t : Tables) (w
         let b' : row_held (held w r) ≡ true = ap state_held now-held in
         let l' : row_live (held w r) ≡ true = ap state_live now-held in
         rw (append-nil t.notes, add-zero t.turns) at
-        (stands-one routes workers limit past t w x (x - 1) (Take x) r (held w r) (without x t.ready) (t.taken + 1) t.live t.queues t.joins st lw (may-take below) (of-take w x) refl (above place_is.Ready ready) row
+        (stands-one routes workers limit past t w x (x - 1) (Take x) r (held w r) (without x t.ready) (t.taken + 1) t.live t.queues t.joins t.sleepers st lw (may-take below) (of-take w x) refl (above place_is.Ready ready) row
         (λ legal. apart-quiet routes workers limit w x (Take x) past legal (of-take w x) refl refl)
         (λ d d_at h.
         row-on routes (record { worker = w; kind = Take x }) past d r (held w r) h refl refl refl (l ∙ sym l')
@@ -327,7 +330,8 @@ module _ {routes : RouteSet} {workers limit : ℕ} {past : Past} (t : Tables) (w
         (ap (without x) st.ready ∙ sym (rw number at (numbers-leave row_ready 1 t.rows (x - 1) (held w r) (ap state_ready now-held))))
         (rw (b, b') (omega arith)) (rw (l, l') refl)
         (λ legal. queues-stay routes workers limit w (Take x) past t.queues legal refl refl st.queues)
-        (λ legal. joins-stay routes workers limit w (Take x) past t.joins legal refl st.joins))
+        (λ legal. joins-stay routes workers limit w (Take x) past t.joins legal refl st.joins)
+        (λ legal. sleepers-stay routes workers limit w (Take x) past t.sleepers legal refl st.sleepers))
 
   -- it is in this worker's hand
   module _ (placed : place (plan_of routes) past x ≡ Some (place_is.InHand w)) where
@@ -408,7 +412,7 @@ module _ {routes : RouteSet} {workers limit : ℕ} {past : Past} (t : Tables) (w
       settled = record { worker = w; kind = Answer x a }
 
       runs : pause_of (Some a) ≡ Runs
-      runs = runs-simple a (fits-simple q a known.simple fit) (outside-unborn q a known.outside fit)
+      runs = runs-simple a (outside-unborn q a known.outside fit) (outside-wakeful q a known.outside fit)
 
       gets : (d : Birth) → slice_get (births (plan_of routes) past) (x - 1) ≡ Some d → HasAnswer routes ((record { worker = w; kind = Answer x a }) ∷ past) d in-hand.0 (length past) place_is.Ready
       gets d d_at =
@@ -439,13 +443,14 @@ module _ {routes : RouteSet} {workers limit : ℕ} {past : Past} (t : Tables) (w
         let l : row_live (answered (length past) r) ≡ true = ap state_live now in
         let n = taken-above in
         rw (no-notes q a k, append-nil t.notes) at
-        (stands-one routes workers limit past t w x (x - 1) (Answer x a) r (answered (length past) r) (put_in x t.ready) (t.taken - 1) t.live t.queues t.joins st lw (may-answer q a k fit)
+        (stands-one routes workers limit past t w x (x - 1) (Answer x a) r (answered (length past) r) (put_in x t.ready) (t.taken - 1) t.live t.queues t.joins t.sleepers st lw (may-answer q a k fit)
         (of-answer w x a (fits-simple q a k.simple fit)) (unborn-births (plan_of routes) past x a (outside-unborn q a k.outside fit)) (above (place_is.InHand w) placed) row
         (λ legal. apart-lives routes workers limit w x (Answer x a) past legal (of-answer w x a (fits-simple q a k.simple fit)) (lives-on q a asks fit goes))
         (λ d d_at h. row-on routes (record { worker = w; kind = Answer x a }) past d r (answered (length past) r) h refl refl refl (was-live ∙ sym l) (rw now (gets q a asks fit goes d d_at)))
         (ap (put_in x) st.ready ∙ sym (rw number at (numbers-join row_ready 1 t.rows (x - 1) r (answered (length past) r) row (ap state_ready in-hand.1) (ap state_ready now))))
         (rw (was-held, b) (omega (arith, n))) (rw (was-live, l) refl) (same-queues q a asks fit goes)
-        (λ legal. joins-on routes workers limit w x a past legal (lives-on q a asks fit goes) (outside-closes q a k.outside fit) (unopened routes past x (record { birth = (here (place_is.InHand w) placed).birth; request = q; at = k.asking.at }) k.asked_is (outside-other q k.outside)) st.joins))
+        (λ legal. joins-on routes workers limit w x a past legal (lives-on q a asks fit goes) (outside-closes q a k.outside fit) (unopened routes past x (record { birth = (here (place_is.InHand w) placed).birth; request = q; at = k.asking.at }) k.asked_is (outside-other q k.outside)) st.joins)
+        (λ legal. sleepers-stay routes workers limit w (Answer x a) past t.sleepers legal (outside-wakeful q a k.outside fit) st.sleepers))
 
     -- it ends as its source took it
     module _ (q : Request) (e : End) (a : Reply) (asks : IsAsked (plan_of routes) past x q) (fit : fits q a ≡ true) (ends : end_asked (Some q) ≡ Some e) where
@@ -521,12 +526,13 @@ module _ {routes : RouteSet} {workers limit : ℕ} {past : Past} (t : Tables) (w
           let n = taken-above in
           let m = held-live in
           rw (no-notes q a told-end, append-nil t.notes) at
-          (stands-one routes workers limit past t w x (x - 1) (Answer x a) r (ended_by e a r) t.ready (t.taken - 1) (t.live - 1) queues t.joins st lw (may-answer q a told-end fit)
+          (stands-one routes workers limit past t w x (x - 1) (Answer x a) r (ended_by e a r) t.ready (t.taken - 1) (t.live - 1) queues t.joins t.sleepers st lw (may-answer q a told-end fit)
           (of-answer w x a (fits-simple q a told-end.simple fit)) (unborn-births (plan_of routes) past x a (outside-unborn q a told-end.outside fit)) (above (place_is.InHand w) placed) row over-moves
           (λ d d_at g. row-ended routes (record { worker = w; kind = Answer x a }) past d r (ended_by e a r) g (sym (ended-by-born e a r)) l (rw now-over (is-over d d_at)))
           (st.ready ∙ sym (numbers-stay row_ready 1 t.rows (x - 1) r (ended_by e a r) row (ap state_ready in-hand.1 ∙ sym (ap state_ready now-over))))
           (rw (was-held, b) (omega (arith, n))) (rw (was-live, l) (omega (arith, m)))
-          (λ legal. queues-ended workers limit w x (Answer x a) h.birth t.queues (leaving-answer x a (outside-unqueued q a told-end.outside fit)) legal h.at over-some st.queues r.born queues h.stands.born leaves) joins-over)
+          (λ legal. queues-ended workers limit w x (Answer x a) h.birth t.queues (leaving-answer x a (outside-unqueued q a told-end.outside fit)) legal h.at over-some st.queues r.born queues h.stands.born leaves) joins-over
+          (λ legal. sleepers-stay routes workers limit w (Answer x a) past t.sleepers legal (outside-wakeful q a told-end.outside fit) st.sleepers))
 
     pub end-not-outside : (q : Request) (e : End) (a : Reply) → IsAsked (plan_of routes) past x q → fits q a ≡ true → end_asked (Some q) ≡ Some e → row_outside (ended_by e a r) ≡ false
     end-not-outside q e a asks fit ends =
@@ -610,4 +616,4 @@ module _ {routes : RouteSet} {workers limit : ℕ} {past : Past} (t : Tables) (w
           (subst (λ (n : ℕ). HasEnded routes ((record { worker = w; kind = Starve n }) ∷ past) d closing.Starved) (number-of (place_is.InHand w) placed d d_at) (has-starved routes past w d)))
           (st.ready ∙ sym (numbers-stay row_ready 1 t.rows (x - 1) r (closed stage.Starved r) row (ap state_ready in-hand.1)))
           (rw was-held (omega (arith, n))) (rw was-live (omega (arith, m)))
-          (λ legal. queues-ended workers limit w x (Starve x) h.birth t.queues (leaving-starve x) legal h.at gone-some st.queues r.born queues h.stands.born leaves) joins-gone)
+          (λ legal. queues-ended workers limit w x (Starve x) h.birth t.queues (leaving-starve x) legal h.at gone-some st.queues r.born queues h.stands.born leaves) joins-gone refl)

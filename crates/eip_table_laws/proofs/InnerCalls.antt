@@ -18,7 +18,7 @@ use Rattle.eip_table_laws.proofs.LookCalls.{known-state}
 use Rattle.eip_table_laws.proofs.OwnCalls.{asked-there}
 use Rattle.eip_tables.specs.declared.asking.Asked.TheVariants as kind
 use Rattle.eip_tables.specs.Offers.{AsksOffer, AsksCall}
-use Rattle.eip_tables.specs.Asking.{asked_kind, is_outside_kind, AsksLine, AsksEnd, AsksParts, AsksEnds}
+use Rattle.eip_tables.specs.Asking.{asked_kind, is_outside_kind, AsksLine, AsksEnd, AsksParts, AsksEnds, AsksMoment}
 
 pub kind-outside : (q : Request) → is_outside_kind (asked_kind q) ≡ is_outside q
 kind-outside (request.Finish e m true) = refl
@@ -83,6 +83,15 @@ kind-ends known x (request.Send t m) at h = absurd (cc h)
 kind-ends known x (request.Process n m) at h = absurd (cc h)
 kind-ends known x (request.Test n m) at h = absurd (cc h)
 kind-ends known x _ at h = absurd (cc h)
+
+pub kind-moment : (known : List (Option Request)) (x : ℕ) (q : Request) → slice_get known (x - 1) ≡ Some (Some q) → asked_kind q ≡ kind.Moment → AsksMoment known x
+kind-moment known x (request.Wait ticks) at h = record { ticks = ticks; asks = at }
+kind-moment known x (request.Finish e m true) at h = absurd (cc h)
+kind-moment known x (request.Finish e m false) at h = absurd (cc h)
+kind-moment known x (request.Send t m) at h = absurd (cc h)
+kind-moment known x (request.Process n m) at h = absurd (cc h)
+kind-moment known x (request.Test n m) at h = absurd (cc h)
+kind-moment known x _ at h = absurd (cc h)
 
 pub outside-of : (o : Option HasAsked) (k : HasAsked) (q : Request) → o ≡ Some k → k.request ≡ q → outside_asked o ≡ is_outside q
 outside-of o k q h e = rw h (ap is_outside e)

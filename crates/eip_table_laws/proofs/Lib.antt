@@ -3,6 +3,7 @@ pub mod RowPlaces
 pub mod RowSteps
 pub mod PartFacts
 pub mod JoinsKept
+pub mod SleepersKept
 pub mod SourceEvents
 pub mod OwnEvents
 pub mod Telling
@@ -18,9 +19,14 @@ pub mod LookCalls
 pub mod OfferCalls
 pub mod AskedPlaces
 pub mod PartCalls
+pub mod SleepCalls
 pub mod InnerCalls
 pub mod StopCalls
 pub mod Bounds
+pub mod RowTicks
+pub mod DueMoments
+pub mod TickCalls
+pub mod QuietTables
 pub mod Empty
 pub mod ListedNumbers
 pub mod HandCalls

@@ -33,6 +33,7 @@ asks-is stage.Asks (Some d) (Some p) f c q h = let same : p ≡ q = cc in ap is_
 asks-is (stage.Held v) (Some d) oq f c q h = absurd (cc h)
 asks-is stage.Failed oc oq (Some f) c q h = absurd (cc h)
 asks-is (stage.Joining i) (Some d) oq f c q h = absurd (cc h)
+asks-is (stage.Asleep i due) (Some d) oq f c q h = absurd (cc h)
 asks-is (stage.Answered i) (Some d) oq f c q h = absurd (cc h)
 asks-is _ _ _ f c q h = absurd (cc h)
 

@@ -29,7 +29,7 @@ use Rattle.eip_history.specs.Births.{births, fate, asked, Asked, story, made_by}
 use Rattle.eip_history.specs.Place.{place, place_of, ended, end_of, waiting, joined, all_ended, pause_of, Runs}
 use Rattle.eip_history.specs.Rules.{IsBelow, KeepsRules, May, MayAct, Content}
 use Rattle.eip_history.specs.Tables.{without, bit}
-use Rattle.eip_history.specs.TableWords.{open_parts, born_by}
+use Rattle.eip_history.specs.TableWords.{open_parts, born_by, is_sleep}
 use Rattle.eip_history.proofs.Limit.{not-same, turns-more}
 use Rattle.eip_history.proofs.Lists.{related-at, related-length, related-push, numbered-at, slice_get-some}
 use Rattle.eip_history.proofs.Told.{births-more, births-numbered}
@@ -65,6 +65,7 @@ use Rattle.eip_tables.specs.Rows.{ComesFrom, Keeps, RowStands, IsAsking, HasAnsw
 use Rattle.eip_tables.specs.Stands.{Tables, Stands}
 use Rattle.eip_table_laws.proofs.PartFacts.{IsNoJoin, unopened, answer-lives, joined-many, stands-alive}
 use Rattle.eip_table_laws.proofs.JoinsKept.{opens, ends-are, ready-is, joins-on, joins-closed}
+use Rattle.eip_table_laws.proofs.SleepersKept.{sleepers-stay}
 use Rattle.eip_table_laws.proofs.Telling.{IsShut, shut-none, shut-closing, may-tell, joins-ended, also-moves, woken-within, starved-end, starved-told}
 use Rattle.eip_table_laws.proofs.RowNumbers.{numbers-stay, numbers-leave, count-set, count-push, push-none}
 use Rattle.eip_table_laws.proofs.RowPlaces.{plan-mean, row-is_ready, row-on, row-ended, fate-asks}
@@ -117,6 +118,7 @@ ready-facts state.Queued h = absurd (cc h)
 ready-facts state.New h = (refl, refl)
 ready-facts (state.Asks c q) h = (refl, refl)
 ready-facts (state.Joining c i) h = absurd (cc h)
+ready-facts (state.Asleep c i due) h = absurd (cc h)
 ready-facts (state.Answered c i) h = (refl, refl)
 ready-facts (state.Held c w) h = absurd (cc h)
 ready-facts (state.Ended c) h = absurd (cc h)
@@ -149,6 +151,7 @@ asks-fields stage.Asks (Some c') (Some q') f c q h = (cc, cc)
 asks-fields stage.Failed oc oq (Some f) c q h = absurd (cc h)
 asks-fields (stage.Held w) (Some c') oq f c q h = absurd (cc h)
 asks-fields (stage.Joining i) (Some c') oq f c q h = absurd (cc h)
+asks-fields (stage.Asleep i due) (Some c') oq f c q h = absurd (cc h)
 asks-fields (stage.Answered i) (Some c') oq f c q h = absurd (cc h)
 asks-fields _ _ _ f c q h = absurd (cc h)
 
@@ -213,7 +216,7 @@ module _ {routes : RouteSet} {workers limit : ℕ} {past : Past} (t : Tables) (w
 
   -- it goes on with an answer that needs nobody outside
   module _ (q : Request) (a : Reply) (written : List Note) (asks : state_of r ≡ state.Asks c q) (inner : is_outside q ≡ false) (simple : IsSimpleAnswer a)
-      (unborn : bears a ≡ false) (goes : IsNoFinish q) (fit : fits q a ≡ true) where
+      (unborn : bears a ≡ false) (wakeful : is_sleep a ≡ false) (goes : IsNoFinish q) (fit : fits q a ≡ true) where
     now-answered : state_of (answered (length past) r) ≡ state.Answered c (length past)
     now-answered = answered-state (length past) r c q asks
 
@@ -221,7 +224,7 @@ module _ {routes : RouteSet} {workers limit : ℕ} {past : Past} (t : Tables) (w
     goes-on =
         let e : Entry = record { worker = w; kind = Answer x a } in
         let at : slice_get (births (plan_of routes) past) (x - 1) ≡ Some here.birth = subst (λ (n : ℕ). numbered (births (plan_of routes) past) n ≡ Some here.birth) (sym above) here.at in
-        ended-is (plan_of routes) (e ∷ past) x here.birth (birth-stays (plan_of routes) e past x here.birth here.at) ∙ (has-it q a asks (runs-simple a simple unborn) goes fit here.birth at here.stands).lives
+        ended-is (plan_of routes) (e ∷ past) x here.birth (birth-stays (plan_of routes) e past x here.birth here.at) ∙ (has-it q a asks (runs-simple a unborn wakeful) goes fit here.birth at here.stands).lives
 
     stands-on : (joins : List (ℕ × Open)) → IsBelow (plan_of routes) limit past → Content (plan_of routes) past (record { birth = here.birth; request = q; at = (asking q asks).at }) q a → notes_in (plan_of routes) past w (Answer x a) ≡ written
         → (KeepsRules (plan_of routes) workers limit ((record { worker = w; kind = Answer x a }) ∷ past) → JoinsStand routes ((record { worker = w; kind = Answer x a }) ∷ past) joins)
@@ -231,7 +234,7 @@ module _ {routes : RouteSet} {workers limit : ℕ} {past : Past} (t : Tables) (w
         let b : row_held (answered (length past) r) ≡ false = ap state_held now-answered in
         let l : row_live (answered (length past) r) ≡ true = ap state_live now-answered in
         rw written_is at
-        (stands-one routes workers limit past t w x (x - 1) (Answer x a) r (answered (length past) r) t.ready t.taken t.live t.queues joins st lw
+        (stands-one routes workers limit past t w x (x - 1) (Answer x a) r (answered (length past) r) t.ready t.taken t.live t.queues joins t.sleepers st lw
         (record {
           asks = record { birth = here.birth; request = q; at = (asking q asks).at };
           asked_is = asked-here q asks;
@@ -241,10 +244,11 @@ module _ {routes : RouteSet} {workers limit : ℕ} {past : Past} (t : Tables) (w
         })
         (of-answer w x a simple) (unborn-births (plan_of routes) past x a unborn) above row
         (λ legal. apart-lives routes workers limit w x (Answer x a) past legal (of-answer w x a simple) goes-on)
-        (λ d d_at h. row-on routes (record { worker = w; kind = Answer x a }) past d r (answered (length past) r) h refl refl refl (was-live q asks ∙ sym l) (rw now-answered (has-it q a asks (runs-simple a simple unborn) goes fit d d_at h)))
+        (λ d d_at h. row-on routes (record { worker = w; kind = Answer x a }) past d r (answered (length past) r) h refl refl refl (was-live q asks ∙ sym l) (rw now-answered (has-it q a asks (runs-simple a unborn wakeful) goes fit d d_at h)))
         (st.ready ∙ sym (numbers-stay row_ready 1 t.rows (x - 1) r (answered (length past) r) row (still-ready q asks ∙ sym (ap state_ready now-answered))))
         (rw (not-held q asks, b) refl) (rw (was-live q asks, l) refl)
-        (λ legal. queues-on routes workers limit w x a past here.birth t.queues legal (unborn-unqueued a unborn) here.at goes-on st.queues) joins_are)
+        (λ legal. queues-on routes workers limit w x a past here.birth t.queues legal (unborn-unqueued a unborn) here.at goes-on st.queues) joins_are
+        (λ legal. sleepers-stay routes workers limit w (Answer x a) past t.sleepers legal wakeful st.sleepers))
 
     -- and its joins are as they were, where it asked for none
     same-joins : born_by a ≡ None → IsNoJoin q → KeepsRules (plan_of routes) workers limit ((record { worker = w; kind = Answer x a }) ∷ past) → JoinsStand routes ((record { worker = w; kind = Answer x a }) ∷ past) t.joins
@@ -259,7 +263,7 @@ module _ {routes : RouteSet} {workers limit : ℕ} {past : Past} (t : Tables) (w
       let q : Request = request.Log name text in
       let note : List Note = (record { number = x; name = name; text = text }) ∷ [] in
       let written : notes_in (plan_of routes) past w (Answer x reply.Noted) ≡ note = rw (asked-here q asks, here.number) refl in
-      stands-on q reply.Noted note asks refl tt refl tt refl t.joins below tt written (same-joins q reply.Noted note asks refl tt refl tt refl refl tt)
+      stands-on q reply.Noted note asks refl tt refl refl tt refl t.joins below tt written (same-joins q reply.Noted note asks refl tt refl refl tt refl refl tt)
 
   -- the block of the route that it calls runs
   pub stands-entered : (route : ℕ) → state_of r ≡ state.Asks c (request.Call route) → IsBelow (plan_of routes) limit past
@@ -267,7 +271,7 @@ module _ {routes : RouteSet} {workers limit : ℕ} {past : Past} (t : Tables) (w
       (record t { rows = put_at t.rows (x - 1) (answered (length past) r); turns = t.turns + 1 })
   stands-entered route asks below =
       let q : Request = request.Call route in
-      rw (append-nil t.notes) at (stands-on q reply.Entered [] asks refl tt refl tt refl t.joins below tt (rw (asked-here q asks) refl) (same-joins q reply.Entered [] asks refl tt refl tt refl refl tt))
+      rw (append-nil t.notes) at (stands-on q reply.Entered [] asks refl tt refl refl tt refl t.joins below tt (rw (asked-here q asks) refl) (same-joins q reply.Entered [] asks refl tt refl refl tt refl refl tt))
 
   -- the queue that it offers to is full
   pub stands-full : (queue size : ℕ) (m : Message) → state_of r ≡ state.Asks c (request.Offer queue false m) → IsBelow (plan_of routes) limit past
@@ -276,7 +280,7 @@ module _ {routes : RouteSet} {workers limit : ℕ} {past : Past} (t : Tables) (w
       (record t { rows = put_at t.rows (x - 1) (answered (length past) r); turns = t.turns + 1 })
   stands-full queue size m asks below many full =
       let q : Request = request.Offer queue false m in
-      rw (append-nil t.notes) at (stands-on q (reply.Full size) [] asks refl tt refl tt refl t.joins below (many, full) (rw (asked-here q asks) refl) (same-joins q (reply.Full size) [] asks refl tt refl tt refl refl tt))
+      rw (append-nil t.notes) at (stands-on q (reply.Full size) [] asks refl tt refl refl tt refl t.joins below (many, full) (rw (asked-here q asks) refl) (same-joins q (reply.Full size) [] asks refl tt refl refl tt refl refl tt))
 
   -- and drops the copy
   pub stands-dropped : (queue : ℕ) (m : Message) → state_of r ≡ state.Asks c (request.Offer queue true m) → IsBelow (plan_of routes) limit past
@@ -285,7 +289,7 @@ module _ {routes : RouteSet} {workers limit : ℕ} {past : Past} (t : Tables) (w
       (record t { rows = put_at t.rows (x - 1) (answered (length past) r); turns = t.turns + 1 })
   stands-dropped queue m asks below full =
       let q : Request = request.Offer queue true m in
-      rw (append-nil t.notes) at (stands-on q reply.Dropped [] asks refl tt refl tt refl t.joins below full (rw (asked-here q asks) refl) (same-joins q reply.Dropped [] asks refl tt refl tt refl refl tt))
+      rw (append-nil t.notes) at (stands-on q reply.Dropped [] asks refl tt refl refl tt refl t.joins below full (rw (asked-here q asks) refl) (same-joins q reply.Dropped [] asks refl tt refl refl tt refl refl tt))
 
   -- the copy is refused by the full queue
   pub stands-refused : (queue : ℕ) (discard : Bool) (size : ℕ) (m : Message) → state_of r ≡ state.Asks c (request.Offer queue discard m) → IsBelow (plan_of routes) limit past
@@ -328,8 +332,8 @@ module _ {routes : RouteSet} {workers limit : ℕ} {past : Past} (t : Tables) (w
         let all : joined (plan_of routes) past first count ≡ Some parts = sym (ends-are st.joins x first count parts-open) ∙ told st.joins.calls st.joins.stands in
         let fit : fits q (reply.Joined parts) ≡ true = eq-eqb (length parts) count (joined-many (plan_of routes) past first count parts all) in
         rw (append-nil t.notes) at
-        (stands-on q (reply.Joined parts) [] asks refl tt refl tt fit joins below all (rw (asked-here q asks) refl)
-        (λ legal. joins-closed routes workers limit w x (reply.Joined parts) past legal (goes-on q (reply.Joined parts) [] asks refl tt refl tt fit) joins refl took st.joins))
+        (stands-on q (reply.Joined parts) [] asks refl tt refl refl tt fit joins below all (rw (asked-here q asks) refl)
+        (λ legal. joins-closed routes workers limit w x (reply.Joined parts) past legal (goes-on q (reply.Joined parts) [] asks refl tt refl refl tt fit) joins refl took st.joins))
 
   -- the queue that it offers to is one of the set's
   pub offer-within : (queue : ℕ) (discard : Bool) (m : Message) → state_of r ≡ state.Asks c (request.Offer queue discard m) → queue < (plan_of routes).routes
@@ -403,7 +407,7 @@ module _ {routes : RouteSet} {workers limit : ℕ} {past : Past} (t : Tables) (w
         let none : notes_in (plan_of routes) past w (Answer x a) ≡ [] = rw (asked-here q asks) refl in
         let lives = answer-lives routes w x a past k (asked-here q asks) (λ h. cc h) (λ h. cc h) in
         rw (none, append-nil t.notes) at
-        (stands-own routes workers limit past t w x (Answer x a) (put_at t.rows (x - 1) new ++ copy ∷ []) t.ready t.taken (t.live + 1) queues t.joins st lw may-offer (of-answer w x a tt)
+        (stands-own routes workers limit past t w x (Answer x a) (put_at t.rows (x - 1) new ++ copy ∷ []) t.ready t.taken (t.live + 1) queues t.joins t.sleepers st lw may-offer (of-answer w x a tt)
         (λ legal. rw copy-made
         (related-push (RowStands routes ((record { worker = w; kind = Answer x a }) ∷ past)) (births (plan_of routes) past) (put_at t.rows (x - 1) new) _ copy
         (rows-one routes workers limit past t w x (x - 1) (Answer x a) r new st legal (of-answer w x a tt) above row (apart-lives routes workers limit w x (Answer x a) past legal (of-answer w x a tt) lives)
@@ -413,7 +417,8 @@ module _ {routes : RouteSet} {workers limit : ℕ} {past : Past} (t : Tables) (w
         (let n = count-set row_held t.rows (x - 1) r new row in let p = count-push row_held (put_at t.rows (x - 1) new) copy in let g = ap bit (not-held q asks) in let g' = ap bit h' in omega (arith, n, p, g, g', st.taken))
         (let n = count-set row_live t.rows (x - 1) r new row in let p = count-push row_live (put_at t.rows (x - 1) new) copy in let g = ap bit (was-live q asks) in let g' = ap bit l in omega (arith, n, p, g, g', st.live))
         (λ legal. queues-offered routes workers limit w x (length t.rows + 1) past k queue discard m t.queues queues legal (asked-here q asks) refl offers st.queues)
-        (λ legal. joins-on routes workers limit w x a past legal lives refl (unopened routes past x k (asked-here q asks) tt) st.joins))
+        (λ legal. joins-on routes workers limit w x a past legal lives refl (unopened routes past x k (asked-here q asks) tt) st.joins)
+        (λ legal. sleepers-stay routes workers limit w (Answer x a) past t.sleepers legal refl st.sleepers))
 
   -- it ends
   module _ (e : End) (m : Message) (asks : state_of r ≡ state.Asks c (request.Finish e m false)) where
@@ -511,7 +516,7 @@ module _ {routes : RouteSet} {workers limit : ℕ} {past : Past} (t : Tables) (w
           (λ d d_at h. row-ended routes (record { worker = w; kind = Answer x reply.Finished }) past d r (finished e r) h refl l (rw now-ended (has-done d d_at h)))
           (ap (without x) st.ready ∙ sym (rw number at (numbers-leave row_ready 1 t.rows (x - 1) (finished e r) (ap state_ready now-ended))))
           (rw (not-held q asks, b) refl) (let n = live-counts q asks in rw (was-live q asks, l) (omega (arith, n)))
-          (λ legal. queues-ended workers limit w x (Answer x reply.Finished) here.birth t.queues (leaving-answer x reply.Finished refl) legal here.at done-some st.queues r.born queues here.stands.born leaves) joins-told)
+          (λ legal. queues-ended workers limit w x (Answer x reply.Finished) here.birth t.queues (leaving-answer x reply.Finished refl) legal here.at done-some st.queues r.born queues here.stands.born leaves) joins-told refl)
 
 -- a Ready exchange is starved
 module _ {routes : RouteSet} {workers limit : ℕ} {past : Past} (t : Tables) (w x : ℕ) (r : Row) (st : Stands routes workers limit past t) (lw : w ≤ workers)
@@ -590,4 +595,4 @@ module _ {routes : RouteSet} {workers limit : ℕ} {past : Past} (t : Tables) (w
           (subst (λ (n : ℕ). HasEnded routes ((record { worker = w; kind = Starve n }) ∷ past) d closing.Starved) (numbered-at 1 (births s past) (x - 1) d (births-numbered s past) d_at ∙ number) (has-starved routes past w d)))
           (ap (without x) st.ready ∙ sym (rw number at (numbers-leave row_ready 1 t.rows (x - 1) (closed_row stage.Starved r) refl)))
           (rw facts.0 refl) (omega (arith, count, live, st.live))
-          (λ legal. queues-ended workers limit w x (Starve x) starving.birth t.queues (leaving-starve x) legal starving.at starved-some st.queues r.born queues starving.stands.born leaves) joins-starved)
+          (λ legal. queues-ended workers limit w x (Starve x) starving.birth t.queues (leaving-starve x) legal starving.at starved-some st.queues r.born queues starving.stands.born leaves) joins-starved refl)

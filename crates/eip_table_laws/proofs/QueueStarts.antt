@@ -1,7 +1,7 @@
 -- Who may come into a queue and who starts from it, as the table of queues says.
-use Rattle.std.proofs.Common.{◌≡◌, ◌≢◌, ℕ, zero, suc, ◌+◌, ◌-◌, ◌<◌, ◌≤◌, ◌↔◌, Bool, true, false, ◌&&◌, ◌==◌, nat_lt, cond, List, [], ◌∷◌, ◌++◌, length, drop, Option, Some, None, ◌⊎◌, inl, inr, refl, sym, ap, subst, ◌∙◌, arith, eq-eqb}
+use Rattle.std.proofs.Common.{◌≡◌, ◌≢◌, ℕ, ◌+◌, ◌-◌, ◌<◌, ◌≤◌, ◌↔◌, Bool, true, false, ◌&&◌, ◌==◌, nat_lt, cond, List, [], ◌∷◌, length, drop, Option, Some, None, refl, sym, ap, subst, ◌∙◌, arith}
 use Rattle.std.specs.List.{slice_get}
-use Rattle.std.proofs.lemmas.Bool.{and_right, cases_Bool, eqb-true, lt-ltb, ltb-true}
+use Rattle.std.proofs.lemmas.Bool.{and_right, lt-ltb, ltb-true}
 use Rattle.std.proofs.lemmas.List.{drop-drop}
 use Rattle.eip_text.proofs.Cutting.{guarded}
 use Rattle.eip_route.specs.declared.route.RouteSet.{RouteSet}
@@ -10,7 +10,7 @@ use Rattle.eip_ledger.specs.declared.entry.Kind.TheVariants.{Start}
 use Rattle.eip_seda.specs.Consuming as seda
 use Rattle.eip_seda.specs.Consuming.{Call, Started, QueueView, IsFullAt, started_by, consumers_of}
 use Rattle.eip_history.specs.Plan.{Plan}
-use Rattle.eip_history.specs.Own.{Past, numbers_below}
+use Rattle.eip_history.specs.Own.{Past}
 use Rattle.eip_history.specs.Place.{waiting, busy, is_in, is_some_first, is_startable}
 use Rattle.eip_history.specs.Rules.{KeepsRules, first, startable}
 use Rattle.eip_history.specs.Laws.{IsQueue}

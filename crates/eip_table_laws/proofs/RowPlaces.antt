@@ -116,6 +116,7 @@ Placed b state.New p = p ≡ place_is.Ready
 Placed b (state.Asks c q) p = p ≡ place_is.Ready
 Placed b (state.Held c w) p = p ≡ place_is.InHand w
 Placed b (state.Joining c i) p = p ≡ place_is.Joining
+Placed b (state.Asleep c i due) p = p ≡ place_is.Retry due
 Placed b (state.Answered c i) p = p ≡ place_is.Ready
 Placed b (state.Ended c) p = p ≡ place_is.Ended (closed_end b c)
 Placed b state.Broken p = ⊥
@@ -142,6 +143,7 @@ state-place set past b (state.Asks c q) a =
 state-place set past b (state.Held c w) h =
     place-pause set past b (Some w) place_is.Ready h.1.follows.left (asks-live _ h.0 h.1.at (fate-asks set past b c h.0 (Some w) h.1)) h.1.follows.taken h.1.follows.pause
 state-place set past b (state.Joining c j) h = place-pause set past b None place_is.Joining h.follows.left h.lives h.follows.taken h.follows.pause
+state-place set past b (state.Asleep c j due) h = place-pause set past b None (place_is.Retry due) h.follows.left h.lives h.follows.taken h.follows.pause
 state-place set past b (state.Answered c j) h = place-pause set past b None place_is.Ready h.follows.left h.lives h.follows.taken h.follows.pause
 state-place set past b (state.Ended c) h = place-ends (plan_of set) past b (closed_end b c) h.message h.ends
 state-place set past b state.Broken h = h
@@ -152,6 +154,7 @@ placed-ready b state.New p h = ap is_ready h
 placed-ready b (state.Asks c q) p h = ap is_ready h
 placed-ready b (state.Held c w) p h = ap is_ready h
 placed-ready b (state.Joining c i) p h = ap is_ready h
+placed-ready b (state.Asleep c i due) p h = ap is_ready h
 placed-ready b (state.Answered c i) p h = ap is_ready h
 placed-ready b (state.Ended c) p h = ap is_ready h
 placed-ready b state.Broken p h = absurd h
@@ -162,6 +165,7 @@ placed-live b state.New p h = ap (λ p. not (is_ended p)) h
 placed-live b (state.Asks c q) p h = ap (λ p. not (is_ended p)) h
 placed-live b (state.Held c w) p h = ap (λ p. not (is_ended p)) h
 placed-live b (state.Joining c i) p h = ap (λ p. not (is_ended p)) h
+placed-live b (state.Asleep c i due) p h = ap (λ p. not (is_ended p)) h
 placed-live b (state.Answered c i) p h = ap (λ p. not (is_ended p)) h
 placed-live b (state.Ended c) p h = ap (λ p. not (is_ended p)) h
 placed-live b state.Broken p h = absurd h
@@ -172,6 +176,7 @@ placed-held b state.New p h = ap is_held h
 placed-held b (state.Asks c q) p h = ap is_held h
 placed-held b (state.Held c w) p h = ap is_held h
 placed-held b (state.Joining c i) p h = ap is_held h
+placed-held b (state.Asleep c i due) p h = ap is_held h
 placed-held b (state.Answered c i) p h = ap is_held h
 placed-held b (state.Ended c) p h = ap is_held h
 placed-held b state.Broken p h = absurd h
@@ -182,6 +187,7 @@ state-taken set past b state.New h = rw h.taken refl
 state-taken set past b (state.Asks c q) a = rw a.follows.taken refl
 state-taken set past b (state.Held c w) h = rw h.1.follows.taken refl
 state-taken set past b (state.Joining c i) h = rw h.follows.taken refl
+state-taken set past b (state.Asleep c i due) h = rw h.follows.taken refl
 state-taken set past b (state.Answered c i) h = rw h.follows.taken refl
 state-taken set past b (state.Ended c) h = rw h.taken refl
 state-taken set past b state.Broken h = absurd h
@@ -250,7 +256,7 @@ answer-other set e past b c i p p' n pause h = record {
   lives = ap end_of (fate-other (plan_of set) e past b n) ∙ h.lives;
 }
 
--- a row that waits for parts is left where its exchange stands
+-- a row that waits is left where its exchange stands
 pub pause-placed : (set : RouteSet) (e : Entry) (past : Past) (b : Birth) (c : Cursor) (i : ℕ) (p : Place) → concerns b.number e.kind ≡ false → HasAnswer set past b c i p → pause_place set (e ∷ past) b ≡ place_of (plan_of set) (e ∷ past) b
 pause-placed set e past b c i p n h =
     let o = own-other b.number e past n in
@@ -272,6 +278,8 @@ module _ (set : RouteSet) (workers limit : ℕ) (e : Entry) (past : Past) (b : B
   state-other (state.Held c w) same h = (h.0, asking-other c h.0 (Some w) h.1, h.2)
   state-other (state.Joining c i) same h =
       answer-other set e past b c i place_is.Joining place_is.Joining n (pause-placed set e past b c i place_is.Joining n h ∙ (same ∙ state-place set past b (state.Joining c i) h)) h
+  state-other (state.Asleep c i due) same h =
+      answer-other set e past b c i (place_is.Retry due) (place_is.Retry due) n (pause-placed set e past b c i (place_is.Retry due) n h ∙ (same ∙ state-place set past b (state.Asleep c i due) h)) h
   state-other (state.Answered c i) same h = answer-other set e past b c i place_is.Ready place_is.Ready n (still-ready h.follows.pause) h
   state-other (state.Ended c) same h = record { taken = rw (own-other b.number e past n) h.taken; message = h.message; ends = fate-other (plan_of set) e past b n ∙ h.ends }
   state-other state.Broken same h = h

@@ -27,9 +27,9 @@ use Rattle.eip_history.specs.Own.{Past, own, answers, starved, last_answer, cloc
 use Rattle.eip_history.specs.Births.{fate}
 use Rattle.eip_history.specs.Place.{pause_of, paused, all_ended, Runs, end_of}
 use Rattle.eip_history.specs.Rules.{KeepsRules}
+use Rattle.eip_history.specs.TableWords.{is_sleep}
 use Rattle.eip_history.proofs.Told.{own-here}
 use Rattle.eip_plan.specs.Plan.{plan_of}
-use Rattle.eip_plan.specs.Simple.{IsSimpleAnswer}
 use Rattle.eip_plan.proofs.Items.{bears}
 use Rattle.eip_tables.specs.Closing.{Closing}
 use Rattle.eip_tables.specs.Closing as closing
@@ -58,11 +58,11 @@ held-by set workers limit past w b c q legal a =
       asks = a.asks;
     }
 
--- an answer by which nobody is born is waited for no longer
-pub runs-simple : (a : Reply) → IsSimpleAnswer a → bears a ≡ false → pause_of (Some a) ≡ Runs
-runs-simple (reply.Born first count) i n = absurd (cc n)
-runs-simple (reply.Slept d) i n = absurd i
-runs-simple _ i n = refl
+-- an answer by which nobody is born and nobody sleeps is waited for no longer
+pub runs-simple : (a : Reply) → bears a ≡ false → is_sleep a ≡ false → pause_of (Some a) ≡ Runs
+runs-simple (reply.Born first count) n s = absurd (cc n)
+runs-simple (reply.Slept d) n s = absurd (cc s)
+runs-simple _ n s = refl
 
 -- this answer leaves its exchange there
 abbrev pub IsLeftAt : RouteSet → Past → (worker : ℕ) → Birth → Reply → Place → Type 0

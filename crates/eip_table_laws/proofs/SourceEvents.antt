@@ -19,13 +19,13 @@ use Rattle.eip_history.specs.Place.{pulls_out}
 use Rattle.eip_history.specs.Rules.{KeepsRules, May, Served, served, served_in}
 use Rattle.eip_history.specs.Stop.{first_fault, fault_in, or_else}
 use Rattle.eip_history.specs.Tables.{Related, bit}
-use Rattle.eip_history.specs.TableWords.{moves_waiting, moves_busy, moves_joins}
+use Rattle.eip_history.specs.TableWords.{moves_waiting, moves_busy, moves_joins, moves_sleepers}
 use Rattle.eip_history.specs.Texts.{notes, note_for}
 use Rattle.eip_history.proofs.Lists.{related-all, related-push, related-length}
 use Rattle.eip_history.proofs.Limit.{source-after, pulls-change, turns-more, not-same}
 use Rattle.eip_history.proofs.Main.{legal-add}
 use Rattle.eip_history.proofs.Unborn.{legal-tail, newborn-own}
-use Rattle.eip_history.proofs.Places.{place-other}
+use Rattle.eip_history.proofs.Places.{clock-same, place-other}
 use Rattle.eip_history.proofs.Moves.{ends-nobody}
 use Rattle.eip_plan.specs.Plan.{plan_of}
 use Rattle.eip_plan.specs.Simple.{IsSimpleEntry, AnswersSimply}
@@ -40,6 +40,7 @@ use Rattle.eip_tables.specs.Stands.{Tables, Stands}
 use Rattle.eip_table_laws.proofs.RowNumbers.{numbers-push, count-push}
 use Rattle.eip_table_laws.proofs.QueueCalls.{queues-stay}
 use Rattle.eip_table_laws.proofs.JoinsKept.{joins-stay}
+use Rattle.eip_table_laws.proofs.SleepersKept.{sleepers-stay}
 use Rattle.eip_table_laws.proofs.RowPlaces.{row-other, entry-new}
 
 pub get-set-same : {A : Type 0} (xs : List A) (i : ℕ) (x : A) → i < length xs → slice_get (put_at xs i x) i ≡ Some x
@@ -103,6 +104,7 @@ pub record IsOfSource (w t : ℕ) (k : Kind) : Type 0 where
   pub waits : moves_waiting k ≡ false
   pub works : moves_busy k ≡ false
   pub joins : moves_joins k ≡ false
+  pub wakeful : moves_sleepers k ≡ false
   pub silent : answer_in k ≡ []
   pub fed : is_starve k ≡ false
   pub no_tick : (n : ℕ) → ticked k n ≡ n
@@ -156,22 +158,24 @@ stands-source routes workers limit past t w r k was after pulled st lw may withi
       live = st.live;
       queues = queues-stay routes workers limit w k past t.queues legal.entries of.waits of.works st.queues;
       joins = joins-stay routes workers limit w k past t.joins legal.entries of.joins st.joins;
+      clock = st.clock ∙ sym (clock-same e past of.no_tick);
+      sleepers = sleepers-stay routes workers limit w k past t.sleepers legal.entries of.wakeful st.sleepers;
     }
 
 pub of-pull : (w t : ℕ) → IsOfSource w t (Pull t)
-of-pull w t = record { nobody = λ x. refl; others = λ u was ne. rw (not-same u t ne) refl; simple = tt; waits = refl; works = refl; joins = refl; silent = refl; fed = refl; no_tick = λ n. refl }
+of-pull w t = record { nobody = λ x. refl; others = λ u was ne. rw (not-same u t ne) refl; simple = tt; waits = refl; works = refl; joins = refl; wakeful = refl; silent = refl; fed = refl; no_tick = λ n. refl }
 
 pub of-accept : (w t : ℕ) (item : List ℕ) (m : Message) → IsOfSource w t (Accept t item m)
-of-accept w t item m = record { nobody = λ x. refl; others = λ u was ne. rw (not-same u t ne) refl; simple = tt; waits = refl; works = refl; joins = refl; silent = refl; fed = refl; no_tick = λ n. refl }
+of-accept w t item m = record { nobody = λ x. refl; others = λ u was ne. rw (not-same u t ne) refl; simple = tt; waits = refl; works = refl; joins = refl; wakeful = refl; silent = refl; fed = refl; no_tick = λ n. refl }
 
 pub of-refuse : (w t : ℕ) (item : List ℕ) (c : Refused) → IsOfSource w t (Refuse t item c)
-of-refuse w t item c = record { nobody = λ x. refl; others = λ u was ne. rw (not-same u t ne) refl; simple = tt; waits = refl; works = refl; joins = refl; silent = refl; fed = refl; no_tick = λ n. refl }
+of-refuse w t item c = record { nobody = λ x. refl; others = λ u was ne. rw (not-same u t ne) refl; simple = tt; waits = refl; works = refl; joins = refl; wakeful = refl; silent = refl; fed = refl; no_tick = λ n. refl }
 
 pub of-end : (w t : ℕ) → IsOfSource w t (SourceEnd t)
-of-end w t = record { nobody = λ x. refl; others = λ u was ne. rw (not-same u t ne) refl; simple = tt; waits = refl; works = refl; joins = refl; silent = refl; fed = refl; no_tick = λ n. refl }
+of-end w t = record { nobody = λ x. refl; others = λ u was ne. rw (not-same u t ne) refl; simple = tt; waits = refl; works = refl; joins = refl; wakeful = refl; silent = refl; fed = refl; no_tick = λ n. refl }
 
 pub of-fault : (w t : ℕ) → IsOfSource w t (SourceFault t)
-of-fault w t = record { nobody = λ x. refl; others = λ u was ne. rw (not-same u t ne) refl; simple = tt; waits = refl; works = refl; joins = refl; silent = refl; fed = refl; no_tick = λ n. refl }
+of-fault w t = record { nobody = λ x. refl; others = λ u was ne. rw (not-same u t ne) refl; simple = tt; waits = refl; works = refl; joins = refl; wakeful = refl; silent = refl; fed = refl; no_tick = λ n. refl }
 
 -- the row of a newborn stands for it
 newborn-row : (set : RouteSet) (workers limit : ℕ) (past : Past) (w r : ℕ) (item : List ℕ) (m : Message) → KeepsRules (plan_of set) workers limit ((record { worker = w; kind = Accept r item m }) ∷ past)
@@ -219,4 +223,6 @@ stands-accept routes workers limit past t w r item m st lw may =
       live = let c = count-push row_live t.rows row in omega (arith, c, st.live);
       queues = queues-stay routes workers limit w k past t.queues legal.entries refl refl st.queues;
       joins = joins-stay routes workers limit w k past t.joins legal.entries refl st.joins;
+      clock = st.clock ∙ sym (clock-same e past of.no_tick);
+      sleepers = sleepers-stay routes workers limit w k past t.sleepers legal.entries refl st.sleepers;
     }

@@ -1,4 +1,5 @@
 pub mod PutIn
+pub mod NumbersRise
 pub mod FirstSources
 pub mod FirstWanted
 pub mod PutParts

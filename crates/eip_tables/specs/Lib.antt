@@ -8,6 +8,7 @@ pub mod Look
 pub mod Rows
 pub mod Queues
 pub mod Joins
+pub mod Sleepers
 pub mod Stands
 pub mod Asking
 pub mod Outside

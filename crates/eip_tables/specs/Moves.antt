@@ -52,11 +52,16 @@ held w r = record r { stage = stage.Held w; request = None }
 abbrev pub joining : ℕ → Row → Row
 joining i r = record r { stage = stage.Joining i; request = None }
 
+-- it sleeps until this moment, by the answer of the journal entry with this index
+abbrev pub sleeping : (entry due : ℕ) → Row → Row
+sleeping i due r = record r { stage = stage.Asleep i due; request = None }
+
 abbrev pub woken_stage : Stage → Stage
 woken_stage (stage.Joining i) = stage.Answered i
+woken_stage (stage.Asleep i due) = stage.Answered i
 woken_stage g = g
 
--- the last of its parts has ended: the answer that they were born has not reached its cursor yet
+-- the last of its parts has ended, or its moment has come: the answer that let it wait has not reached its cursor yet
 abbrev pub woken : Row → Row
 woken r = record r { stage = woken_stage r.stage }
 
@@ -100,6 +105,11 @@ part_end _ q = None
 abbrev pub ended_with : Option End → Option Message → Option Ended
 ended_with (Some e) (Some m) = Some (record { end = e; message = m })
 ended_with _ _ = None
+
+-- how many ticks are asked to be waited
+abbrev pub ticks_asked : Option Request → Option ℕ
+ticks_asked (Some (request.Wait ticks)) = Some ticks
+ticks_asked _ = None
 
 -- the line of the log that is asked for
 abbrev pub line_asked : Option Request → Option (List ℕ × List ℕ)

@@ -1,5 +1,5 @@
 -- Tables by number: what stands in the rows that pass a test.
-use Rattle.std.specs.Prelude.{ℕ, zero, suc, ◌+◌, ◌<◌, ◌≤◌, Bool, cond, nat_lt, List, [], ◌∷◌, length, filter}
+use Rattle.std.specs.Prelude.{ℕ, zero, suc, ◌+◌, ◌<◌, ◌≤◌, Bool, cond, nat_lt, List, [], ◌∷◌, length, filter, ⊤}
 
 -- the numbers of the rows that pass a test, where the first row has this number
 abbrev pub row_numbers : {R : Type 0} → (R → Bool) → ℕ → List R → List ℕ
@@ -28,6 +28,15 @@ place_in x (y ∷ ys) = cond (nat_lt x y) 0 (place_in x ys + 1)
 -- how many numbers there is room for, those that are there among them
 abbrev pub capacity : NumbersView → ℕ
 capacity v = length v.numbers + v.spare
+
+-- the numbers rise strictly, and none is below the first one named
+abbrev pub RiseFrom : ℕ → List ℕ → Type 0
+RiseFrom n [] = ⊤
+RiseFrom n (x ∷ xs) = (n ≤ x) × RiseFrom (x + 1) xs
+
+-- each number is less than those behind it
+abbrev pub AreRising : List ℕ → Type 0
+AreRising xs = RiseFrom 0 xs
 
 -- so many numbers, from one on
 abbrev pub numbers_from : (first count : ℕ) → List ℕ

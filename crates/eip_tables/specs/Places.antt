@@ -44,6 +44,7 @@ abbrev pub stage_place : Born → List ℕ → Option Fault → Stage → Place
 stage_place o item f stage.Queued = queue_place o
 stage_place o item f (stage.Held w) = place_is.InHand w
 stage_place o item f (stage.Joining i) = place_is.Joining
+stage_place o item f (stage.Asleep i due) = place_is.Retry due
 stage_place o item f stage.Completed = place_is.Ended end.Completed
 stage_place o item f stage.Handled = place_is.Ended end.Handled
 stage_place o item f stage.Failed = failed_place f

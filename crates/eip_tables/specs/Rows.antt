@@ -95,8 +95,8 @@ closed_end b (closing.Failed f) = end.Failed f
 closed_end b closing.Starved = out_of_memory
 closed_end b closing.NotCommitted = commit_failed (item_of b.origin)
 
--- where its last answer leaves an exchange, taken or not: behind the birth of parts it is Joining until all of them have ended, and
--- Ready from there on
+-- where its last answer leaves an exchange, taken or not: behind the birth of parts it is Joining until all of them have ended, behind
+-- a sleep it is asleep until its moment has come, and Ready from there on
 abbrev pub pause_place : RouteSet → Past → Birth → Place
 pause_place set past b = paused (clock past) (all_ended (plan_of set) past) (pause_of (last_answer (own b.number past)))
 
@@ -136,6 +136,7 @@ StateStands set past b state.New = IsUnasked past b
 StateStands set past b (state.Asks c q) = IsAsking set past b c q None
 StateStands set past b (state.Held c w) = (q : Request) × IsAsking set past b c q (Some w) × (is_outside q ≡ true)
 StateStands set past b (state.Joining c i) = HasAnswer set past b c i place_is.Joining
+StateStands set past b (state.Asleep c i due) = HasAnswer set past b c i (place_is.Retry due)
 StateStands set past b (state.Answered c i) = HasAnswer set past b c i place_is.Ready
 StateStands set past b (state.Ended c) = HasEnded set past b c
 StateStands set past b state.Broken = ⊥

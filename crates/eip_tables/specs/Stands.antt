@@ -2,7 +2,7 @@
 use Rattle.std.specs.Prelude.{ℕ, ◌≡◌, List, Option}
 use Rattle.eip_route.specs.declared.route.RouteSet.{RouteSet}
 use Rattle.eip_ledger.specs.declared.place.Note.{Note}
-use Rattle.eip_history.specs.Own.{Past, turns}
+use Rattle.eip_history.specs.Own.{Past, clock, turns}
 use Rattle.eip_history.specs.Births.{births}
 use Rattle.eip_history.specs.Place.{pulls_out}
 use Rattle.eip_history.specs.Rules.{IsLegal}
@@ -18,6 +18,7 @@ use Rattle.eip_tables.specs.declared.row.SourceState.{SourceState}
 use Rattle.eip_tables.specs.Numbers.{row_numbers, row_count}
 use Rattle.eip_tables.specs.Queues.{QueuesStand}
 use Rattle.eip_tables.specs.Joins.{JoinsStand}
+use Rattle.eip_tables.specs.Sleepers.{SleepersStand}
 use Rattle.eip_tables.specs.Rows.{RowStands, SourcesStand, row_ready, row_held, row_live}
 
 pub record Tables : Type 0 where
@@ -42,6 +43,10 @@ pub record Tables : Type 0 where
   pub queues : List QueueView
   -- the open joins, by the number of the parent
   pub joins : List (ℕ × Open)
+  -- the moment of the last tick
+  pub clock : ℕ
+  -- who sleeps, by moment and number
+  pub sleepers : List (ℕ × ℕ)
 
 -- the tables stand for the history of a set, a fact for each table
 pub record Stands (set : RouteSet) (workers limit : ℕ) (past : Past) (t : Tables) : Type 0 where
@@ -59,3 +64,5 @@ pub record Stands (set : RouteSet) (workers limit : ℕ) (past : Past) (t : Tabl
   pub live : t.live ≡ row_count row_live t.rows
   pub queues : QueuesStand set past t.queues
   pub joins : JoinsStand set past t.joins
+  pub clock : t.clock ≡ clock past
+  pub sleepers : SleepersStand set past t.sleepers

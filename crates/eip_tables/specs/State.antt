@@ -16,6 +16,7 @@ pub data State : Type 0 where
   Asks : Cursor → Request → State
   Held : Cursor → ℕ → State
   Joining : Cursor → ℕ → State
+  Asleep : Cursor → ℕ → (due : ℕ) → State
   Answered : Cursor → ℕ → State
   Ended : Closing → State
   -- a row that stands for nothing
@@ -27,6 +28,7 @@ state_by stage.New c q f = New
 state_by stage.Asks (Some c) (Some q) f = Asks c q
 state_by (stage.Held w) (Some c) q f = Held c w
 state_by (stage.Joining i) (Some c) q f = Joining c i
+state_by (stage.Asleep i due) (Some c) q f = Asleep c i due
 state_by (stage.Answered i) (Some c) q f = Answered c i
 state_by stage.Completed c q f = Ended closing.Completed
 state_by stage.Handled c q f = Ended closing.Handled

@@ -17,6 +17,8 @@ pub enum Asked {
     Parts,
     /// The ends of its parts are to be told.
     Ends,
+    /// A moment is to come.
+    Moment,
     /// It is to end.
     End,
     /// Somebody outside is to answer.
@@ -46,6 +48,7 @@ fn kind_of(request: &Request) -> Asked
         Request::Offer { .. } => Asked::Copy,
         Request::Spawn { .. } => Asked::Parts,
         Request::Join { .. } => Asked::Ends,
+        Request::Wait { .. } => Asked::Moment,
         Request::Finish { .. } => Asked::End,
         _ => Asked::Other,
     }

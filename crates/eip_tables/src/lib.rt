@@ -10,6 +10,7 @@ pub mod places;
 pub mod queues;
 pub mod rising;
 pub mod row;
+pub mod sleepers;
 pub mod sources;
 pub mod stop;
 pub mod table;

@@ -57,6 +57,7 @@ pub fn ending_of(stage: Stage) -> Option<Ending>
         | Stage::Asks
         | Stage::Held(_)
         | Stage::Joining(_)
+        | Stage::Asleep { .. }
         | Stage::Answered(_) => None,
     }
 }

@@ -67,6 +67,7 @@ pub fn place_of(alloc: Global, row: &Row, entries: &[Entry]) -> Result<Place, No
         Stage::Queued => Ok(queue_place(row.born)),
         Stage::Held(worker) => Ok(Place::InHand(worker)),
         Stage::Joining(_) => Ok(Place::Joining),
+        Stage::Asleep { due, .. } => Ok(Place::Retry(due)),
         Stage::Completed => Ok(Place::Ended(End::Completed)),
         Stage::Handled => Ok(Place::Ended(End::Handled)),
         Stage::Failed => failed(&row.fault),

@@ -1,25 +1,27 @@
 ghost use Rattle.std.specs.Prelude.{◌≡◌, ◌+◌, ◌<◌, ◌≤◌, ◌-◌, ◌^◌, ◌++◌, ◌∷◌, [], OnOk, length};
 ghost use Rattle.eip_history.specs.Tables.{without, put_in};
 ghost use Rattle.eip_history.specs.Rules.{first};
-ghost use Rattle.eip_tables.specs.Numbers.{place_in, capacity, numbers_from};
+ghost use Rattle.eip_tables.specs.Numbers.{place_in, capacity, numbers_from, AreRising};
 
 use eip_text::NoMemory;
 use std::alloc::Global;
+use std::collections::VecDeque;
 use std::marker::Model;
 
 /// Numbers in rising order, with room that is reserved before they are added.
 #[derive(Drop)]
 pub struct RisingNumbers {
-    numbers: Vec<u64>,
+    numbers: VecDeque<u64>,
 }
 
 impl Model for RisingNumbers {
-    ghost use Rattle.std.specs.Prelude.{vec_capacity, vec_len, ◌-◌};
+    ghost use Rattle.std.specs.Prelude.{◌-◌};
+    ghost use Rattle.std.specs.VecDeque.{deque_capacity, deque_len};
     ghost use Rattle.eip_tables.specs.Numbers.{NumbersView};
 
     ghost Value = { NumbersView };
 
-    ghost view = { λ r. record { numbers = r.numbers.items; spare = vec_capacity r.numbers - vec_len r.numbers } };
+    ghost view = { λ r. record { numbers = r.numbers.items; spare = deque_capacity r.numbers - deque_len r.numbers } };
 }
 
 impl RisingNumbers {
@@ -28,7 +30,7 @@ impl RisingNumbers {
         ensures { result.numbers ≡ [] }
     {
         RisingNumbers {
-            numbers: Vec::new(alloc),
+            numbers: VecDeque::new(alloc),
         }
     }
 
@@ -36,14 +38,14 @@ impl RisingNumbers {
     pub fn least(&self) -> Option<u64>
         ensures { result ≡ first self.now.numbers }
     {
-        self.numbers.first().copied()
+        self.numbers.front().copied()
     }
 
-    /// The numbers, the least first.
-    pub fn numbers(&self) -> &[u64]
-        ensures { result.now ≡ self.now.numbers }
+    /// The numbers, the least first, in two runs: those of the second one are behind those of the first.
+    pub fn runs(&self) -> (&[u64], &[u64])
+        ensures { result.0.now ++ result.1.now ≡ self.now.numbers }
     {
-        self.numbers.as_slice()
+        self.numbers.as_slices()
     }
 
     /// Room for `count` more numbers.
@@ -73,7 +75,7 @@ impl RisingNumbers {
         ensures spare { self.old.spare ≤ self.new.spare + 1 }
         ensures capacity { capacity self.old ≤ capacity self.new }
     {
-        let _ = self.numbers.push(number);
+        let _ = self.numbers.push_back(number);
     }
 
     /// So many numbers from one on, which is above all others, go behind them, into room that was reserved.
@@ -95,22 +97,38 @@ impl RisingNumbers {
         ensures spare { self.old.spare ≤ self.new.spare + 1 }
         ensures capacity { capacity self.old ≤ capacity self.new }
     {
-        let at = place_of(self.numbers.as_slice(), number);
+        let at = place_of(&self.numbers, number);
         let _ = self.numbers.insert(at, number);
     }
 
-    /// The number goes, where it is there.
+    /// The number goes, where it is there. To take the least one out costs the same however many there are.
     pub fn remove(&mut self, number: u64)
+        requires { AreRising self.old.numbers }
         ensures numbers { self.new.numbers ≡ without number self.old.numbers }
         ensures spare { self.old.spare ≤ self.new.spare }
         ensures capacity { capacity self.old ≤ capacity self.new }
     {
-        self.numbers.retain(|n| *n != number);
+        if let Ok(at) = self.numbers.binary_search(&number) {
+            let _ = self.numbers.remove(at);
+        }
     }
 }
 
 /// Where a number goes: before the first greater one.
-fn place_of(numbers: &[u64], number: u64) -> usize
+fn place_of(numbers: &VecDeque<u64>, number: u64) -> usize
+    ensures within { result ≤ length numbers.now.items }
+    ensures place { place_in number numbers.now.items ≡ result }
+{
+    let (front, rest) = numbers.as_slices();
+    let at = place_in_run(front, number);
+    if at < front.len() {
+        return at;
+    }
+    at + place_in_run(rest, number)
+}
+
+/// The same in one run of them.
+fn place_in_run(numbers: &[u64], number: u64) -> usize
     ensures within { result ≤ length numbers.now }
     ensures place { place_in number numbers.now ≡ result }
 {

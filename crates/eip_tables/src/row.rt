@@ -1,5 +1,5 @@
 ghost use Rattle.std.specs.Prelude.{◌≡◌, Some, None, IfOk, option_map};
-ghost use Rattle.eip_tables.specs.Moves.{new_row, copy_row, part_row, starving, started, begun, answered, held, joining, woken, closed, starved_end, stage_of, fault_of, finished, end_asked, last_message, part_end, ended_with, line_asked, finished_asked, ended_by};
+ghost use Rattle.eip_tables.specs.Moves.{new_row, copy_row, part_row, starving, started, begun, answered, held, joining, sleeping, woken, closed, starved_end, stage_of, fault_of, finished, end_asked, last_message, part_end, ended_with, ticks_asked, line_asked, finished_asked, ended_by};
 ghost use Rattle.eip_tables.specs.State.{row_outside};
 ghost use Rattle.eip_tables.specs.Offers.{hops_by, offer_asked, offered_message};
 ghost use Rattle.eip_tables.specs.Parts.{at_by, seeds_asked, count_asked};
@@ -34,6 +34,8 @@ pub enum Stage {
     Held(u32),
     /// Its parts were born by the journal entry with this index, and some of them have not ended.
     Joining(usize),
+    /// It sleeps until this moment, by the answer of the journal entry with this index.
+    Asleep { entry: usize, due: u64 },
     /// The answer of this journal entry, by its index, has not reached the cursor yet.
     Answered(usize),
     Completed,
@@ -196,12 +198,22 @@ pub fn join(row: &mut Row, entry: usize) -> Option<Request>
     row.request.take()
 }
 
-/// The last of its parts has ended.
+/// The exchange sleeps until this moment, by the answer of this journal entry; its request is handed out.
+pub fn sleep(row: &mut Row, entry: usize, due: u64) -> Option<Request>
+    ensures row { row.new ≡ sleeping entry due row.old }
+    ensures request { result ≡ row.old.request }
+{
+    row.stage = Stage::Asleep { entry, due };
+    row.request.take()
+}
+
+/// What it has waited for has come: the last of its parts has ended, or its moment is there.
 pub fn wake(row: &mut Row)
     ensures { row.new ≡ woken row.old }
 {
-    if let Stage::Joining(entry) = row.stage {
-        row.stage = Stage::Answered(entry);
+    match row.stage {
+        Stage::Joining(entry) | Stage::Asleep { entry, .. } => row.stage = Stage::Answered(entry),
+        _ => {}
     }
 }
 
@@ -290,6 +302,16 @@ pub fn line_asked(request: Option<Request>) -> Option<(Text, Text)>
             drop(other);
             None
         }
+    }
+}
+
+/// How many ticks an exchange asks to wait; None for any other request.
+pub fn ticks_asked(request: &Option<Request>) -> Option<u64>
+    ensures { result ≡ ticks_asked request.now }
+{
+    match request {
+        Some(Request::Wait { ticks }) => Some(*ticks),
+        _ => None,
     }
 }
 

@@ -1,4 +1,5 @@
 pub mod Again
+pub mod Boundaries
 pub mod Canonical
 pub mod CountLemmas
 pub mod Cutting

@@ -1,3 +1,4 @@
+pub mod Held
 pub mod Causes
 pub mod Counts
 pub mod Cuts

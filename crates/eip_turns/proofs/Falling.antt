@@ -41,7 +41,8 @@ use Rattle.eip_progress.specs.FirstTry.{unless_tried, value_tried, not_empty, ke
 use Rattle.eip_turns.specs.Kept.{decider_of}
 use Rattle.eip_turns.specs.Weights.{weight_of_option, weight_of_cases, steps_weight, block_weight, nested_block}
 use Rattle.eip_turns.specs.Falls.{clauses_weight, handling_in, now_weight, tried_weight, try_weight, frame_weight, stack_weight}
-use Rattle.eip_turns.proofs.Turning.{drop_some, some_within}
+use Rattle.eip_steps.proofs.Within.{some_within}
+use Rattle.eip_turns.proofs.Turning.{drop_some}
 use Rattle.eip_turns.proofs.Weighing.{weight_equation}
 
 none_some : {X : Type 0} {k : X} → None ≡ Some k → ⊥

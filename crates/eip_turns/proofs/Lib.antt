@@ -1,5 +1,6 @@
 mod Falling
 pub mod Faulting
+mod Firsts
 pub mod Keeping
 pub mod Trying
 mod Turning

@@ -16,6 +16,7 @@ use Rattle.eip_meaning.specs.Meaning.{steps_of, steps_mean, handle_in}
 use Rattle.eip_progress.specs.declared.frame.Frame.{Frame}
 use Rattle.eip_progress.specs.declared.frame.Task.TheVariants as task
 use Rattle.eip_progress.specs.Rest.{nested_at, call_at, try_of, try_of_step, tries_of, rest_of_block, frame_mean, behind_all}
+use Rattle.eip_steps.proofs.Within.{some_within}
 
 none_some : {X : Type 0} {k : X} → None ≡ Some k → ⊥
 none_some e = cc
@@ -31,11 +32,6 @@ drop_some [] zero x e = absurd (none_some e)
 drop_some [] (suc i) x e = absurd (none_some e)
 drop_some (y ∷ xs) zero x e = let q : y ≡ x = cc in rw q refl
 drop_some (y ∷ xs) (suc i) x e = drop_some xs i x e
-
-pub some_within : {X : Type 0} (xs : List X) (i : ℕ) → i < length xs → (x : X) × (slice_get xs i ≡ Some x)
-some_within [] i h = absurd (omega (arith, h))
-some_within (x ∷ xs) zero h = (x, refl)
-some_within (x ∷ xs) (suc i) h = some_within xs i (omega (arith, h))
 
 module _ (set : RouteSet) where
   pub rest_none : (c : Context) (b i : ℕ) (m : Message) (A : List Reply) → slice_get (steps_of set b) i ≡ None → Goes m A ≡ rest_of_block set c b i m A

@@ -1,3 +1,4 @@
 pub mod Falls
+pub mod First
 pub mod Kept
 pub mod Weights

@@ -7,6 +7,7 @@ ghost use Rattle.eip_meaning.specs.Values.{redelivered};
 ghost use Rattle.eip_meaning.specs.Attempts.{number_of_try};
 ghost use Rattle.eip_meaning.specs.Meaning.{steps_of as steps_in_block, block_of_route};
 ghost use Rattle.eip_progress.specs.Rest.{now_mean, guarded_mean, tried_mean, tries_of, nested_at, call_at, block_at};
+ghost use Rattle.eip_turns.specs.First.{first_at};
 ghost use Rattle.eip_turns.specs.Kept.{HasKept};
 ghost use Rattle.eip_turns.specs.Weights.{block_weight, nested_block};
 ghost use Rattle.eip_turns.specs.Falls.{now_weight, handling_in, tried_weight, try_weight};
@@ -146,6 +147,23 @@ pub fn step_at(set: &RouteSet, block: u32, index: usize) -> Option<&Step>
     match set.blocks.items().get(block as usize) {
         Some(found) => found.steps.items().get(index),
         None => None,
+    }
+}
+
+/// The first try of the step of a block at an index. One that isn't there lets the message go on.
+pub fn first_try(
+    alloc: Global,
+    set: &RouteSet,
+    context: Context,
+    block: u32,
+    index: usize,
+    message: Message,
+) -> Result<Tried, NoMemory>
+    ensures { IfOk result (λ t. t ≡ first_at set.now context (slice_get (steps_in_block set.now block) index) message) }
+{
+    match step_at(set, block, index) {
+        Some(step) => try_step(alloc, set, context, step, message),
+        None => Ok(Tried::Goes(message)),
     }
 }
 

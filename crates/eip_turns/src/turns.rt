@@ -1,4 +1,5 @@
 ghost use Rattle.std.specs.Prelude.{◌≡◌, ◌≤◌, ◌<◌, ◌+◌, ◌++◌, ◌∷◌, ℕ, [], List, Option, Bool, None, Some, IfOk, OnOk, MatchOption, slice_get, length};
+ghost use Rattle.eip_exchange.specs.declared.message.Message.{Message as AMessage};
 ghost use Rattle.eip_uri.specs.declared.uri.Uri.{Uri as AUri};
 ghost use Rattle.eip_route.specs.declared.route.RouteSet.{RouteSet as ARouteSet};
 ghost use Rattle.eip_frames.specs.declared.answer.Answer.{Answer as AnAnswer};
@@ -7,15 +8,17 @@ ghost use Rattle.eip_meaning.specs.Checks.{block_or_goes};
 ghost use Rattle.eip_meaning.specs.Contexts.{place_in};
 ghost use Rattle.eip_meaning.specs.Meaning.{steps_of as steps_in_block, finished};
 ghost use Rattle.eip_meaning.specs.Outcomes.{followed, Outcome as AnOutcome};
+ghost use Rattle.eip_progress.specs.declared.frame.Frame.{Frame as AFrame};
 ghost use Rattle.eip_progress.specs.Rest.{now_mean, frame_mean, behind_all, rest_of, rest_of_block, turn_mean, IsStarting};
-ghost use Rattle.eip_turns.specs.Kept.{IsLater};
+ghost use Rattle.eip_turns.specs.First.{behind_try};
+ghost use Rattle.eip_turns.specs.Kept.{HasKept, IsLater};
 ghost use Rattle.eip_turns.specs.Weights.{block_weight, weight_of_option};
-ghost use Rattle.eip_turns.specs.Falls.{now_weight, handling_in, frame_weight, stack_weight, TurnFalls};
+ghost use Rattle.eip_turns.specs.Falls.{now_weight, handling_in, tried_weight, frame_weight, stack_weight, TurnFalls};
 
-use crate::attempts::{begin_dead, begin_step};
+use crate::attempts::{after_try, begin_dead, first_try};
 use eip_exchange::{End, Message};
 use eip_meaning::Context;
-use eip_progress::{Frame, Now, State, Turn};
+use eip_progress::{Frame, Now, State, Task, Tried, Turn};
 use eip_route::RouteSet;
 use eip_steps::steps_of;
 use eip_text::NoMemory;
@@ -56,8 +59,8 @@ fn turn(alloc: Global, set: &RouteSet, stack: &mut Vec<Frame>, now: Now) -> Resu
             block,
             message,
         } => {
-            push_block(stack, context, block)?;
-            Ok(Turn::Again(Now::Goes(message)))
+            let now = resume_rest(alloc, set, stack, context, block, 0, message)?;
+            Ok(turn_behind(now))
         }
         Now::Handles {
             handled,
@@ -93,9 +96,22 @@ fn turn_goes(
     match stack.pop() {
         Some(frame) => {
             let now = resume(alloc, set, stack, frame, message)?;
-            Ok(Turn::Again(now))
+            Ok(turn_behind(now))
         }
         None => Ok(Turn::Done(State::Finishing(End::Completed, message))),
+    }
+}
+
+/// What is to be done next makes one more turn, where it doesn't wait.
+fn turn_behind(now: Now) -> Turn
+    ensures means { (set : ARouteSet) (commit : Bool) (item : List ℕ) (c : AContext) (whole : Option AUri) (fs : List AFrame) (A : List AnAnswer) → turn_mean set commit item c whole fs result A
+        ≡ finished commit item (place_in c 0) (behind_all set fs (now_mean set whole now A)) }
+    ensures falls { (set : ARouteSet) (fs : List AFrame) (w : ℕ) → stack_weight set fs + now_weight set now < w → TurnFalls set fs result w }
+    ensures later { IsLater result }
+{
+    match now {
+        Now::Waits(wait) => Turn::Done(State::Runs(wait)),
+        now => Turn::Again(now),
     }
 }
 
@@ -186,7 +202,7 @@ fn resume(
     }
 }
 
-/// The steps of a block from an index on.
+/// The steps of a block from an index on. Behind one that lets the message go on comes the next one at once.
 fn resume_rest(
     alloc: Global,
     set: &RouteSet,
@@ -199,14 +215,43 @@ fn resume_rest(
     ensures means { IfOk result (λ n. (whole : Option AUri) (A : List AnAnswer) → behind_all set.now stack.new.items (now_mean set.now whole n A) ≡ behind_all set.now stack.old.items (frame_mean set.now (Frame.Rest context block index) message A)) }
     ensures falls { IfOk result (λ n. stack_weight set.now stack.new.items + now_weight set.now n < stack_weight set.now stack.old.items + frame_weight set.now (Frame.Rest context block index)) }
 {
-    match next_index(set, block, index) {
-        Some(next) => {
-            push_rest(set, stack, context, block, next)?;
-            let now = begin_step(alloc, set, context, block, index, 1000, message)?;
-            Ok(now)
+    let mut index = index;
+    let mut message = message;
+    while let Some(next) = next_index(set, block, index) {
+        let tried = first_try(alloc, set, context, block, index, message)?;
+        match tried {
+            Tried::Goes(gone) => {
+                message = gone;
+                index = next;
+            }
+            tried => {
+                let now = behind_step(alloc, set, stack, context, block, index, next, tried)?;
+                return Ok(now);
+            }
         }
-        None => Ok(Now::Goes(message)),
     }
+    Ok(Now::Goes(message))
+}
+
+/// What follows what the first try of a step gives, and then the steps of its block from the next index on.
+fn behind_step(
+    alloc: Global,
+    set: &RouteSet,
+    stack: &mut Vec<Frame>,
+    context: Context,
+    block: u32,
+    index: usize,
+    next: usize,
+    tried: Tried,
+) -> Result<Now, NoMemory>
+    ensures means { IfOk result (λ n. (whole : Option AUri) (m : AMessage) (A : List AnAnswer) → HasKept None 1000 tried m
+        → behind_all set.now stack.new.items (now_mean set.now whole n A) ≡ behind_all set.now stack.old.items (behind_try set.now whole context block index next m tried A)) }
+    ensures falls { IfOk result (λ n. stack_weight set.now stack.new.items + now_weight set.now n ≤ stack_weight set.now stack.old.items + frame_weight set.now (Frame.Rest context block next) + tried_weight set.now context (Task.Step block index) tried) }
+{
+    push_rest(set, stack, context, block, next)?;
+    let task = Task::Step { block, index };
+    let now = after_try(alloc, set, context, task, 1000, None, tried)?;
+    Ok(now)
 }
 
 /// The steps of a block from an index on come behind what runs. Where there are none, nothing does.

@@ -1,7 +1,9 @@
-use Rattle.std.proofs.Common.{◌≡◌, ◌+◌}
+use Rattle.std.proofs.Common.{◌≡◌, ◌+◌, ◌≤◌, drop}
 use Rattle.eip_exchange.specs.Headers.{counted}
-use Rattle.eip_exchange.specs.Keys.{pairs_of}
 use Rattle.eip_exchange.proofs.headers.count.Given as goal
 
-abbrev pub invariant-loop-name : goal.invariant-loop-name
-invariant-loop-name l = l.count + counted (pairs_of l.name-iterator) ≡ counted (pairs_of l.map.entries)
+abbrev pub invariant-loop-pair : goal.invariant-loop-pair
+invariant-loop-pair l = record {
+  so_far : l.count + counted (drop l.pair-index l.pair-items) ≡ counted l.pair-items;
+  few : l.count ≤ l.pair-index;
+}

@@ -13,8 +13,8 @@ use Rattle.eip_strategy.proofs.adding.grow_body.Goals as goal
 pub returns-clause-undo : goal.returns-clause-undo
 returns-clause-undo c =
     let old : Message = c.args.so_far.now in
-    let same : string_bytes c.into_string-body.result ≡ old.body = c.into_string-body.ensures ∙ c.replace-taken.ensures.value in
-    let utf8 : IsUtf8 old.body = subst IsUtf8 same (IsUtf8-string_bytes c.into_string-body.result) in
-    subst (λ (u : Undo). Undoes u old (record old { body = c.of-2.result })) (sym (c.undo_of-undo.ensures ∙ ap (undo_of c.args.strategy.now) (c.as_str.ensures.value ∙ same)))
-    (undoes_grown c.args.strategy.now old c.args.new.now.body c.of-2.result c.requires.ready c.requires.keeps c.requires.grows utf8
-    (ap (λ (b : List ℕ). bounded 65536 (next_body c.args.strategy.now b c.args.new.now.body)) (sym same) ∙ c.in_ok-done.ensures.says ∙ ap (λ (xs : List ℕ). Ok xs) (sym c.of-2.ensures)))
+    let same : string_bytes c.in_ok-body.body ≡ old.body = c.in_ok-body.ensures.body in
+    let utf8 : IsUtf8 old.body = subst IsUtf8 same (IsUtf8-string_bytes c.in_ok-body.body) in
+    rw c.in_ok-body.ensures.rest (subst (λ (u : Undo). Undoes u old (record old { body = c.of.result })) (sym (c.undo_of-undo.ensures ∙ ap (undo_of c.args.strategy.now) (c.as_str.ensures.value ∙ same)))
+    (undoes_grown c.args.strategy.now old c.args.new.now.body c.of.result c.requires.ready c.requires.keeps c.requires.grows utf8
+    (ap (λ (b : List ℕ). bounded 65536 (next_body c.args.strategy.now b c.args.new.now.body)) (sym same) ∙ c.in_ok-done.ensures.says ∙ ap (λ (xs : List ℕ). Ok xs) (sym c.of.ensures))))

@@ -14,28 +14,28 @@ use Rattle.eip_strategy.proofs.adding.pack_in_place.Goals as goal
 
 pub front_len-front-requires : goal.front_len-front-requires
 front_len-front-requires c =
-    subst (λ (xs : List ℕ). 0 < length xs) (sym (c.as_str.ensures.value ∙ c.into_string-body.ensures ∙ c.replace-taken.ensures.value)) (packed_some c.args.so_far.now.body c.requires)
+    subst (λ (xs : List ℕ). 0 < length xs) (sym (c.as_str.ensures.value ∙ c.in_ok-body.ensures.body)) (packed_some c.args.so_far.now.body c.requires)
 
 pub returns-in_err-done-clause-says : goal.returns-in_err-done-clause-says
 returns-in_err-done-clause-says c =
     let old : Message = c.args.so_far.now in
-    let same : string_bytes c.into_string-body.result ≡ old.body = c.into_string-body.ensures ∙ c.replace-taken.ensures.value in
-    let p = err_from_is_err_and c.from_residual.result c.from_residual.ensures.1 in
+    let same : string_bytes c.in_ok-body.body ≡ old.body = c.in_ok-body.ensures.body in
+    let p = err_from_is_err_and c.from_residual-in_err-done.result c.from_residual-in_err-done.ensures.1 in
     rw (p.1, p.2) (λ h.
     packed_as (Some old) old c.args.new.now (Err c.in_err-done.field-0.0) refl (ap (λ (b : List ℕ). bounded 16777216 (Ok (text_behind b c.args.new.now))) (sym same) ∙ c.in_err-done.ensures.says h))
 
 pub returns-clause-says : goal.returns-clause-says
 returns-clause-says c =
     let old : Message = c.args.so_far.now in
-    let same : string_bytes c.into_string-body.result ≡ old.body = c.into_string-body.ensures ∙ c.replace-taken.ensures.value in
-    packed_as (Some old) old c.args.new.now (Ok c.of-2.result) refl
-    (ap (λ (b : List ℕ). bounded 16777216 (Ok (text_behind b c.args.new.now))) (sym same) ∙ c.in_ok-done.ensures.says ∙ ap (λ (xs : List ℕ). Ok xs) (sym c.of-2.ensures))
+    let same : string_bytes c.in_ok-body.body ≡ old.body = c.in_ok-body.ensures.body in
+    rw c.in_ok-body.ensures.rest (packed_as (Some old) old c.args.new.now (Ok c.of.result) refl
+    (ap (λ (b : List ℕ). bounded 16777216 (Ok (text_behind b c.args.new.now))) (sym same) ∙ c.in_ok-done.ensures.says ∙ ap (λ (xs : List ℕ). Ok xs) (sym c.of.ensures)))
 
 pub returns-clause-undo : goal.returns-clause-undo
 returns-clause-undo c =
     let old : Message = c.args.so_far.now in
-    let same : string_bytes c.into_string-body.result ≡ old.body = c.into_string-body.ensures ∙ c.replace-taken.ensures.value in
-    let utf8 : IsUtf8 old.body = subst IsUtf8 same (IsUtf8-string_bytes c.into_string-body.result) in
-    subst (λ (n : ℕ). Undoes (Reclose n) old (record old { body = c.of-2.result })) (sym (c.front_len-front.ensures ∙ ap (λ (xs : List ℕ). length xs - 1) (c.as_str.ensures.value ∙ same)))
-    (undoes_packed old c.args.new.now c.of-2.result c.requires utf8
-    (ap (λ (b : List ℕ). bounded 16777216 (Ok (text_behind b c.args.new.now))) (sym same) ∙ c.in_ok-done.ensures.says ∙ ap (λ (xs : List ℕ). Ok xs) (sym c.of-2.ensures)))
+    let same : string_bytes c.in_ok-body.body ≡ old.body = c.in_ok-body.ensures.body in
+    let utf8 : IsUtf8 old.body = subst IsUtf8 same (IsUtf8-string_bytes c.in_ok-body.body) in
+    rw c.in_ok-body.ensures.rest (subst (λ (n : ℕ). Undoes (Reclose n) old (record old { body = c.of.result })) (sym (c.front_len-front.ensures ∙ ap (λ (xs : List ℕ). length xs - 1) (c.as_str.ensures.value ∙ same)))
+    (undoes_packed old c.args.new.now c.of.result c.requires utf8
+    (ap (λ (b : List ℕ). bounded 16777216 (Ok (text_behind b c.args.new.now))) (sym same) ∙ c.in_ok-done.ensures.says ∙ ap (λ (xs : List ℕ). Ok xs) (sym c.of.ensures))))

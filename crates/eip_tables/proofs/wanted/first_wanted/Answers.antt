@@ -1,19 +1,11 @@
-use Rattle.std.proofs.Common.{◌-◌, length, refl, sym, ap, ◌∙◌, arith, get_or}
-use Rattle.std.proofs.lemmas.Option.{slice_get_read}
-use Rattle.eip_tables.specs.State.{is_outside_row, outside_at, is_wanted}
-use Rattle.eip_tables.proofs.FirstWanted.{first-here, first-later}
+use Rattle.std.proofs.Common.{◌≡◌, ◌+◌, ◌<◌, ◌++◌, length, ap, arith, length-append}
+use Rattle.std.proofs.lemmas.List.{get_or-append-add}
 use Rattle.eip_tables.proofs.wanted.first_wanted.Goals as goal
 
-pub returns-then-is_wanted : goal.returns-then-is_wanted
-returns-then-is_wanted c =
-    let number = c.requires c.loop-number.number-index 0 c.loop-number-test.true in
-    let row = slice_get_read c.args.rows.now (length c.args.rows.now) (get_or c.args.numbers.now c.loop-number.number-index 0 - 1) c.index-rows-number.result refl (omega (arith, number.0, number.1)) c.index-rows-number.is in
-    let wanted = ap (λ o. is_wanted c.args.outside (is_outside_row o)) row ∙ (sym c.is_wanted.ensures ∙ c.if-is_wanted.true) in
-    sym (c.loop-number.invariant ∙ first-here (λ x. is_wanted c.args.outside (outside_at c.args.rows.now x)) c.args.numbers.now c.loop-number.number-index 0 c.loop-number-test.true wanted)
-
-pub loop-number-preserved : goal.loop-number-preserved
-loop-number-preserved c =
-    let number = c.requires c.loop-number.number-index 0 c.loop-number-test.true in
-    let row = slice_get_read c.args.rows.now (length c.args.rows.now) (get_or c.args.numbers.now c.loop-number.number-index 0 - 1) c.index-rows-number.result refl (omega (arith, number.0, number.1)) c.index-rows-number.is in
-    let wanted = ap (λ o. is_wanted c.args.outside (is_outside_row o)) row ∙ (sym c.is_wanted.ensures ∙ c.if-is_wanted.false) in
-    c.loop-number.invariant ∙ first-later (λ x. is_wanted c.args.outside (outside_at c.args.rows.now x)) c.args.numbers.now c.loop-number.number-index 0 c.loop-number-test.true wanted
+pub first_of_run-requires-in-None : goal.first_of_run-requires-in-None
+first_of_run-requires-in-None c = λ k d l.
+    let front = c.runs.result.0.now in
+    let rest = c.runs.result.1.now in
+    let whole : length (front ++ rest) ≡ length c.args.numbers.now.numbers = ap length c.runs.ensures in
+    let within : length front + k < length c.args.numbers.now.numbers = omega (arith, whole, length-append front rest, l) in
+    rw (← c.runs.ensures, get_or-append-add front rest k d) at (c.requires (length front + k) d within)

@@ -45,7 +45,7 @@ members_of-loop-key-preserved t c =
     let left = c.next.new.self in (
       done ++ e ∷ [],
       l.invariant.1 ∙ ap (λ es. done ++ es) c.in-Some.ensures.steps ∙ sym (append_assoc done (e ∷ []) left),
-      map_last named_json entry_json l.trees.items done (c.in_ok-name.name, c.in_ok-tree_of.field-0) e c.push.new.self.items
+      map_last named_json entry_json l.trees.items done (c.in_ok-name.name, c.in_ok-tree_of.field-0) e _
           c.in_ok-push.ensures.items l.invariant.2
           (pair_of (c.in_ok-name.ensures ∙ c.as_str.ensures.value) c.in_ok-tree_of.ensures),
     )

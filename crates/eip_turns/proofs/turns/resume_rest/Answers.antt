@@ -1,26 +1,56 @@
-use Rattle.std.proofs.Common.{arith, ◌∙◌, ap, drop}
+use Rattle.std.proofs.Common.{◌≡◌, arith, refl, sym, ◌∙◌, ap, drop}
+use Rattle.std.specs.Prelude.{None, slice_get}
 use Rattle.eip_meaning.specs.Meaning.{steps_of}
 use Rattle.eip_progress.specs.Rest.{behind_all}
+use Rattle.eip_turns.specs.First.{first_at}
 use Rattle.eip_turns.specs.Weights.{nested_block}
 use Rattle.eip_turns.specs.Falls.{handling_in}
 use Rattle.eip_turns.proofs.Falling.{steps_weight-pos, rest_falls}
-use Rattle.eip_turns.proofs.Turning.{rest_none, rest_some_at}
+use Rattle.eip_turns.proofs.Firsts.{kept_as, weighs_as, first_goes, first_leaves}
+use Rattle.eip_turns.proofs.Turning.{rest_none}
 use Rattle.eip_turns.proofs.turns.resume_rest.Goals as goal
 
-pub returns-in_ok-now-in-Some-clause-means : goal.returns-in_ok-now-in-Some-clause-means
-returns-in_ok-now-in-Some-clause-means c = λ whole A.
-    c.in_ok-push_rest-in-Some.ensures.means _
-    ∙ rw (c.in_ok-now-in-Some.ensures.means whole A, c.in-Some.ensures.0)
-    (ap (behind_all c.args.set.now c.args.stack.now.items) (rest_some_at c.args.set.now whole c.args.context c.args.block c.args.index c.args.message A c.in-Some.ensures.1))
+pub loop-next-init : goal.loop-next-init
+loop-next-init c = record { stack = refl; means = λ A. refl; falls = omega arith }
 
-pub returns-in_ok-now-in-Some-clause-falls : goal.returns-in_ok-now-in-Some-clause-falls
-returns-in_ok-now-in-Some-clause-falls c =
-    let p = rw c.in-Some.ensures.0 at c.in_ok-push_rest-in-Some.ensures.falls in
-    omega (arith, p, c.in_ok-now-in-Some.ensures.falls, rest_falls c.args.set.now c.args.context c.args.block c.args.index c.in-Some.ensures.1)
+pub loop-next-preserved : goal.loop-next-preserved
+loop-next-preserved c = record {
+  stack = c.loop-next.invariant.stack;
+  means = λ A.
+      rw c.in-Some.ensures.0
+      (first_goes c.args.set.now None c.args.context c.args.block c.loop-next.index c.loop-next.message A c.in-Some.ensures.1 c.in-Goes.gone (sym c.in-Goes.is ∙ c.in_ok-tried.ensures))
+      ∙ c.loop-next.invariant.means A;
+  falls = rw c.in-Some.ensures.0 (omega (arith, c.loop-next.invariant.falls, rest_falls c.args.set.now c.args.context c.args.block c.loop-next.index c.in-Some.ensures.1));
+}
 
-pub returns-in-None-clause-means : goal.returns-in-None-clause-means
-returns-in-None-clause-means c = λ whole A. ap (behind_all c.args.set.now c.args.stack.now.items) (rest_none c.args.set.now c.args.context c.args.block c.args.index c.args.message A c.in-None.ensures)
+pub loop-next-smaller : goal.loop-next-smaller
+loop-next-smaller c = rw c.in-Some.ensures.0 (omega (arith, rest_falls c.args.set.now c.args.context c.args.block c.loop-next.index c.in-Some.ensures.1))
 
-pub returns-in-None-clause-falls : goal.returns-in-None-clause-falls
-returns-in-None-clause-falls c =
-    omega (arith, steps_weight-pos (handling_in c.args.set.now c.args.context) (nested_block c.args.set.now (handling_in c.args.set.now c.args.context) c.args.block) (drop c.args.index (steps_of c.args.set.now c.args.block)))
+pub returns-clause-means : goal.returns-clause-means
+returns-clause-means c = λ whole A.
+    rw c.loop-next.invariant.stack
+    (ap (behind_all c.args.set.now c.args.stack.now.items)
+    (rest_none c.args.set.now c.args.context c.args.block c.loop-next.index c.loop-next.message A c.in_default.ensures ∙ c.loop-next.invariant.means A))
+
+pub returns-clause-falls : goal.returns-clause-falls
+returns-clause-falls c =
+    rw c.loop-next.invariant.stack
+    (omega (
+      arith,
+      c.loop-next.invariant.falls,
+      steps_weight-pos (handling_in c.args.set.now c.args.context) (nested_block c.args.set.now (handling_in c.args.set.now c.args.context) c.args.block) (drop c.loop-next.index (steps_of c.args.set.now c.args.block)),
+    ))
+
+pub returns-in_default-tried : goal.returns-in_default-tried
+returns-in_default-tried c =
+    let e : c.in_ok-tried.tried ≡ first_at c.args.set.now c.args.context (slice_get (steps_of c.args.set.now c.args.block) c.loop-next.index) c.loop-next.message = c.in_ok-tried.ensures in
+    let w = weighs_as c.args.set.now c.args.context c.args.block c.loop-next.index (slice_get (steps_of c.args.set.now c.args.block) c.loop-next.index) c.loop-next.message c.in_ok-tried.tried e in
+    let p = rw (c.in-Some.ensures.0, c.loop-next.invariant.stack) at c.in_ok-now-in_default-tried.ensures.falls in
+    record {
+      means = λ whole A.
+          c.in_ok-now-in_default-tried.ensures.means whole c.loop-next.message A
+          (kept_as c.args.set.now c.args.context (slice_get (steps_of c.args.set.now c.args.block) c.loop-next.index) c.loop-next.message c.in_ok-tried.tried e)
+          ∙ (first_leaves c.args.set.now whole c.args.context c.args.block c.loop-next.index c.loop-next.message A c.in-Some.ensures.1 c.args.stack.now.items c.loop-next.stack.items c.in-Some.next c.in_ok-tried.tried c.loop-next.invariant.stack c.in-Some.ensures.0 e
+          ∙ ap (behind_all c.args.set.now c.args.stack.now.items) (c.loop-next.invariant.means A));
+      falls = omega (arith, p, w, c.loop-next.invariant.falls, rest_falls c.args.set.now c.args.context c.args.block c.loop-next.index c.in-Some.ensures.1);
+    }

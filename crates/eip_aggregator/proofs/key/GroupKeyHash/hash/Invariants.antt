@@ -1,5 +1,5 @@
 use Rattle.std.proofs.Common.{◌≡◌, fold, drop}
-use Rattle.eip_exchange.specs.Keys.{writes}
+use Rattle.eip_aggregator.specs.Keys.{writes}
 use Rattle.eip_aggregator.proofs.key.GroupKeyHash.hash.Given as goal
 
 abbrev pub invariant-loop-byte : goal.invariant-loop-byte

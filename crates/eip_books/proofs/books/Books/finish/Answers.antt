@@ -8,6 +8,8 @@ use Rattle.eip_table_laws.proofs.OwnCalls.{row-within, ready-some, stands-finish
 use Rattle.eip_table_laws.proofs.LookCalls.{known-state, known-request}
 use Rattle.eip_table_laws.proofs.ListedNumbers.{leave-at}
 use Rattle.eip_table_laws.proofs.HandCalls.{finished-not-outside}
+use Rattle.eip_tables.specs.Rows.{row_ready}
+use Rattle.eip_tables.proofs.NumbersRise.{numbers-rise}
 use Rattle.eip_books.specs.Facts.{tables_of}
 use Rattle.eip_table_laws.proofs.Ending.{behind-outside}
 use Rattle.eip_books.proofs.Waking.{if-woken}
@@ -69,6 +71,9 @@ pub overflow_sub-self : goal.overflow_sub-self
 overflow_sub-self c =
     let r = ready-some (tables_of c.self.inside) c.args.number c.self.invariant.stands (rw (← c.self.view_is) at c.requires.ready) in
     live-above (tables_of c.self.inside) c.args.number r.0 c.self.invariant.stands (rw (← c.self.view_is) at c.requires.ready) r.1
+
+pub remove-requires : goal.remove-requires
+remove-requires c = rw (c.reserve.ensures.numbers, c.self.invariant.stands.ready) (numbers-rise row_ready c.self.inside.rows.items)
 
 pub invariant_of-self-2 : goal.invariant_of-self-2
 invariant_of-self-2 c =

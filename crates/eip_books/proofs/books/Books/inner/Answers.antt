@@ -1,5 +1,5 @@
 use Rattle.std.proofs.Common.{◌∙◌, sym}
-use Rattle.eip_table_laws.proofs.InnerCalls.{kind-line, kind-route, kind-copy, kind-parts, kind-ends, kind-end}
+use Rattle.eip_table_laws.proofs.InnerCalls.{kind-line, kind-route, kind-copy, kind-parts, kind-ends, kind-moment, kind-end}
 use Rattle.eip_books.proofs.books.Books.inner.Goals as goal
 
 pub note-requires-clause-line : goal.note-requires-clause-line
@@ -19,3 +19,6 @@ spawn-requires-clause-parts c = let known = c.in_ok-look.ensures.known in kind-p
 
 pub join-requires-clause-ends : goal.join-requires-clause-ends
 join-requires-clause-ends c = let known = c.in_ok-look.ensures.known in kind-ends c.look.new.self.known c.args.number known.0 known.1 (sym (c.asked.ensures.kind known.0 known.1) ∙ c.in-Ends.is)
+
+pub wait-requires-clause-moment : goal.wait-requires-clause-moment
+wait-requires-clause-moment c = let known = c.in_ok-look.ensures.known in kind-moment c.look.new.self.known c.args.number known.0 known.1 (sym (c.asked.ensures.kind known.0 known.1) ∙ c.in-Moment.is)

@@ -14,6 +14,8 @@ use Rattle.eip_table_laws.proofs.OfferCalls.{births-few}
 use Rattle.eip_table_laws.proofs.PartCalls.{spawn-few, spawn-indexed, spawn-free, spawn-new, stands-born, born-outside}
 use Rattle.eip_table_laws.proofs.LookCalls.{known-state, known-request}
 use Rattle.eip_table_laws.proofs.ListedNumbers.{leave-at}
+use Rattle.eip_tables.specs.Rows.{row_ready}
+use Rattle.eip_tables.proofs.NumbersRise.{numbers-rise}
 use Rattle.eip_books.specs.Facts.{tables_of}
 use Rattle.eip_books.proofs.Waking.{from-many}
 use Rattle.eip_books.proofs.books.Books.spawn.Goals as goal
@@ -156,6 +158,9 @@ overflow_add-self c =
     let few = spawn-few (tables_of c.self.inside) c.args.worker c.args.number c.self.invariant.stands (rw (← c.self.view_is) at c.requires.worker) k.0 c.get-row.result.now (rw (← c.self.view_is) at c.requires.ready) c.get-row.ensures c.requires.parts.seeds k.1 in
     let born = births-few c.self.inside.set c.self.inside.journal.workers c.self.inside.journal.turns c.self.inside.journal.past c.self.invariant.stands.legal.entries c.self.invariant.stands.simple in
     omega (arith, count, few, live-within (tables_of c.self.inside) c.self.invariant.stands, rows-are (tables_of c.self.inside) c.self.invariant.stands, born, c.self.invariant.stands.turns, within-limit (tables_of c.self.inside) c.self.invariant.stands, c.self.invariant.stands.legal.few_turns)
+
+pub remove-requires : goal.remove-requires
+remove-requires c = rw (c.reserve-2.ensures.numbers, c.self.invariant.stands.ready) (numbers-rise row_ready c.self.inside.rows.items)
 
 pub invariant_of-self-2 : goal.invariant_of-self-2
 invariant_of-self-2 c =

@@ -5,6 +5,8 @@ use Rattle.eip_tables.specs.Moves.{closed}
 use Rattle.eip_tables.specs.declared.row.Stage.TheVariants as stage
 use Rattle.eip_table_laws.proofs.OwnCalls.{row-within, stands-starve, starve-leaves, starve-tells, starve-wakes, live-above}
 use Rattle.eip_table_laws.proofs.ListedNumbers.{leave-at}
+use Rattle.eip_tables.specs.Rows.{row_ready}
+use Rattle.eip_tables.proofs.NumbersRise.{numbers-rise}
 use Rattle.eip_books.specs.Facts.{tables_of}
 use Rattle.eip_table_laws.proofs.Ending.{behind-outside}
 use Rattle.eip_books.proofs.Waking.{if-woken}
@@ -47,6 +49,9 @@ wake-requires-clause-room c =
 pub overflow_sub-self : goal.overflow_sub-self
 overflow_sub-self c =
     live-above (tables_of c.self.inside) c.args.number c.get-row.result.now c.self.invariant.stands (rw (← c.self.view_is) at c.requires.ready) c.get-row.ensures
+
+pub remove-requires : goal.remove-requires
+remove-requires c = rw c.self.invariant.stands.ready (numbers-rise row_ready c.self.inside.rows.items)
 
 pub invariant_of-self : goal.invariant_of-self
 invariant_of-self c =

@@ -1,5 +1,7 @@
 use Rattle.std.proofs.Common.{arith, ◌≡◌, ◌∙◌, refl}
 use Rattle.eip_ledger.specs.declared.place.Place.TheVariants.{Ready}
+use Rattle.eip_tables.specs.Rows.{row_ready}
+use Rattle.eip_tables.proofs.NumbersRise.{numbers-rise}
 use Rattle.eip_books.specs.Facts.{tables_of}
 use Rattle.eip_tables.specs.Moves.{held}
 use Rattle.eip_tables.specs.State.{row_outside}
@@ -8,6 +10,9 @@ use Rattle.eip_table_laws.proofs.OwnCalls.{row-within}
 use Rattle.eip_table_laws.proofs.ListedNumbers.{leave-at}
 use Rattle.eip_table_laws.proofs.HandCalls.{known-outside, may-take, taken-place, taken-asks, stands-take}
 use Rattle.eip_books.proofs.books.Books.take.Goals as goal
+
+pub remove-requires : goal.remove-requires
+remove-requires c = rw c.self.invariant.stands.ready (numbers-rise row_ready c.self.inside.rows.items)
 
 pub invariant_of-self : goal.invariant_of-self
 invariant_of-self c =

@@ -1,0 +1,10 @@
+use Rattle.eip_cursor.proofs.Ending.{ends_follow}
+use Rattle.eip_cursor.proofs.cursor.ended_in_turn.Goals as goal
+
+pub ask_to_end-next-requires : goal.ask_to_end-next-requires
+ask_to_end-next-requires c = (rw c.in-Some.is at c.in_ok-message.ensures).0
+
+pub returns-in-Some-clause-ok : goal.returns-in-Some-clause-ok
+returns-in-Some-clause-ok c =
+    rw (c.ask_to_end-next.ensures.next, c.ask_to_end-next.ensures.cursor)
+    (ends_follow c.args.set.now c.args.cursor.now c.args.answer.now c.in-Some.message (rw c.in-Some.is at c.in_ok-message.ensures))
