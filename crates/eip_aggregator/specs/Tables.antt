@@ -176,6 +176,7 @@ pub record Shows (shown : OpenGroup) (e : ℕ × Group) : Type 0 where
   pub number : shown.number ≡ e.0
   pub size : shown.size ≡ e.1.count
   pub key : shown.key.now ≡ e.1.key.1
+  pub force : shown.force ≡ e.1.force
 
 -- this shows the first open group behind a number, in the order of the numbers; or none has a greater number
 abbrev pub ShowsBehind : Settings → List Call → ℕ → Option OpenGroup → Type 0

@@ -28,6 +28,8 @@ pub struct OpenGroup<'a> {
     pub size: u64,
     /// The value that its parts have in common.
     pub key: &'a Text,
+    /// Whether it may be forced to close.
+    pub force: bool,
 }
 
 /// Where an arrival went.

@@ -1,8 +1,11 @@
-ghost use Rattle.std.specs.Prelude.{◌≡◌, ◌<◌, ◌+◌, List, [], ◌∷◌, IfOk, OnOk, IfErr, OnErr, IsSome, Some, None};
+ghost use Rattle.std.specs.Prelude.{◌≡◌, ◌<◌, ◌+◌, ℕ, List, [], ◌∷◌, length, map, MatchOption, IfOk, OnOk, IfErr, OnErr, IsSome, Some, None};
+ghost use Rattle.std.specs.List.{list_any, slice_get};
+ghost use Rattle.std.specs.List.Sorted.{IsStrictlySortedBy};
+ghost use Rattle.std.specs.Ordering.{nat_cmp};
 ghost use Rattle.eip_strategy.specs.Adding.{IsReady};
-ghost use Rattle.eip_aggregator.specs.Arrivals.{Call, Came, Ticked, Forced, Settings, cause_at, is_at_most};
+ghost use Rattle.eip_aggregator.specs.Arrivals.{Call, Came, Ticked, Forced, Settings, Group, cause_at, is_at_most};
 ghost use Rattle.eip_ordered.specs.Numbered.{value_at};
-ghost use Rattle.eip_aggregator.specs.Tables.{Stands, IsSetSo, IsFree, IsOf, IsFirstDue, closed_as, count_in, message_in, GoesOn, IsRefused, Settles, Answers, AreAsMany, ShowsBehind, AreClosed};
+ghost use Rattle.eip_aggregator.specs.Tables.{Stands, IsSetSo, IsFree, IsOf, IsFirstDue, closed_as, count_in, message_in, GoesOn, IsRefused, Settles, Answers, AreAsMany, Shows, ShowsBehind, AreClosed, is_forced};
 ghost use Rattle.eip_frames.specs.declared.answer.Completion.TheVariants as by;
 
 use crate::closed::{ArriveFault, Arrived, Closed, OpenGroup};
@@ -136,7 +139,9 @@ impl Groups {
 
     /// How many groups are open. It takes no memory.
     pub fn open_groups(&self) -> usize
-        ensures { (s : Settings) (calls : List Call) → Stands s calls self.now → AreAsMany s calls result }
+        ensures as_many { (s : Settings) (calls : List Call) → Stands s calls self.now → AreAsMany s calls result }
+        ensures len { result ≡ length self.now.open_groups }
+        ensures rising { IsStrictlySortedBy nat_cmp (map (λ (e : ℕ × Group). e.0) self.now.open_groups) }
     {
         self.places.len()
     }
@@ -159,6 +164,30 @@ impl Groups {
                 number,
                 size: group.count(),
                 key: group.key().text(),
+                force: group.is_forced(),
+            }),
+        }
+    }
+
+    /// Whether an open group may be forced to close. It takes no memory.
+    pub fn may_force(&self) -> bool
+        ensures { result ≡ list_any is_forced self.now.open_groups }
+    {
+        self.places.any_forced()
+    }
+
+    /// The open group with this index from 0, by the groups' numbers; None exactly beyond them. It takes no memory.
+    pub fn open_group_at(&self, k: usize) -> Option<OpenGroup<'_>>
+        ensures shown { MatchOption result (slice_get self.now.open_groups k ≡ None) (λ x. (e : ℕ × Group) × (slice_get self.now.open_groups k ≡ Some e) × Shows x e) }
+        ensures rising { IsStrictlySortedBy nat_cmp (map (λ (e : ℕ × Group). e.0) self.now.open_groups) }
+    {
+        match self.places.at(k) {
+            None => None,
+            Some((number, group)) => Some(OpenGroup {
+                number,
+                size: group.count(),
+                key: group.key().text(),
+                force: group.is_forced(),
             }),
         }
     }

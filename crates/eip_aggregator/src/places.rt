@@ -1,7 +1,7 @@
 ghost use Rattle.std.specs.Prelude.{◌≡◌, ◌<◌, ℕ, [], true, false, length, map, IfOk, OnOk, IfErr, OnErr, IsSome, IfNone, MatchOption, Some, None};
 ghost use Rattle.std.specs.Ordering.{nat_cmp};
 ghost use Rattle.std.specs.BTreeMap.{get};
-ghost use Rattle.std.specs.List.{All};
+ghost use Rattle.std.specs.List.{All, list_any, slice_get};
 ghost use Rattle.std.specs.List.Sorted.{IsStrictlySortedBy};
 ghost use Rattle.indexmap.specs.IndexMap.{spare};
 ghost use Rattle.eip_strategy.specs.Adding.{IsReady};
@@ -164,6 +164,22 @@ impl Places {
         numbers_forced(alloc, &self.groups)
     }
 
+    /// Whether a group may be forced to close.
+    pub fn any_forced(&self) -> bool
+        ensures { result ≡ list_any is_forced self.now }
+    {
+        any_forced(&self.groups)
+    }
+
+    /// The open group with this index from 0, by the numbers, with its number.
+    pub fn at(&self, k: usize) -> Option<(u64, &KeptGroup)>
+        ensures shown { MatchOption result (slice_get self.now k ≡ None) (λ e. slice_get self.now k ≡ Some (e.0, e.1.now)) }
+        ensures rising { IsStrictlySortedBy nat_cmp (map (λ (e : ℕ × Group). e.0) self.now) }
+    {
+        let (number, group) = self.groups.iter().nth(k)?;
+        Some((*number, group))
+    }
+
     /// The first open group whose number is greater than this one, with its own number.
     pub fn next_behind(&self, number: u64) -> Option<(u64, &KeptGroup)>
         ensures { MatchOption result (IsBeyond self.now number) (λ e. IsNext self.now number (e.0, e.1.now)) }
@@ -214,6 +230,19 @@ fn numbers_forced(
         }
     }
     Ok(numbers)
+}
+
+/// Whether a group may be forced to close.
+fn any_forced(groups: &BTreeMap<u64, KeptGroup>) -> bool
+    ensures { result ≡ list_any is_forced groups.now.entries }
+{
+    for (number, group) in groups.iter() {
+        let _ = number;
+        if group.is_forced() {
+            return true;
+        }
+    }
+    false
 }
 
 /// When the group of this number is due.

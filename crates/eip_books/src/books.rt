@@ -1,11 +1,11 @@
 ghost use Rattle.std.specs.Prelude.{◌≡◌, ◌+◌, ◌-◌, ◌<◌, ◌≤◌, [], ℕ, length, IfOk, OnOk, OnErr, Some, slice_get, IfSome, IfNone, IsTrue, ◌↔◌, ◌≢◌, ◌==◌, None, true, false};
 ghost use Rattle.eip_ledger.specs.declared.entry.Kind.TheVariants.{Pull, Accept, Refuse, SourceEnd, SourceFault, Take, Answer as Answered};
-ghost use Rattle.eip_history.specs.Births.{births, asked};
+ghost use Rattle.eip_history.specs.Births.{births, groups, asked};
 ghost use Rattle.eip_history.specs.Own.{turns};
 ghost use Rattle.eip_ledger.specs.declared.place.Place.TheVariants.{Ready, InHand};
 ghost use Rattle.eip_history.specs.Place.{ready_numbers, place};
-ghost use Rattle.eip_history.specs.Rules.{May, first, startable, IsBelow, outside_asked};
-ghost use Rattle.eip_history.specs.Stop.{stop_of, is_over};
+ghost use Rattle.eip_history.specs.Rules.{May, first, startable, IsBelow, outside_asked, any_group};
+ghost use Rattle.eip_history.specs.Stop.{stop_of, is_over, will_close};
 ghost use Rattle.eip_plan.specs.Simple.{AnswersSimply};
 ghost use Rattle.eip_tables.specs.declared.asking.Asked.TheVariants.{Unknown};
 ghost use Rattle.eip_history.specs.Texts.{notes};
@@ -26,6 +26,7 @@ ghost use Rattle.eip_history.specs.BookText.{origin_at};
 ghost use Rattle.eip_tables.specs.Origin.{origin_seen, ending_at};
 
 use crate::ticket::Ticket;
+use eip_aggregator::Groups;
 use eip_exchange::{End, Ending, Message};
 use eip_frames::Answer;
 use eip_join::Joins;
@@ -68,6 +69,7 @@ pub struct Books {
     pub(crate) joins: Joins,
     pub(crate) clock: u64,
     pub(crate) sleepers: Retries,
+    pub(crate) groups: Groups,
     pub(crate) room: u64,
 }
 
@@ -121,6 +123,7 @@ impl Books {
             joins: Joins::new(alloc),
             clock: 0,
             sleepers: Retries::new(alloc),
+            groups: Groups::new(alloc),
             room: 0,
         })
     }
@@ -443,6 +446,10 @@ impl Books {
                 self.join(worker, number)?;
                 Ok(Inner::Did)
             }
+            Asked::Group => {
+                self.arrive(worker, number)?;
+                Ok(Inner::Did)
+            }
             Asked::Moment => {
                 self.wait(worker, number)?;
                 Ok(Inner::Did)
@@ -614,15 +621,30 @@ impl Books {
         self.turns + self.pulled + self.taken < u64::from(self.journal.turns())
     }
 
+    /// Whether a timeout or a force will close an open group.
+    fn will_close(&self) -> bool
+        ensures { result ≡ any_group (will_close (plan self.now)) (groups (plan self.now) self.now.journal.past) }
+    {
+        if self.groups.open_groups() == 0 {
+            return false;
+        }
+        if self.groups.due().is_some() {
+            return true;
+        }
+        self.groups.may_force()
+    }
+
     /// Whether nothing waits.
     fn is_over(&self) -> bool
         ensures { result ≡ is_over (plan self.now) self.now.journal.past }
     {
-        if self.live == 0 {
-            self.sources.are_done()
-        } else {
-            false
+        if self.live > 0 {
+            return false;
         }
+        if !self.sources.are_done() {
+            return false;
+        }
+        !self.will_close()
     }
 
     /// Why the run stops here; None where it goes on.
@@ -635,6 +657,7 @@ impl Books {
         let limit = u64::from(self.journal.turns());
         stop_by(
             over,
+            self.groups.open_groups() as u64,
             self.turns,
             limit,
             self.pulled + self.taken,

@@ -3,6 +3,7 @@
 
 pub mod books;
 mod ends;
+mod groups;
 mod parts;
 mod sleep;
 pub mod ticket;

@@ -18,7 +18,7 @@ use eip_rows::rows::Rows;
 use eip_tables::notes::{append_answer, make_room};
 use eip_tables::rising::RisingNumbers;
 use eip_tables::row::ticks_asked;
-use eip_tables::sleepers::due_moment;
+use eip_tables::sleepers::{due_moment, sooner};
 use eip_text::NoMemory;
 
 // Exchanges that sleep before their step is tried again (Camel manual, *Redelivery Policy*), and the clock that wakes them.
@@ -79,7 +79,7 @@ impl Books {
     pub fn due(&self) -> Option<u64>
         ensures { result ≡ least (dues (plan self.now) self.now.journal.past) }
     {
-        self.sleepers.least()
+        sooner(self.sleepers.least(), self.groups.due())
     }
 
     /// Whether nobody may act: no exchange is Ready, no hand is out, no queue can start anybody, and every source has ended.
@@ -98,8 +98,8 @@ impl Books {
         self.sources.are_done()
     }
 
-    /// The clock moves on to the least moment at which somebody is due, and whoever is due then may act again. On `NoMemory` no entry is
-    /// made.
+    /// The clock moves on to the least moment at which somebody is due. Whoever is due then may act again, and the groups that are due
+    /// close: their exchanges are born by the groups' numbers. On `NoMemory` no entry is made.
     pub fn tick(&mut self, worker: u32, now: u64) -> Result<(), NoMemory>
         requires worker { worker ≤ self.old.journal.workers }
         requires may { May (plan self.old) self.old.journal.turns self.old.journal.past worker (Tick now) }
@@ -110,9 +110,18 @@ impl Books {
         ensures outside { self.new.outside ≡ self.old.outside }
     {
         let hands = self.room + self.pulled + self.taken;
+        let open = self.groups.open_groups();
         self.journal.reserve((self.room + hands + 1) as usize)?;
-        self.ready.reserve_all((self.live + hands) as usize)?;
+        self.rows
+            .reserve((self.room + self.pulled) as usize + open)?;
+        self.ready.reserve_all((self.live + hands) as usize + open)?;
+        let closed = self.groups.close_due(now)?;
         rouse(&mut self.sleepers, &mut self.rows, &mut self.ready, now);
+        let first = self.rows.len() as u64 + 1;
+        let count = closed.len();
+        self.rows.put_groups(&self.set, closed);
+        self.ready.put_from(first, count);
+        self.live += count as u64;
         self.clock = now;
         self.journal.append_reserved(Entry {
             worker,

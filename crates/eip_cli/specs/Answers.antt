@@ -1,27 +1,22 @@
 -- What the program tells and leaves of a command, and the status that it ends with.
-use Rattle.std.specs.Prelude.{ℕ, ◌≡◌, List, [], ◌∷◌, codes, Option, Result}
+use Rattle.std.specs.Prelude.{ℕ, ◌≡◌, List, codes, Option, Result}
 use Rattle.std.specs.Result.{IsOkAnd}
 use Rattle.eip_text.specs.declared.memory.NoMemory.{NoMemory}
 use Rattle.eip_text.specs.declared.text.TextFault.{TextFault}
 use Rattle.eip_text.specs.declared.text.TextFault.TheVariants as fault
 use Rattle.eip_endpoint.specs.Lanes.{LaneView}
 use Rattle.eip_endpoint.specs.Inlets.{InletView}
-use Rattle.eip_endpoint.specs.declared.source.Source.{Ghosts as SourceMembers}
 use Rattle.eip_host.specs.Outputs.{Said}
 use Rattle.eip_run.specs.Given.{Outside}
 use Rattle.eip_run.specs.Caused.{IsReport}
 use Rattle.eip_run.specs.declared.report.Report.{Report}
 
--- a source as the inlet `stream`
-abbrev pub stream_over : {S : Type 0} → SourceMembers S → S → InletView
-stream_over m s = record { name = codes "stream"; given = m.given s; left = m.left s; commits = m.commits s; faults = m.inlet_faults s }
-
--- the top call was made for these words, with what is outside, over this inlet and no lane, and the status is that of its report
-pub record WasRun (words : List (List ℕ)) (before after : Outside) (inlet : InletView) (ended : ℕ) : Type 0 where
+-- the top call was made for these words, with what is outside, over these lanes and inlets, and the status is that of its report
+pub record WasRun (words : List (List ℕ)) (before after : Outside) (lanes : List LaneView) (inlets : List InletView) (ended : ℕ) : Type 0 where
   pub lanes_after : List LaneView
   pub inlets_after : List InletView
   pub report : Report
-  pub reported : IsReport words (record before { lanes = []; inlets = inlet ∷ [] }) (record after { lanes = lanes_after; inlets = inlets_after }) report
+  pub reported : IsReport words (record before { lanes = lanes; inlets = inlets }) (record after { lanes = lanes_after; inlets = inlets_after }) report
   pub status : ended ≡ report.status
 
 -- no call was made: neither count of faults rose
@@ -29,11 +24,11 @@ pub record IsIdle (before after : Outside) : Type 0 where
   pub files : after.materials.files_faults ≡ before.materials.files_faults
   pub patterns : after.materials.pattern_faults ≡ before.materials.pattern_faults
 
--- a command over the source that was made for it: the top call was made over that source alone, or memory was wanting before it, which is told
-pub data Commanded {S : Type 0} (m : SourceMembers S) (words : List (List ℕ)) (source : Result S NoMemory) (before after : Outside) (ended : ℕ) : Type 0 where
-  Run : IsOkAnd source (λ s. WasRun words before after (stream_over m s) ended) → Commanded m words source before after ended
+-- a command over the lanes and inlets that were made for it: the top call was made over these, or memory was wanting before it, which is told
+pub data Commanded {H : Type 0} (lanes : H → List LaneView) (inlets : H → List InletView) (words : List (List ℕ)) (handed : Result H NoMemory) (before after : Outside) (ended : ℕ) : Type 0 where
+  Run : IsOkAnd handed (λ h. WasRun words before after (lanes h) (inlets h) ended) → Commanded lanes inlets words handed before after ended
   Starved : IsIdle before after → Said (codes "error memory\n") 5 before.written after.written before.sink_faults after.sink_faults ended
-      → Commanded m words source before after ended
+      → Commanded lanes inlets words handed before after ended
 
 -- why there are no words is told: one is no text, which is refused, or memory was wanting
 abbrev pub TellsFault : TextFault → Option (List ℕ) → Option (List ℕ) → ℕ → ℕ → ℕ → Type 0

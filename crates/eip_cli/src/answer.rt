@@ -4,10 +4,10 @@ ghost use Rattle.std.specs.Result.{IsOkAnd};
 ghost use Rattle.eip_host.specs.Outputs.{Said};
 ghost use Rattle.eip_host.specs.Words.{question_in, text_of};
 ghost use Rattle.eip_run.specs.Given.{outside};
-ghost use Rattle.eip_cli.specs.Answers.{WasRun, Commanded, TellsFault, stream_over};
+ghost use Rattle.eip_cli.specs.Answers.{WasRun, Commanded, TellsFault};
 
 use eip_core::Registry;
-use eip_endpoint::{Endpoint, Files, Inlet, Lane, Sink, Source};
+use eip_endpoint::{Files, Inlets, Lanes, Sink};
 use eip_host::{question_of, say};
 use eip_run::run;
 use eip_simple_read::Patterns;
@@ -21,30 +21,24 @@ const REFUSED: u8 = 1;
 /// The status where memory was wanting.
 const NO_MEMORY: u8 = 5;
 
-/// Runs a command over a source as the inlet `stream` and no lane, and answers the status of its outcome. Where memory is wanting
-/// for that, nothing is done.
-fn carry_out<F: Files, P: Patterns, S: Source, O: Sink>(
+/// Runs a command over lanes and inlets, and answers the status of its outcome. Where memory was wanting for these, nothing is done.
+fn carry_out<F: Files, P: Patterns, L: Lanes + Drop, I: Inlets + Drop, O: Sink>(
     alloc: Global,
     words: &[Text],
-    source: Result<S, NoMemory>,
+    handed: Result<(L, I), NoMemory>,
     files: &mut F,
     patterns: &mut P,
     out: &mut O,
 ) -> Result<u8, NoMemory>
-    ensures ran { IfOk result (λ status. IsOkAnd source (λ s. WasRun words.now
+    ensures ran { IfOk result (λ status. IsOkAnd handed (λ h. WasRun words.now
         (outside F.Files O.Sink files.old (P.pattern_faults patterns.old) [] [] out.old)
         (outside F.Files O.Sink files.new (P.pattern_faults patterns.new) [] [] out.new)
-        (stream_over S.Source s) status)) }
+        (L.views h.0) (I.views h.1) status)) }
     ensures files { OnErr result (F.files_faults files.new ≡ F.files_faults files.old) }
     ensures patterns { OnErr result (P.pattern_faults patterns.new ≡ P.pattern_faults patterns.old) }
     ensures out { OnErr result (out.new ≡ out.old) }
 {
-    let mut inlets = Vec::new(alloc);
-    inlets.push(Inlet {
-        name: Text::of_str(alloc, "stream")?,
-        object: source?,
-    })?;
-    let mut lanes: Vec<Lane<Box<dyn Endpoint>>> = Vec::new(alloc);
+    let (mut lanes, mut inlets) = handed?;
     let registry = Registry::new();
     let report = run(
         alloc,
@@ -60,16 +54,16 @@ fn carry_out<F: Files, P: Patterns, S: Source, O: Sink>(
 }
 
 /// Answers words: what they ask of the program itself is told, and others are run as a command.
-fn answer_words<F: Files, P: Patterns, S: Source, O: Sink>(
+fn answer_words<F: Files, P: Patterns, L: Lanes + Drop, I: Inlets + Drop, O: Sink>(
     alloc: Global,
     words: &[Text],
-    source: Result<S, NoMemory>,
+    handed: Result<(L, I), NoMemory>,
     files: &mut F,
     patterns: &mut P,
     out: &mut O,
 ) -> u8
     ensures question { IfSome (question_in words.now) (λ q. Said (text_of q) 0 (O.bytes out.old) (O.bytes out.new) (O.sink_faults out.old) (O.sink_faults out.new) result) }
-    ensures command { question_in words.now ≡ None → Commanded S.Source words.now source
+    ensures command { question_in words.now ≡ None → Commanded (λ h. L.views h.0) (λ h. I.views h.1) words.now handed
         (outside F.Files O.Sink files.old (P.pattern_faults patterns.old) [] [] out.old)
         (outside F.Files O.Sink files.new (P.pattern_faults patterns.new) [] [] out.new)
         result }
@@ -77,7 +71,7 @@ fn answer_words<F: Files, P: Patterns, S: Source, O: Sink>(
     if let Some(question) = question_of(words) {
         return say(out, question.text(), 0);
     }
-    match carry_out(alloc, words, source, files, patterns, out) {
+    match carry_out(alloc, words, handed, files, patterns, out) {
         Ok(status) => status,
         Err(NoMemory) => say(out, "error memory\n", NO_MEMORY),
     }
@@ -94,13 +88,12 @@ fn tell_fault<O: Sink>(fault: TextFault, out: &mut O) -> u8
 }
 
 /// What the program does: it answers the words that the host gave, and ends with the status. `--help` and `--version`
-/// are told. Other words are run as a command, with the files and the patterns that are handed in and with the source
-/// as the inlet `stream`. Where the host gave no words since one of them is not UTF-8, that is told as words that are
+/// are told. Other words are run as a command, with the files, the patterns, the lanes and the inlets that are handed in. Where the host gave no words since one of them is not UTF-8, that is told as words that are
 /// refused; where memory was wanting, that is told.
-pub fn answer<F: Files, P: Patterns, S: Source, O: Sink>(
+pub fn answer<F: Files, P: Patterns, L: Lanes + Drop, I: Inlets + Drop, O: Sink>(
     alloc: Global,
     words: Result<Vec<Text>, TextFault>,
-    source: Result<S, NoMemory>,
+    handed: Result<(L, I), NoMemory>,
     files: &mut F,
     patterns: &mut P,
     out: &mut O,
@@ -109,7 +102,7 @@ pub fn answer<F: Files, P: Patterns, S: Source, O: Sink>(
         (O.bytes out.old) (O.bytes out.new) (O.sink_faults out.old) (O.sink_faults out.new) (exit_status result)) }
     ensures question { IfOk words (λ w. IfSome (question_in w.items) (λ q. Said (text_of q) 0
         (O.bytes out.old) (O.bytes out.new) (O.sink_faults out.old) (O.sink_faults out.new) (exit_status result))) }
-    ensures command { IfOk words (λ w. question_in w.items ≡ None → Commanded S.Source w.items source
+    ensures command { IfOk words (λ w. question_in w.items ≡ None → Commanded (λ h. L.views h.0) (λ h. I.views h.1) w.items handed
         (outside F.Files O.Sink files.old (P.pattern_faults patterns.old) [] [] out.old)
         (outside F.Files O.Sink files.new (P.pattern_faults patterns.new) [] [] out.new)
         (exit_status result)) }
@@ -118,5 +111,5 @@ pub fn answer<F: Files, P: Patterns, S: Source, O: Sink>(
         Ok(words) => words,
         Err(fault) => return ExitCode::from(tell_fault(fault, out)),
     };
-    ExitCode::from(answer_words(alloc, words.as_slice(), source, files, patterns, out))
+    ExitCode::from(answer_words(alloc, words.as_slice(), handed, files, patterns, out))
 }

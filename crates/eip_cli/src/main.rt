@@ -1,32 +1,29 @@
 // The program: the host's objects, handed to what answers its words.
 #![tactic(auto)]
 
-ghost use Rattle.std.specs.Prelude.{◌≡◌, []};
-
 mod answer;
+mod doors;
+mod objects;
 
 use answer::answer;
-use eip_host::{HostFileSystem, HostFiles, LineSource, Output, words_of};
-use eip_simple_read::CratePatterns;
-use std::alloc::Global;
+use eip_host::{HostFileSystem, HostFiles, HostNetwork, Output, ReaderLink, words_of};
+use eip_peers::PeerLink;
+use objects::{handed_in, patterns};
 use std::env;
 use std::process::ExitCode;
 
-/// The builder of patterns, which refuses none by its number.
-fn patterns(alloc: Global) -> CratePatterns
-    ensures { result.failing.items ≡ [] }
-{
-    CratePatterns::new(Vec::new(alloc))
-}
-
 fn main(rt: HostRuntime) -> ExitCode {
     let alloc = rt.alloc();
-    let mut files = HostFiles::new(alloc, HostFileSystem { runtime: &rt });
+    let input = ReaderLink::new(rt.stdin());
+    let written = HostFiles::new(alloc, HostFileSystem { runtime: rt });
+    let taken = HostFiles::new(alloc, HostFileSystem { runtime: rt });
+    let called = PeerLink::new(alloc, HostNetwork::new(alloc, rt));
+    let heard = PeerLink::new(alloc, HostNetwork::new(alloc, rt));
     answer(
         alloc,
         words_of(alloc, env::args(&rt)),
-        LineSource::new(alloc, rt.stdin()),
-        &mut files,
+        handed_in(alloc, input, (written, taken), (called, heard)),
+        &mut HostFiles::new(alloc, HostFileSystem { runtime: rt }),
         &mut patterns(alloc),
         &mut Output::new(rt.stdout()),
     )

@@ -1,7 +1,7 @@
 -- Who acts next in the plain schedule, by what is known of a past.
-use Rattle.std.proofs.Common.{◌≡◌, ◌≢◌, ℕ, zero, suc, ◌+◌, ◌<◌, ◌==◌, ◌&&◌, not, Bool, true, false, List, [], ◌∷◌, ◌++◌, Option, Some, None, is_some, filter, map, refl, sym, ap, subst, ◌∙◌, arith, cond, ◌⊎◌, inl, inr, eq-eqb}
+use Rattle.std.proofs.Common.{◌≡◌, ℕ, zero, suc, ◌+◌, ◌<◌, ◌&&◌, not, Bool, true, false, List, [], ◌∷◌, ◌++◌, Option, Some, None, is_some, filter, map, refl, sym, ap, subst, ◌∙◌, arith, cond, eq-eqb}
 use Rattle.std.specs.List.{slice_get}
-use Rattle.std.proofs.lemmas.Bool.{ne_eqb, cases_Bool, eqb-true}
+use Rattle.std.proofs.lemmas.Bool.{ne_eqb}
 use Rattle.std.proofs.lemmas.List.{append-nil}
 use Rattle.eip_exchange.specs.declared.birth.Birth.{Birth}
 use Rattle.eip_ledger.specs.declared.entry.Entry.{Entry}
@@ -105,6 +105,21 @@ module _ (s : Plan) (past : Past) where
       ∙ (none-acts (startable s past) TheQueue _ quiet.none_startable
       ∙ (none-acts (unfinished s past) TheSource _ quiet.sources_done
       ∙ ap (λ (o : Option ℕ). cond (is_some o) TheClock (cond (any_group (is_forced s) (groups s past)) TheForce Nobody)) h))))
+
+  -- and where nobody is due, but a group may be forced, force does
+  pub actor-force : IsQuiet s past → least (dues s past) ≡ None → any_group (is_forced s) (groups s past) ≡ true → actor s past ≡ TheForce
+  unfolding actor
+  actor-force quiet none forced =
+      let home = quiet.no_hand in
+      let pulls : pulls_out s past ≡ 0 = omega (arith, home) in
+      let takes : takes_out s past ≡ 0 = omega (arith, home) in
+      none-acts (numbers_at s past is_held) TheExchange _ (held-none s past takes)
+      ∙ (none-acts (numbers_below (λ u. is_out (source_state u past)) s.routes) TheSource _ (out-none s past pulls)
+      ∙ (none-acts (ready_numbers s past) TheExchange _ quiet.none_ready
+      ∙ (none-acts (startable s past) TheQueue _ quiet.none_startable
+      ∙ (none-acts (unfinished s past) TheSource _ quiet.sources_done
+      ∙ (ap (λ (o : Option ℕ). cond (is_some o) TheClock (cond (any_group (is_forced s) (groups s past)) TheForce Nobody)) none
+      ∙ ap (λ v. cond v TheForce Nobody) forced)))))
 
 -- ---- behind a Pull and behind a Take
 

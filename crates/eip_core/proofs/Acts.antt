@@ -11,7 +11,7 @@ use Rattle.eip_frames.specs.declared.answer.Answer.{Answer as Reply}
 use Rattle.eip_frames.specs.Fits.{is_outside}
 use Rattle.eip_ledger.specs.declared.entry.Entry.{Entry}
 use Rattle.eip_ledger.specs.declared.entry.Kind.{Kind}
-use Rattle.eip_ledger.specs.declared.entry.Kind.TheVariants.{Pull, Accept, Refuse, SourceEnd, SourceFault, Start, Answer, Tick, Starve, Return}
+use Rattle.eip_ledger.specs.declared.entry.Kind.TheVariants.{Pull, Accept, Refuse, SourceEnd, SourceFault, Start, Answer, Tick, Force, Starve, Return}
 use Rattle.eip_ledger.specs.declared.place.Place.TheVariants as place_is
 use Rattle.eip_endpoint.specs.Lanes.{LaneView, LanesGrew}
 use Rattle.eip_exchange.specs.declared.message.Message.{Message}
@@ -30,7 +30,6 @@ use Rattle.eip_history.specs.Stop.{stop_of, is_of, actor, TheSource, TheExchange
 use Rattle.eip_history.proofs.Limit.{source-after, not-same}
 use Rattle.eip_history.proofs.Allowed.{waits-below}
 use Rattle.eip_plan.specs.Plan.{plan_of}
-use Rattle.eip_plan.specs.Simple.{AnswersSimply}
 use Rattle.eip_plan.proofs.Laws.{plan-laws}
 use Rattle.eip_books.specs.View.{BooksView, plan, IsLegalRun, Adds, AddsNone, StartsFirst}
 use Rattle.eip_tables.specs.declared.asking.Inner.TheVariants.{Did}
@@ -38,10 +37,10 @@ use Rattle.eip_tables.specs.Places.{inner_of}
 use Rattle.eip_core.specs.Doors.{inlet_at, uri_at}
 use Rattle.eip_core.specs.Outside.{seen_answers, refusal_of, pulls_in}
 use Rattle.eip_core.specs.Drain.{Acts, Chosen, Drains, Progresses, Rests, doors}
-use Rattle.eip_core.proofs.Actors.{actor-ready, actor-queue, actor-source, actor-clock, actor-out, unfinished-first, first-pullable}
+use Rattle.eip_core.proofs.Actors.{actor-ready, actor-queue, actor-source, actor-clock, actor-force, actor-out, unfinished-first, first-pullable}
 use Rattle.eip_core.proofs.Progress.{progress-one, progress-trans}
-use Rattle.eip_core.proofs.Quiet.{next-moment}
-use Rattle.eip_core.proofs.Home.{home-answer, home-starve, home-start, home-tick, hand-pull, back-pull, ready-place}
+use Rattle.eip_core.proofs.Quiet.{next-force}
+use Rattle.eip_core.proofs.Home.{home-answer, home-starve, home-start, home-tick, home-force, hand-pull, back-pull, ready-place}
 use Rattle.eip_core.proofs.Compose.{drains-refl, drains-add, drains-none}
 
 -- what holds of the set, the limit and the past stands behind a call that made no entry
@@ -51,7 +50,6 @@ along P a h = rw (a.same.set, a.same.workers, a.same.turns, a.past) h
 pub rests-none : {u v : BooksView} → AddsNone u v → Rests u → Rests v
 rests-none a r = record {
   legal = along (λ s w l p. IsLegal (plan_of s) w l p) a r.legal;
-  simple = along (λ s w l p. AnswersSimply p) a r.simple;
   home = along (λ s w l p. hands (plan_of s) p ≡ 0) a r.home;
   waits = along (λ s w l p. stop_of (plan_of s) l p ≡ None) a r.waits;
 }
@@ -221,16 +219,7 @@ pub no-acts : (o : Option ℕ) (u : List ℕ) → acts_by o u [] ≡ []
 no-acts None u = refl
 no-acts (Some k) u = refl
 
--- ---- a tick
-
--- with nobody Ready, no queue startable and no source to be pulled the clock may move on
-pub tickable : (v : BooksView) → Rests v → first (ready_numbers (plan v) v.journal.past) ≡ None → first (startable (plan v) v.journal.past) ≡ None
-    → ((t : ℕ) → May (plan v) v.journal.turns v.journal.past 0 (Pull t) → ⊥) → (t : ℕ) × May (plan v) v.journal.turns v.journal.past 0 (Tick t)
-tickable v r nobody no_queue no_source =
-    let below = rests-below v r in
-    let n = next-moment (plan v) v.journal.workers v.journal.turns v.journal.past r.legal.entries r.simple (plan-laws v.set) r.home r.waits nobody no_queue
-    (λ t h. no_source t (first-pullable (plan v) v.journal.turns 0 v.journal.past t r.home below h)) in
-    (n.0, (n.1, below, n.2))
+-- ---- a tick, and a force
 
 -- a tick that came
 pub record Ticked (u v : BooksView) : Type 0 where
@@ -247,6 +236,31 @@ pub drains-ticked : {u v : BooksView} (l : List LaneView) (i : List InletView) �
 drains-ticked {u} {v} l i t =
     drains-add (drains-refl u l i) t.adds (LanesGrew-none 0 l) (InletsGrew-none 0 i)
     (subst (λ (b : Actor). IsTrue (is_of b (Tick t.moment))) (sym (actor-clock (plan u) u.journal.past t.moment t.may.0 t.may.2)) refl)
+
+-- with nobody Ready, no queue startable, no source to be pulled and nobody due groups may be closed by force
+pub forceable : (v : BooksView) → Rests v → first (ready_numbers (plan v) v.journal.past) ≡ None → first (startable (plan v) v.journal.past) ≡ None
+    → ((t : ℕ) → May (plan v) v.journal.turns v.journal.past 0 (Pull t) → ⊥) → ((t : ℕ) → May (plan v) v.journal.turns v.journal.past 0 (Tick t) → ⊥)
+    → May (plan v) v.journal.turns v.journal.past 0 Force
+forceable v r nobody no_queue no_source no_tick =
+    let below = rests-below v r in
+    let n = next-force (plan v) v.journal.workers v.journal.turns v.journal.past r.legal.entries (plan-laws v.set) r.home r.waits nobody no_queue
+    (λ t h. no_source t (first-pullable (plan v) v.journal.turns 0 v.journal.past t r.home below h)) (λ t quiet h. no_tick t (quiet, below, h)) in
+    (n.0, below, n.1, n.2)
+
+-- a force that came
+pub record Forced (u v : BooksView) : Type 0 where
+  pub home : hands (plan u) u.journal.past ≡ 0
+  pub may : May (plan u) u.journal.turns u.journal.past 0 Force
+  pub adds : Adds u v 0 Force
+  pub legal : IsLegalRun v
+
+pub forced : {u v : BooksView} → Rests u → May (plan u) u.journal.turns u.journal.past 0 Force × Adds u v 0 Force → IsLegalRun v → Forced u v
+forced rests came legal = record { home = rests.home; may = came.0; adds = came.1; legal = legal }
+
+pub drains-forced : {u v : BooksView} (l : List LaneView) (i : List InletView) → Forced u v → Drains u v l l i i
+drains-forced {u} {v} l i f =
+    drains-add (drains-refl u l i) f.adds (LanesGrew-none 0 l) (InletsGrew-none 0 i)
+    (subst (λ (b : Actor). IsTrue (is_of b Force)) (sym (actor-force (plan u) u.journal.past f.may.0 f.may.2 f.may.3)) refl)
 
 -- ---- an exchange that is answered by the hub, or starved
 
@@ -274,6 +288,15 @@ acts-ticked {u} {v} t =
       home = rw (t.adds.same.set, t.adds.past) (home-tick (plan u) u.journal.workers u.journal.turns 0 u.journal.past t.moment here t.home);
       progress = rw (t.adds.same.set, t.adds.past)
           (progress-one (plan u) (plan-laws u.set) u.journal.workers u.journal.turns 0 (Tick t.moment) u.journal.past here (λ x h. cc h));
+    }
+
+pub acts-forced : {u v : BooksView} → Forced u v → Acts u v
+acts-forced {u} {v} f =
+    let here = added-legal f.adds f.legal in
+    record {
+      home = rw (f.adds.same.set, f.adds.past) (home-force (plan u) u.journal.workers u.journal.turns 0 u.journal.past here f.home);
+      progress = rw (f.adds.same.set, f.adds.past)
+          (progress-one (plan u) (plan-laws u.set) u.journal.workers u.journal.turns 0 Force u.journal.past here (λ x h. cc h));
     }
 
 -- ---- a queue that starts its first exchange

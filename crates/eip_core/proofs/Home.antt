@@ -6,7 +6,7 @@ use Rattle.eip_exchange.specs.declared.birth.Birth.{Birth}
 use Rattle.eip_frames.specs.declared.answer.Answer.{Answer as Reply}
 use Rattle.eip_ledger.specs.declared.entry.Entry.{Entry}
 use Rattle.eip_ledger.specs.declared.entry.Kind.{Kind}
-use Rattle.eip_ledger.specs.declared.entry.Kind.TheVariants.{Pull, Start, Take, Answer, Tick, Starve}
+use Rattle.eip_ledger.specs.declared.entry.Kind.TheVariants.{Pull, Start, Take, Answer, Tick, Force, Starve}
 use Rattle.eip_ledger.specs.declared.place.Place.{Place}
 use Rattle.eip_ledger.specs.declared.place.Place.TheVariants as place_is
 use Rattle.eip_history.specs.Plan.{Plan}
@@ -46,6 +46,10 @@ module _ (s : Plan) (w limit v : ℕ) (past : Past) where
   -- nor does a tick
   pub home-tick : (t : ℕ) → KeepsRules s w limit ((record { worker = v; kind = Tick t }) ∷ past) → hands s past ≡ 0 → hands s ((record { worker = v; kind = Tick t }) ∷ past) ≡ 0
   home-tick t legal home = let h = within-none s w limit v (Tick t) past legal (λ x. refl) (λ u was. refl) in omega (arith, h, home)
+
+  -- nor does a force
+  pub home-force : KeepsRules s w limit ((record { worker = v; kind = Force }) ∷ past) → hands s past ≡ 0 → hands s ((record { worker = v; kind = Force }) ∷ past) ≡ 0
+  home-force legal home = let h = within-none s w limit v Force past legal (λ x. refl) (λ u was. refl) in omega (arith, h, home)
 
   -- behind a Take one hand is out
   pub hand-take : (x : ℕ) (p : Place) → KeepsRules s w limit ((record { worker = v; kind = Take x }) ∷ past) → hands s past ≡ 0 → place s past x ≡ Some p

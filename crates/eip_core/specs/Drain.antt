@@ -16,7 +16,6 @@ use Rattle.eip_history.specs.Rules.{Served, served, first}
 use Rattle.eip_history.specs.Stop.{stop_of, actor, is_of}
 use Rattle.eip_history.specs.Work.{work}
 use Rattle.eip_history.specs.BookText.{origin_at}
-use Rattle.eip_plan.specs.Simple.{AnswersSimply}
 use Rattle.eip_books.specs.View.{BooksView, plan, IsLegalRun, IsSameRun}
 use Rattle.eip_core.specs.Doors.{CanRun, doors_among}
 use Rattle.eip_core.specs.Outside.{Asks, seen_answers, inlet_acts}
@@ -36,7 +35,6 @@ CanDrain v ls is = CanRun v.set (lane_names ls) (inlet_names is)
 -- a run that goes on, with no hand out
 pub record Rests (v : BooksView) : Type 0 where
   pub legal : IsLegalRun v
-  pub simple : AnswersSimply v.journal.past
   pub home : hands (plan v) v.journal.past ≡ 0
   pub waits : stop_of (plan v) v.journal.turns v.journal.past ≡ None
 

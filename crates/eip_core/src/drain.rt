@@ -18,9 +18,9 @@ use eip_hub::{Hub, Inner, Ticket};
 use eip_ledger::Stop;
 use eip_text::NoMemory;
 
-/// The clock moves on to the least moment at which somebody is due. Where a run goes on, and neither an exchange nor a queue nor a source
-/// may act, somebody is.
-fn tick_once<L: Lanes, I: Inlets>(
+/// The clock moves on to the least moment at which somebody is due, or else, where nobody is, the open groups are closed that may be
+/// closed by force. Where a run goes on, and neither an exchange nor a queue nor a source may act, one of the two comes.
+fn move_on<L: Lanes, I: Inlets>(
     hub: &mut Hub,
     lanes: &mut L,
     inlets: &mut I,
@@ -35,10 +35,18 @@ fn tick_once<L: Lanes, I: Inlets>(
 {
     let _ = lanes.count();
     let _ = inlets.count();
-    if hub.tick(0)? { Ok(()) } else { unreachable!() }
+    if hub.tick(0)? {
+        return Ok(());
+    }
+    if hub.force(0)? {
+        Ok(())
+    } else {
+        unreachable!()
+    }
 }
 
-/// Pulls the first source that has not ended, and enters what came of it; where all have ended, the clock moves on.
+/// Pulls the first source that has not ended, and enters what came of it; where all have ended, the clock moves on, or groups are
+/// closed by force.
 fn pull_once<L: Lanes, I: Inlets>(
     hub: &mut Hub,
     lanes: &mut L,
@@ -55,7 +63,7 @@ fn pull_once<L: Lanes, I: Inlets>(
 {
     let _ = lanes.count();
     let Some(source) = hub.pull(0) else {
-        return tick_once(hub, lanes, inlets);
+        return move_on(hub, lanes, inlets);
     };
     match pull_source(hub.set(), inlets, source) {
         Ok(Pulled::Item { item, message }) => hub.accept(0, source, item, message),
@@ -123,7 +131,7 @@ fn run_ready<L: Lanes, I: Inlets>(hub: &mut Hub, lanes: &mut L, inlets: &mut I, 
 }
 
 /// One act of the plain schedule: of the least Ready exchange, or else of the first startable queue, or else of the first source
-/// that has not ended, or else of the clock.
+/// that has not ended, or else of the clock, or else of force.
 fn act<L: Lanes, I: Inlets>(hub: &mut Hub, lanes: &mut L, inlets: &mut I) -> Result<(), NoMemory>
     requires rests { Rests hub.old }
     requires can_run { CanDrain hub.old (L.views lanes.old) (I.views inlets.old) }
@@ -172,7 +180,8 @@ fn take_turn<L: Lanes, I: Inlets>(
 
 /// Drains the sources of a run through the hub, by the plain schedule of one worker: the least Ready exchange acts, or else
 /// the first startable queue starts the first exchange that waits in it, or else the first source that has not ended is
-/// pulled, or else the clock moves on to the least moment at which somebody is due. It always returns: the stop of the journal, or `NoMemory`.
+/// pulled, or else the clock moves on to the least moment at which somebody is due, or else the open groups are closed that may be
+/// closed by force. It always returns: the stop of the journal, or `NoMemory`.
 pub fn drain_alone<L: Lanes, I: Inlets>(
     hub: &mut Hub,
     lanes: &mut L,

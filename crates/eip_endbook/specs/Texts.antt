@@ -1,11 +1,12 @@
 -- The texts of a run, by what contracts see of it.
-use Rattle.std.specs.Prelude.{ℕ, ◌≡◌, ◌++◌, List, Some}
+use Rattle.std.specs.Prelude.{ℕ, ◌≡◌, ◌++◌, length, List, Some}
 use Rattle.eip_exchange.specs.declared.birth.Origin.{Origin}
 use Rattle.eip_ledger.specs.declared.place.Place.{Place}
 use Rattle.eip_ledger.specs.declared.place.Stop.{Stop}
 use Rattle.eip_history.specs.Place.{place}
 use Rattle.eip_history.specs.Counts.{total_count}
-use Rattle.eip_history.specs.BookText.{origin_at, exchange_line, exchanges_text, log_text_of, summary_text_of, book_text_of, total_line}
+use Rattle.eip_history.specs.Stop.{open_groups}
+use Rattle.eip_history.specs.BookText.{origin_at, exchange_line, exchanges_text, groups_text, log_text_of, summary_text_of, book_text_of, total_line}
 use Rattle.eip_books.specs.View.{BooksView, plan}
 use Rattle.eip_endbook.specs.Names.{route_names}
 use Rattle.eip_endbook.specs.declared.counts.Summary.{Summary}
@@ -25,6 +26,10 @@ summary_of v stop = summary_text_of (plan v) (route_names v.set) v.journal.past 
 -- its lines of exchanges
 abbrev pub exchanges_of : BooksView → List ℕ
 exchanges_of v = exchanges_text (plan v) (route_names v.set) v.journal.past (total_count (plan v) v.journal.past)
+
+-- its lines of open groups
+abbrev pub groups_of : BooksView → List ℕ
+groups_of v = groups_text (plan v) v.journal.past (length (open_groups (plan v) v.journal.past))
 
 -- a text grew by the line of exchange x, by where it comes from and where it stands
 abbrev pub AppendsExchange : BooksView → ℕ → (before after : List ℕ) → Type 0

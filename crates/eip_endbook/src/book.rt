@@ -1,7 +1,7 @@
-ghost use Rattle.std.specs.Prelude.{◌≡◌, ◌++◌, IfOk, OnOk, reverse, string_bytes};
+ghost use Rattle.std.specs.Prelude.{◌<◌, ◌≡◌, ◌+◌, ◌++◌, IfOk, OnOk, reverse, string_bytes};
 ghost use Rattle.eip_history.specs.BookText.{refusals_text};
 ghost use Rattle.eip_endbook.specs.Names.{route_names};
-ghost use Rattle.eip_endbook.specs.Texts.{AppendsExchange, book_of, exchanges_of, summary_of};
+ghost use Rattle.eip_endbook.specs.Texts.{AppendsExchange, book_of, exchanges_of, groups_of, summary_of};
 
 use crate::counts::totals;
 use crate::lines;
@@ -44,6 +44,26 @@ fn push_refusals(out: &mut String, set: &RouteSet, entries: &[Entry]) -> Result<
     Ok(())
 }
 
+/// The index behind that of an open group. The groups' numbers rise from 1, so an index is less than its group's number.
+fn next_index(index: usize, number: u64) -> usize
+    requires { index < number }
+    ensures { result ≡ index + 1 }
+{
+    index + 1
+}
+
+/// Appends the lines of all open groups, by number.
+fn push_groups(out: &mut String, hub: &Hub) -> Result<(), NoMemory>
+    ensures { OnOk result (string_bytes out.new ≡ string_bytes out.old ++ groups_of hub.now) }
+{
+    let mut k = 0;
+    while let Some(group) = hub.open_group(k) {
+        lines::push_group(out, &group)?;
+        k = next_index(k, group.number);
+    }
+    Ok(())
+}
+
 /// Appends the last three lines of the book.
 fn push_summary(out: &mut String, hub: &Hub, stop: &Stop) -> Result<(), NoMemory>
     ensures { OnOk result (string_bytes out.new ≡ string_bytes out.old ++ summary_of hub.now stop.now) }
@@ -63,6 +83,7 @@ pub fn book_text(alloc: Global, hub: &Hub, stop: &Stop) -> Result<Text, NoMemory
     let mut out = String::new(alloc);
     push_exchanges(&mut out, hub)?;
     push_refusals(&mut out, hub.set(), hub.journal().entries())?;
+    push_groups(&mut out, hub)?;
     push_summary(&mut out, hub, stop)?;
     Ok(Text::of(out))
 }

@@ -1,5 +1,5 @@
 ghost use Rattle.std.specs.Prelude.{◌≡◌, ◌++◌, OnOk, codes, decimal, string_bytes};
-ghost use Rattle.eip_history.specs.BookText.{note_line, origin_text, end_text, state_text, exchange_line, cause_text, refused_line, refused_line_in, accepted_line, stop_line};
+ghost use Rattle.eip_history.specs.BookText.{note_line, origin_text, end_text, state_text, exchange_line, cause_text, refused_line, refused_line_in, group_line_of, accepted_line, stop_line};
 ghost use Rattle.eip_tables.specs.Origin.{origin_seen};
 ghost use Rattle.eip_endbook.specs.Names.{route_names};
 ghost use Rattle.eip_endbook.specs.Texts.{total_of};
@@ -7,7 +7,7 @@ ghost use Rattle.eip_endbook.specs.Texts.{total_of};
 use crate::counts::Summary;
 use crate::names::{queue_name, route_id};
 use eip_exchange::End;
-use eip_hub::OriginView;
+use eip_hub::{OpenGroup, OriginView};
 use eip_ledger::{Entry, Kind, Note, Place, Refused, Stop};
 use eip_route::RouteSet;
 use eip_text::{NoMemory, Text, push_escaped, push_quoted};
@@ -142,6 +142,18 @@ pub fn push_refusal(out: &mut String, set: &RouteSet, entry: &Entry) -> Result<(
         } => push_refused(out, set, *source, item, *cause),
         _ => Ok(()),
     }
+}
+
+/// Appends the line of an open group: `group G SIZE KEY`, the key quoted.
+pub fn push_group(out: &mut String, group: &OpenGroup) -> Result<(), NoMemory>
+    ensures { OnOk result (string_bytes out.new ≡ string_bytes out.old ++ group_line_of group.now.number group.now.size group.now.key.now) }
+{
+    let number = group.number;
+    let size = group.size;
+    write!(out, "group {number} {size} ")?;
+    push_quoted(out, group.key.as_str())?;
+    out.push_str("\n")?;
+    Ok(())
 }
 
 /// Appends the line of items: `accepted A refused R`.

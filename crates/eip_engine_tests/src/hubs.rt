@@ -4,18 +4,22 @@ use eip_text::NoMemory;
 use std::alloc::Global;
 use std::test::Fail;
 
-/// Whether of a run of no routes no exchange can be taken or leaves a queue, none is to be looked at, and nothing is left to do.
-fn is_over_at_once(alloc: Global) -> Result<[bool; 4], NoMemory> {
+/// Whether of a run of no routes no exchange can be taken or leaves a queue, none is to be looked at, no group is open or closed by
+/// force, and nothing is left to do.
+fn is_over_at_once(alloc: Global) -> Result<[bool; 6], NoMemory> {
     let mut hub = run_of_no_routes(alloc, 4)?;
     hub.reserve()?;
     let is_taken = hub.take(0).is_some();
     hub.reserve()?;
     let is_started = hub.start(0).is_some();
     let is_unlooked = hub.unlooked().is_some();
+    let is_forced = hub.force(0)?;
     Ok([
         !is_taken,
         !is_started,
         !is_unlooked,
+        !is_forced,
+        hub.open_group(0).is_none(),
         matches!(hub.stop(), Some(Stop::Drained)),
     ])
 }
@@ -23,6 +27,6 @@ fn is_over_at_once(alloc: Global) -> Result<[bool; 4], NoMemory> {
 #[test]
 fn a_set_without_routes_is_drained(rt: HostRuntime) -> Result<(), Fail> {
     let told = is_over_at_once(rt.alloc())?;
-    assert!(rt; told == [true; 4]);
+    assert!(rt; told == [true; 6]);
     Ok(())
 }

@@ -1,5 +1,5 @@
 -- The parts of groups, one group behind the other.
-use Rattle.std.proofs.Common.{◌≡◌, ◌∙◌, ◌++◌, ℕ, List, [], ◌∷◌, filter, map, refl, sym, ap}
+use Rattle.std.proofs.Common.{◌≡◌, ◌∙◌, ◌++◌, List, [], ◌∷◌, filter, map, refl, sym, ap}
 use Rattle.std.specs.List.{flat_map}
 use Rattle.eip_history.specs.Groups.{Group}
 use Rattle.eip_history.specs.Births.{groups}

@@ -2,6 +2,7 @@
 use Rattle.std.specs.Prelude.{ℕ, ◌≡◌, ◌≢◌, ◌+◌, ◌<◌, ◌≤◌, ◌⊎◌, Bool, true, false, List, ◌∷◌, Some, None, is_some, length, filter, map}
 use Rattle.std.specs.List.{flat_map}
 use Rattle.eip_frames.specs.declared.answer.Answer.{Answer as Reply}
+use Rattle.eip_frames.specs.declared.answer.Completion.{Completion}
 use Rattle.eip_frames.specs.declared.request.Request.TheVariants.{Idem}
 use Rattle.eip_frames.specs.Fits.{is_outside}
 use Rattle.eip_ledger.specs.declared.entry.Entry.{Entry}
@@ -10,10 +11,10 @@ use Rattle.eip_ledger.specs.declared.entry.Kind.TheVariants.{Answer, Return}
 use Rattle.eip_ledger.specs.declared.place.Place.TheVariants.{Ready}
 use Rattle.eip_history.specs.Counts.{completed_count, handled_count, failed_count, waiting_count, total_count}
 use Rattle.eip_history.specs.Laws.{PlanLaws}
-use Rattle.eip_history.specs.Own.{Past, turns}
+use Rattle.eip_history.specs.Own.{Past, numbered, turns}
 use Rattle.eip_history.specs.Owner.{owner}
-use Rattle.eip_history.specs.Groups.{Group}
-use Rattle.eip_history.specs.Births.{Asked, asked, groups}
+use Rattle.eip_history.specs.Groups.{Group, is_open, message_of}
+use Rattle.eip_history.specs.Births.{Asked, asked, births, group_birth, groups}
 use Rattle.eip_history.specs.Pieces.{Mark, marked, is_of_key}
 use Rattle.eip_history.specs.Place.{ended, hands, place}
 use Rattle.eip_history.specs.Plan.{Plan}
@@ -22,6 +23,7 @@ use Rattle.eip_history.specs.Keys.{IsKeyAnswer, is_eager_of}
 use Rattle.eip_history.specs.Stop.{stop_of}
 use Rattle.eip_history.specs.Work.{work}
 use Rattle.eip_history.proofs.Waits.{Acts}
+use Rattle.eip_history_laws.specs.Folds.{FoldsFrom}
 
 -- where no hand is out and no stop is met, turns are left and somebody may act
 abbrev pub SomebodyActs : Type 0
@@ -64,6 +66,21 @@ HeldForEver = (s : Plan) (workers limit : ℕ) (e : Entry) (past : Past) (c : Cl
 abbrev pub EachArrivalOnce : Type 0
 EachArrivalOnce = (s : Plan) (aggregator : ℕ) (key : List ℕ) (past : Past)
     → flat_map (λ (g : Group). g.parts) (filter (is_of_key aggregator key) (groups s past)) ≡ map (λ (m : Mark). m.arrival) (marked s aggregator key past)
+
+-- the message of a group, open or closed, is that of its parts, taken in one behind the other by the strategy; at none of them it faulted
+abbrev pub GroupsFold : Type 0
+GroupsFold = (s : Plan) (workers limit : ℕ) (past : Past) (n : ℕ) (g : Group) → KeepsRules s workers limit past → numbered (groups s past) n ≡ Some g
+    → FoldsFrom (s.group g.aggregator) g.key 0 None g.parts (message_of s g)
+
+-- a group has at most as many parts as its size says, and fewer while it is open
+abbrev pub GroupsWithin : Type 0
+GroupsWithin = (s : Plan) (workers limit : ℕ) (past : Past) (n most : ℕ) (g : Group) → KeepsRules s workers limit past → numbered (groups s past) n ≡ Some g
+    → (s.group g.aggregator).size ≡ Some most → 1 ≤ most → (length g.parts ≤ most) × (is_open g ≡ true → length g.parts < most)
+
+-- a closed group has its exchange, with its message and by what closed it
+abbrev pub ClosedGroupsRun : Type 0
+ClosedGroupsRun = (s : Plan) (past : Past) (n : ℕ) (g : Group) (c : Completion) → numbered (groups s past) n ≡ Some g → g.closed ≡ Some c
+    → (x : ℕ) × (numbered (births s past) x ≡ Some (group_birth s x c g))
 
 -- each exchange is counted once
 abbrev pub TotalsAddUp : Type 0

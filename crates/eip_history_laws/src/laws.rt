@@ -1,4 +1,4 @@
-ghost use Rattle.eip_history_laws.specs.Statements.{SomebodyActs, InnerAnswered, TurnOrProgress, EndsOnce, OneEagerHolder, KeysAnswered, HeldForEver, EachArrivalOnce, TotalsAddUp, OwnersAreWorkers};
+ghost use Rattle.eip_history_laws.specs.Statements.{SomebodyActs, InnerAnswered, TurnOrProgress, EndsOnce, OneEagerHolder, KeysAnswered, HeldForEver, EachArrivalOnce, GroupsFold, GroupsWithin, ClosedGroupsRun, TotalsAddUp, OwnersAreWorkers};
 
 /// No run gets stuck: where nobody holds anything and the run has no stop, there are turns left, and an exchange is Ready,
 /// or a queue or a source has something to give, or a moment is due, or groups are closed by force. It does nothing.
@@ -42,6 +42,23 @@ pub fn held_law()
 /// the other are the arrivals in the journal's order. It does nothing.
 pub fn arrivals_law()
     ensures { EachArrivalOnce }
+{}
+
+/// The message of a group is the fold of its parts by the aggregator's strategy (Camel manual, *Aggregate EIP*), at which none of
+/// them faulted. It does nothing.
+pub fn folding_law()
+    ensures { GroupsFold }
+{}
+
+/// A group has at most as many parts as its size says (Camel manual, *Aggregate EIP*, `completionSize`), and fewer while it is
+/// open. It does nothing.
+pub fn size_law()
+    ensures { GroupsWithin }
+{}
+
+/// Each closed group goes on as an exchange with its message. It does nothing.
+pub fn closing_law()
+    ensures { ClosedGroupsRun }
 {}
 
 /// The totals of the book add up: each exchange is completed, handled, failed or waits. It does nothing.

@@ -1,3 +1,3 @@
 pub mod KnownLaws
-pub mod LineLaws
-pub mod SourceLaws
+pub mod PortLaws
+pub mod ListingLaws

@@ -1,6 +1,8 @@
 pub mod Known
-pub mod Lines
-pub mod Sources
+pub mod ReaderLinks
+pub mod Networks
 pub mod Outputs
 pub mod Paths
+pub mod Asked
+pub mod Listings
 pub mod Words

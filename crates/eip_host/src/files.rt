@@ -1,7 +1,10 @@
-ghost use Rattle.std.specs.Prelude.{◌≡◌, ◌≢◌, ◌<◌, Some, length, IfOk, IfSome, IsTrue, string_bytes};
+ghost use Rattle.std.specs.Prelude.{◌≡◌, ◌≢◌, ◌<◌, ℕ, List, Ok, Err, Some, length, map, IfOk, IfErr, IfSome, IsErrOf, IsTrue, string_bytes};
+ghost use Rattle.std.specs.IoError.{error_kind};
 ghost use Rattle.eip_text.specs.Causes.{Rises};
 ghost use Rattle.eip_endpoint.specs.Content.{IfTold};
-ghost use Rattle.eip_endpoint.specs.Files.{read_of, bytes_at, is_there, IsWithin, IsAscending, AreNamesIn, others, moved, Changes, Writes, files_failure};
+ghost use Rattle.eip_endpoint.specs.Files.{read_of, bytes_at, is_among, is_there, IsWithin, IsAscending, AreNamesIn, others, moved, Changes, Writes, files_failure};
+ghost use Rattle.eip_host.specs.Asked.{WasAsked, WasAskedMaking, WasAskedFor, WasPut};
+ghost use Rattle.eip_host.specs.Listings.{WasFound, AreFiles, WasListed, WasRefused};
 ghost use Rattle.eip_host.specs.Paths.{path_of, untold_files, IsUnopened, WasTried};
 
 use crate::output::put_all;
@@ -32,6 +35,17 @@ fn unopened(error: &Error) -> Result<FileRead, FilesFault>
         Ok(FileRead::Missing)
     } else {
         Err(FilesFault::Failed)
+    }
+}
+
+/// What a listing answers where the system answered an error.
+fn fault_of(error: &Error) -> FilesFault
+    ensures { result ≡ FilesFault.Failed → error_kind error.now ≢ ErrorKind.OutOfMemory }
+{
+    if error.kind() == ErrorKind::OutOfMemory {
+        FilesFault::NoMemory
+    } else {
+        FilesFault::Failed
     }
 }
 
@@ -77,9 +91,10 @@ pub fn read_within<R: Read>(
     }
 }
 
-/// The names in byte order.
+/// The names in byte order, each once.
 fn ordered(alloc: Global, names: &[String]) -> Result<Vec<Text>, NoMemory>
-    ensures { IfOk result (λ texts. IsAscending texts.items) }
+    ensures ascending { IfOk result (λ texts. IsAscending texts.items) }
+    ensures same { IfOk result (λ texts. (name : List ℕ) → is_among name texts.items ≡ is_among name (map string_bytes names.now)) }
 {
     let mut borrowed = Vec::new(alloc);
     for name in names {
@@ -137,33 +152,60 @@ impl<D: FileSystem> HostFiles<D> {
         }
     }
 
-    /// The names of the plain files of a folder, none where it is not there.
-    fn names(&self, folder: &Text) -> Result<Vec<String>, Error> {
-        let found = match self.system.names(self.alloc, folder.as_str()) {
-            Ok(names) => names,
-            Err(error) if error.kind() == ErrorKind::NotFound => Vec::new(self.alloc),
-            Err(error) => return Err(error),
-        };
+    /// The names of what stands in a folder, none where it is not there.
+    fn found(&self, folder: &str) -> Result<Vec<String>, Error>
+        ensures found { IfOk result (λ names. WasFound (D.lists self.now.system folder.now) (map string_bytes names.items)) }
+        ensures refused { IfErr result (λ e. D.lists self.now.system folder.now (Err e)) }
+    {
+        match self.system.names(self.alloc, folder) {
+            Ok(names) => Ok(names),
+            Err(error) if error.kind() == ErrorKind::NotFound => Ok(Vec::new(self.alloc)),
+            Err(error) => Err(error),
+        }
+    }
+
+    /// Whether the path of a folder and a name is that of a file.
+    fn tells(&self, folder: &str, name: &str) -> Result<bool, Error>
+        ensures told { IfOk result (λ there. D.tells self.now.system (path_of folder.now name.now) (Ok there)) }
+        ensures refused { IfErr result (λ e. error_kind e ≢ ErrorKind.OutOfMemory → D.tells self.now.system (path_of folder.now name.now) (Err e)) }
+    {
+        let path = joined(self.alloc, folder, name)?;
+        self.system.is_file(path.as_str())
+    }
+
+    /// Those of the names whose path is that of a file.
+    fn files_among(&self, folder: &str, found: Vec<String>) -> Result<Vec<String>, Error>
+        ensures files { IfOk result (λ names. AreFiles (D.tells self.now.system) folder.now (map string_bytes found.items) (map string_bytes names.items)) }
+        ensures refused { IfErr result (λ e. error_kind e ≢ ErrorKind.OutOfMemory → (name : List ℕ) × D.tells self.now.system (path_of folder.now name) (Err e)) }
+    {
         let mut names = Vec::new(self.alloc);
         for name in found {
-            let path = joined(self.alloc, folder.as_str(), name.as_str())?;
-            if self.system.is_file(path.as_str())? {
+            let is_file = self.tells(folder, name.as_str())?;
+            if is_file {
                 names.push(name)?;
             }
         }
         Ok(names)
     }
 
+    /// The names of the plain files of a folder, none where it is not there.
+    fn names(&self, folder: &str) -> Result<Vec<String>, Error>
+        ensures listed { IfOk result (λ names. WasListed (D.lists self.now.system folder.now) (D.tells self.now.system) folder.now (map string_bytes names.items)) }
+        ensures refused { IfErr result (λ e. error_kind e ≢ ErrorKind.OutOfMemory → WasRefused (D.lists self.now.system folder.now) (D.tells self.now.system) folder.now) }
+    {
+        let found = self.found(folder)?;
+        self.files_among(folder, found)
+    }
+
     /// What listing a folder answers.
     fn listing(&self, folder: &Text) -> Result<Vec<Text>, FilesFault>
-        ensures { IfOk result (λ names. IsAscending names.items) }
+        ensures ascending { IfOk result (λ names. IsAscending names.items) }
+        ensures listed { IfOk result (λ names. WasListed (D.lists self.now.system folder.now) (D.tells self.now.system) folder.now names.items) }
+        ensures refused { IsErrOf result FilesFault.Failed → WasRefused (D.lists self.now.system folder.now) (D.tells self.now.system) folder.now }
     {
-        let names = match self.names(folder) {
+        let names = match self.names(folder.as_str()) {
             Ok(names) => names,
-            Err(error) if error.kind() == ErrorKind::OutOfMemory => {
-                return Err(FilesFault::NoMemory);
-            }
-            Err(_) => return Err(FilesFault::Failed),
+            Err(error) => return Err(fault_of(&error)),
         };
         match ordered(self.alloc, names.as_slice()) {
             Ok(names) => Ok(names),
@@ -172,7 +214,9 @@ impl<D: FileSystem> HostFiles<D> {
     }
 
     /// Whether the path of a file is one.
-    fn is_there(&self, folder: &Text, name: &Text) -> Result<bool, FilesFault> {
+    fn is_there(&self, folder: &Text, name: &Text) -> Result<bool, FilesFault>
+        ensures { result ≢ Err FilesFault.NoMemory → WasAsked (D.tells self.now.system (path_of folder.now name.now)) result }
+    {
         let Ok(path) = joined(self.alloc, folder.as_str(), name.as_str()) else {
             return Err(FilesFault::NoMemory);
         };
@@ -183,7 +227,9 @@ impl<D: FileSystem> HostFiles<D> {
     }
 
     /// Opens a file for writing. Its folder is made where it is not there.
-    fn open_to_write(&self, folder: &str, path: &str, append: bool) -> Result<D::File, Error> {
+    fn open_to_write(&self, folder: &str, path: &str, append: bool) -> Result<D::File, Error>
+        ensures { WasAskedMaking (D.opens_to_write self.now.system path.now append) (D.makes self.now.system folder.now) result }
+    {
         match self.system.open_to_write(path, append) {
             Ok(file) => Ok(file),
             Err(error) if error.kind() == ErrorKind::NotFound => {
@@ -201,7 +247,9 @@ impl<D: FileSystem> HostFiles<D> {
         name: &Text,
         bytes: &[u8],
         append: bool,
-    ) -> Result<(), FilesFault> {
+    ) -> Result<(), FilesFault>
+        ensures { result ≢ Err FilesFault.NoMemory → WasPut (D.opens_to_write self.now.system (path_of folder.now name.now) append) (D.makes self.now.system folder.now) D.File.contents bytes.now result }
+    {
         let Ok(path) = joined(self.alloc, folder.as_str(), name.as_str()) else {
             return Err(FilesFault::NoMemory);
         };
@@ -216,7 +264,9 @@ impl<D: FileSystem> HostFiles<D> {
     }
 
     /// Gives a file another path. The folder of that path is made where it is not there.
-    fn rename_into(&self, from: &str, folder: &str, to: &str) -> Result<(), Error> {
+    fn rename_into(&self, from: &str, folder: &str, to: &str) -> Result<(), Error>
+        ensures { WasAskedMaking (D.renames self.now.system from.now to.now) (D.makes self.now.system folder.now) result }
+    {
         match self.system.rename(from, to) {
             Ok(()) => Ok(()),
             Err(error) if error.kind() == ErrorKind::NotFound => {
@@ -228,7 +278,9 @@ impl<D: FileSystem> HostFiles<D> {
     }
 
     /// Moves a file to another folder.
-    fn move_to(&self, folder: &Text, name: &Text, to: &Text) -> Result<(), FilesFault> {
+    fn move_to(&self, folder: &Text, name: &Text, to: &Text) -> Result<(), FilesFault>
+        ensures { result ≢ Err FilesFault.NoMemory → WasAskedFor (D.renames self.now.system (path_of folder.now name.now) (path_of to.now name.now)) (D.makes self.now.system to.now) result }
+    {
         let Ok(from) = joined(self.alloc, folder.as_str(), name.as_str()) else {
             return Err(FilesFault::NoMemory);
         };
@@ -242,7 +294,9 @@ impl<D: FileSystem> HostFiles<D> {
     }
 
     /// Removes the path of a file.
-    fn take_away(&self, folder: &Text, name: &Text) -> Result<(), FilesFault> {
+    fn take_away(&self, folder: &Text, name: &Text) -> Result<(), FilesFault>
+        ensures { result ≢ Err FilesFault.NoMemory → WasAsked (D.removes self.now.system (path_of folder.now name.now)) result }
+    {
         let Ok(path) = joined(self.alloc, folder.as_str(), name.as_str()) else {
             return Err(FilesFault::NoMemory);
         };
@@ -258,23 +312,28 @@ impl<D: FileSystem> Files for HostFiles<D> {
 
     ghost files_faults = { λ f. f.faults };
 
-    /// The names of the plain files of a folder, and of links to such.
+    /// The names of the plain files of a folder, and of links to such. `Failed` comes only where the system answered an
+    /// error for the folder, or for the path of one of its names.
     fn list(&mut self, folder: &Text) -> Result<Vec<Text>, FilesFault>
         ensures same { untold_files ≡ untold_files }
         ensures names { IfOk result (λ names. IfTold untold_files (AreNamesIn folder.now names.items)) }
         ensures ascending { IfOk result (λ names. IsAscending names.items) }
         ensures faults { Rises (files_failure result) self.old.faults self.new.faults }
+        ensures listed { IfOk result (λ names. WasListed (D.lists self.old.system folder.now) (D.tells self.old.system) folder.now names.items) }
+        ensures refused { IsErrOf result FilesFault.Failed → WasRefused (D.lists self.old.system folder.now) (D.tells self.old.system) folder.now }
     {
         let answer = self.listing(folder);
         self.count(&answer);
         answer
     }
 
-    /// Whether the path of a folder and a name is that of a plain file, or of a link to one.
+    /// Whether the path of a folder and a name is that of a plain file, or of a link to one. `Failed` comes exactly
+    /// where the system answered an error.
     fn has(&mut self, folder: &Text, name: &Text) -> Result<bool, FilesFault>
         ensures same { untold_files ≡ untold_files }
         ensures has { IfOk result (λ there. IfTold untold_files (λ all. there ≡ is_there folder.now name.now all)) }
         ensures faults { Rises (files_failure result) self.old.faults self.new.faults }
+        ensures asked { result ≢ Err FilesFault.NoMemory → WasAsked (D.tells self.old.system (path_of folder.now name.now)) result }
     {
         let answer = self.is_there(folder, name);
         self.count(&answer);
@@ -295,7 +354,8 @@ impl<D: FileSystem> Files for HostFiles<D> {
         answer
     }
 
-    /// Writes a file. The folders that are not there are made.
+    /// Writes a file. The folders that are not there are made. `Failed` comes where the file could not be opened, its
+    /// folder could not be made, or not all of the bytes were written; the front of them may stand in the file then.
     fn write(
         &mut self,
         folder: &Text,
@@ -305,6 +365,7 @@ impl<D: FileSystem> Files for HostFiles<D> {
     ) -> Result<(), FilesFault>
         ensures written { Writes folder.now name.now bytes.now append untold_files result untold_files }
         ensures faults { Rises (files_failure result) self.old.faults self.new.faults }
+        ensures put { result ≢ Err FilesFault.NoMemory → WasPut (D.opens_to_write self.old.system (path_of folder.now name.now) append) (D.makes self.old.system folder.now) D.File.contents bytes.now result }
     {
         let answer = self.open_and_write(folder, name, bytes, append);
         self.count(&answer);
@@ -313,22 +374,26 @@ impl<D: FileSystem> Files for HostFiles<D> {
 }
 
 impl<D: FileSystem> Mover for HostFiles<D> {
-    /// Moves a file to another folder, which is made where it is not there.
+    /// Moves a file to another folder, which is made where it is not there. `Failed` comes where the system answered an
+    /// error, as it does for a file that is not there; the other folder may have been made then.
     fn rename(&mut self, folder: &Text, name: &Text, to: &Text) -> Result<(), FilesFault>
         ensures there { IfOk result (λ _. IfTold untold_files (λ all. IsTrue (is_there folder.now name.now all))) }
         ensures moved { Changes (moved folder.now name.now to.now) untold_files result untold_files }
         ensures faults { Rises (files_failure result) self.old.faults self.new.faults }
+        ensures asked { result ≢ Err FilesFault.NoMemory → WasAskedFor (D.renames self.old.system (path_of folder.now name.now) (path_of to.now name.now)) (D.makes self.old.system to.now) result }
     {
         let answer = self.move_to(folder, name, to);
         self.count(&answer);
         answer
     }
 
-    /// Removes the file under the path of its folder and its name.
+    /// Removes the file under the path of its folder and its name. `Failed` comes exactly where the system answered an
+    /// error, as it does for a file that is not there.
     fn remove(&mut self, folder: &Text, name: &Text) -> Result<(), FilesFault>
         ensures there { IfOk result (λ _. IfTold untold_files (λ all. IsTrue (is_there folder.now name.now all))) }
         ensures removed { Changes (others folder.now name.now) untold_files result untold_files }
         ensures faults { Rises (files_failure result) self.old.faults self.new.faults }
+        ensures asked { result ≢ Err FilesFault.NoMemory → WasAsked (D.removes self.old.system (path_of folder.now name.now)) result }
     {
         let answer = self.take_away(folder, name);
         self.count(&answer);

@@ -1,16 +1,17 @@
-// The host as the outside of a run: its files, lines of its standard input, its standard output, and its words.
+// The host as the outside of a run: its files, its standard input and output, its network, and the words of the program.
 #![tactic(auto)]
 
-mod buffer;
 pub mod files;
-pub mod lines;
+pub mod network;
 pub mod output;
+pub mod reader_link;
 mod reading;
 pub mod system;
 pub mod words;
 
 pub use files::HostFiles;
-pub use lines::LineSource;
+pub use network::HostNetwork;
 pub use output::{Output, say};
+pub use reader_link::ReaderLink;
 pub use system::{FileSystem, HostFileSystem};
 pub use words::{Question, question_of, words_of};

@@ -28,7 +28,7 @@ fn files_of_the_system_are_written_and_listed(rt: HostRuntime) -> Result<(), Fai
     let folder = Text::of_str(alloc, "written/in")?;
     let first = Text::of_str(alloc, "a")?;
     let second = Text::of_str(alloc, "b")?;
-    let mut files = HostFiles::new(alloc, HostFileSystem { runtime: &rt });
+    let mut files = HostFiles::new(alloc, HostFileSystem { runtime: rt });
     assert!(rt; are_names(&files.list(&folder), &[]));
     assert_eq!(rt; files.write(&folder, &second, b"b", false), Ok(()));
     assert_eq!(rt; files.write(&folder, &first, b"old", false), Ok(()));
@@ -50,7 +50,7 @@ fn files_of_the_system_are_moved_and_missing_ones_are_faults(rt: HostRuntime) ->
     let folder = Text::of_str(alloc, "moved/in")?;
     let done = Text::of_str(alloc, "moved/in/.camel")?;
     let name = Text::of_str(alloc, "a")?;
-    let mut files = HostFiles::new(alloc, HostFileSystem { runtime: &rt });
+    let mut files = HostFiles::new(alloc, HostFileSystem { runtime: rt });
     assert_eq!(rt; files.write(&folder, &name, b"new", false), Ok(()));
     assert_eq!(rt; files.write(&done, &name, b"old", false), Ok(()));
     assert!(rt; are_names(&files.list(&folder), &["a"]));
@@ -65,5 +65,21 @@ fn files_of_the_system_are_moved_and_missing_ones_are_faults(rt: HostRuntime) ->
     assert_eq!(rt; files.remove(&folder, &name), Err(FilesFault::Failed));
     assert_eq!(rt; files.faults, 2);
     assert_eq!(rt; files.remove(&done, &name), Ok(()));
+    Ok(())
+}
+
+#[test]
+fn a_file_is_moved_into_a_folder_that_is_not_there(rt: HostRuntime) -> Result<(), Fail> {
+    let alloc = rt.alloc();
+    let folder = Text::of_str(alloc, "from/in")?;
+    let done = Text::of_str(alloc, "to/be/made")?;
+    let name = Text::of_str(alloc, "a")?;
+    let mut files = HostFiles::new(alloc, HostFileSystem { runtime: rt });
+    assert_eq!(rt; files.write(&folder, &name, b"new", false), Ok(()));
+    assert_eq!(rt; files.rename(&folder, &name, &done), Ok(()));
+    assert_eq!(rt; files.has(&folder, &name), Ok(false));
+    assert!(rt; is_bytes(&files.read(&done, &name, 9), b"new"));
+    assert_eq!(rt; files.remove(&done, &name), Ok(()));
+    assert_eq!(rt; files.faults, 0);
     Ok(())
 }

@@ -1,24 +1,25 @@
-ghost use Rattle.std.specs.Prelude.{◌≡◌, ◌+◌, ◌<◌, ◌≤◌, [], ℕ, length, IfOk, OnOk, OnErr, Some, IfSome, IfNone, true, false};
-ghost use Rattle.eip_ledger.specs.declared.entry.Kind.TheVariants.{Pull, Accept, Refuse, SourceEnd, SourceFault, Take, Tick, Starve, Answer as Answered};
+ghost use Rattle.std.specs.Prelude.{◌≡◌, ◌+◌, ◌<◌, ◌≤◌, [], ℕ, length, slice_get, IfOk, OnOk, OnErr, Some, IfSome, IfNone, true, false};
+ghost use Rattle.eip_ledger.specs.declared.entry.Kind.TheVariants.{Pull, Accept, Refuse, SourceEnd, SourceFault, Take, Tick, Force, Starve, Answer as Answered};
 ghost use Rattle.eip_ledger.specs.declared.place.Place.TheVariants.{Ready, InHand};
 ghost use Rattle.eip_history.specs.Own.{turns};
 ghost use Rattle.eip_history.specs.Births.{births, asked};
 ghost use Rattle.eip_history.specs.Place.{ready_numbers, place};
 ghost use Rattle.eip_history.specs.Rules.{first, startable, outside_asked};
-ghost use Rattle.eip_history.specs.Stop.{stop_of};
+ghost use Rattle.eip_history.specs.Stop.{open_groups, stop_of};
 ghost use Rattle.eip_history.specs.Texts.{notes};
 ghost use Rattle.eip_history.specs.Tables.{without};
 ghost use Rattle.eip_frames.specs.Fits.{fits, is_outside};
-ghost use Rattle.eip_plan.specs.Simple.{AnswersSimply};
 ghost use Rattle.eip_tables.specs.declared.asking.Inner.TheVariants.{Did, Outside};
 ghost use Rattle.eip_books.specs.View.{plan, IsLegalRun, Adds, AddsNone, AddsAnswer, StartsFirst};
 ghost use Rattle.eip_tables.specs.Places.{inner_of};
 ghost use Rattle.eip_hub.specs.Events.{Allows, Enters, IsBelowLimit, IsNewRun, UsesRoom, place_in};
+ghost use Rattle.eip_tables.specs.Groups.{seen_group, shown_group};
 ghost use Rattle.eip_tables.specs.Outside.{is_among, outside_after, unlooked_numbers, IsAsked};
 ghost use Rattle.std.specs.Prelude.{option_map};
 ghost use Rattle.eip_history.specs.BookText.{origin_at};
 ghost use Rattle.eip_tables.specs.Origin.{origin_seen, ending_at};
 
+use eip_aggregator::OpenGroup;
 use eip_books::{Books, Inner, OriginView, Ticket};
 use eip_exchange::{Ending, Message};
 use eip_frames::Answer;
@@ -67,7 +68,6 @@ impl Hub {
     pub fn journal(&self) -> &Journal
         ensures journal { result.now ≡ self.now.journal }
         ensures legal { IsLegalRun self.now }
-        ensures simple { AnswersSimply self.now.journal.past }
     {
         self.books.journal()
     }
@@ -101,6 +101,13 @@ impl Hub {
         self.books.ended(number)
     }
 
+    /// The k-th of the open groups, from 0 and by number, as the book shows it; None exactly beyond them.
+    pub fn open_group(&self, k: usize) -> Option<OpenGroup<'_>>
+        ensures { option_map seen_group result ≡ option_map shown_group (slice_get (open_groups (plan self.now) self.now.journal.past) k) }
+    {
+        self.books.open_group(k)
+    }
+
     /// The lines of the log, the oldest first.
     pub fn notes(&self) -> &[Note]
         ensures { result.now ≡ notes (plan self.now) self.now.journal.past }
@@ -126,7 +133,6 @@ impl Hub {
     pub fn stop(&self) -> Option<Stop>
         ensures stop { result ≡ stop_of (plan self.now) self.now.journal.turns self.now.journal.past }
         ensures legal { IsLegalRun self.now }
-        ensures simple { AnswersSimply self.now.journal.past }
     {
         self.books.stop()
     }
@@ -230,8 +236,9 @@ impl Hub {
         self.books.start(worker)
     }
 
-    /// Moves the clock on to the least moment at which somebody is due, and whoever is due then may act again. False exactly where somebody
-    /// may act, nobody is due, or the limit is met. On `NoMemory` no entry is made.
+    /// Moves the clock on to the least moment at which somebody is due: whoever sleeps until then may act again, and each group that is due
+    /// then is closed and goes on as an exchange. False exactly where somebody may act, nobody is due, or the limit is met. On `NoMemory` no
+    /// entry is made.
     pub fn tick(&mut self, worker: u32) -> Result<bool, NoMemory>
         requires worker { worker ≤ self.old.journal.workers }
         ensures ticked { IfOk result (λ b. b ≡ true → (t : ℕ) × Allows self.old worker (Tick t) × Adds self.old self.new worker (Tick t)) }
@@ -252,6 +259,36 @@ impl Hub {
             return Ok(false);
         }
         self.books.tick(worker, now)?;
+        Ok(true)
+    }
+
+    /// Closes each open group that may be closed by force (Camel manual, *Aggregate EIP*, `forceCompletionOnStop`), which goes on as an
+    /// exchange. False exactly where somebody may act, somebody is due, no open group may be closed so, or the limit is met. On `NoMemory`
+    /// no entry is made.
+    pub fn force(&mut self, worker: u32) -> Result<bool, NoMemory>
+        requires worker { worker ≤ self.old.journal.workers }
+        ensures forced { IfOk result (λ b. b ≡ true → Allows self.old worker Force × Adds self.old self.new worker Force) }
+        ensures none { IfOk result (λ b. b ≡ false → self.new ≡ self.old) }
+        ensures exact { IfOk result (λ b. b ≡ false → Allows self.old worker Force → ⊥) }
+        ensures err { OnErr result (AddsNone self.old self.new) }
+        ensures outside { self.new.outside ≡ self.old.outside }
+        ensures legal { IsLegalRun self.new }
+        ensures room { self.new.room ≡ self.old.room }
+    {
+        if !self.books.is_below() {
+            return Ok(false);
+        }
+        if self.books.due().is_some() {
+            return Ok(false);
+        }
+        if !self.books.is_quiet() {
+            return Ok(false);
+        }
+        // where nobody may act and nobody is due, a run goes on for its forced groups alone
+        if self.books.stop().is_some() {
+            return Ok(false);
+        }
+        self.books.force(worker)?;
         Ok(true)
     }
 

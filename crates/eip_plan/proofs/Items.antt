@@ -1,7 +1,6 @@
--- Where nothing but simple requests is answered, a legal history has no groups, and every exchange is an item's, a copy in a queue or a part.
-use Rattle.std.proofs.Common.{◌≡◌, ℕ, ◌+◌, Bool, true, false, List, [], ◌∷◌, ◌++◌, filter, refl, sym, ap, subst, ◌∙◌}
+-- The exchanges that an entry makes, where nothing but simple requests is answered.
+use Rattle.std.proofs.Common.{◌≡◌, ℕ, Bool, true, false, List, [], ◌∷◌, ◌++◌, refl, ap, ◌∙◌}
 use Rattle.eip_exchange.specs.declared.birth.Birth.{Birth}
-use Rattle.eip_frames.specs.declared.request.Seed.{Seed}
 use Rattle.eip_frames.specs.declared.request.Request.{Request}
 use Rattle.eip_frames.specs.declared.request.Request.TheVariants as request
 use Rattle.eip_frames.specs.declared.answer.Answer.{Answer as Reply}
@@ -12,15 +11,12 @@ use Rattle.eip_ledger.specs.declared.entry.Kind.{Kind}
 use Rattle.eip_ledger.specs.declared.entry.Kind.TheVariants.{Accept, Answer, Tick, Force}
 use Rattle.eip_history.specs.Plan.{Plan}
 use Rattle.eip_history.specs.Own.{Past}
-use Rattle.eip_frames.specs.declared.answer.Completion.TheVariants as by
-use Rattle.eip_history.specs.Groups.{is_due, is_forced, closed_by}
-use Rattle.eip_history.specs.Births.{Asked, Story, story, births, groups, made_at, made_by, made_for, part_births, group_births, next_number, grouped, grouped_by, grouped_for}
+use Rattle.eip_history.specs.Births.{Asked, Story, story, births, made_at, made_by, made_for}
 use Rattle.eip_history.specs.Rules.{KeepsRules, May}
-use Rattle.eip_history.specs.TableWords.{is_sleep}
+use Rattle.eip_history.specs.TableWords.{is_sleep, is_arrival}
 use Rattle.eip_history.proofs.Told.{births-more}
 use Rattle.eip_history.proofs.Unborn.{legal-tail, legal-may}
-use Rattle.eip_history.proofs.Over.{Each, each-append}
-use Rattle.eip_plan.specs.Simple.{IsSimple, IsSimpleAnswer, IsSimpleEntry, AnswersSimply, is_simple_origin}
+use Rattle.eip_plan.specs.Simple.{IsSimple, IsSimpleAnswer, IsSimpleEntry, AnswersSimply}
 
 -- such an answer fits simple requests alone
 pub simple-asked : (q : Request) (a : Reply) → IsSimpleAnswer a → fits q a ≡ true → IsSimple q
@@ -31,6 +27,7 @@ simple-asked (request.Offer q discard m) a i h = tt
 simple-asked (request.Call r) a i h = tt
 simple-asked (request.Spawn seeds) a i h = tt
 simple-asked (request.Join first count) a i h = tt
+simple-asked (request.Arrive b key m) a i h = tt
 simple-asked (request.Wait t) a i h = tt
 simple-asked (request.Log n t) a i h = tt
 simple-asked (request.Finish e m c) a i h = tt
@@ -46,6 +43,9 @@ simple-asked q reply.Dropped i h = absurd (cc h)
 simple-asked q reply.Entered i h = absurd (cc h)
 simple-asked q (reply.Born first count) i h = absurd (cc h)
 simple-asked q (reply.Joined parts) i h = absurd (cc h)
+simple-asked q (reply.Arrived g) i h = absurd (cc h)
+simple-asked q (reply.Closed g c n) i h = absurd (cc h)
+simple-asked q (reply.Unfit f) i h = absurd (cc h)
 simple-asked q (reply.Slept d) i h = absurd (cc h)
 simple-asked q reply.Noted i h = absurd (cc h)
 simple-asked q reply.Finished i h = absurd (cc h)
@@ -66,6 +66,9 @@ fits-simple (request.Offer q discard m) reply.Dropped i h = tt
 fits-simple (request.Call r) reply.Entered i h = tt
 fits-simple (request.Spawn seeds) (reply.Born first count) i h = tt
 fits-simple (request.Join first count) (reply.Joined parts) i h = tt
+fits-simple (request.Arrive b key m) (reply.Arrived g) i h = tt
+fits-simple (request.Arrive b key m) (reply.Closed g c n) i h = tt
+fits-simple (request.Arrive b key m) (reply.Unfit f) i h = tt
 fits-simple (request.Wait t) (reply.Slept d) i h = tt
 fits-simple (request.Log n t) reply.Noted i h = tt
 fits-simple (request.Finish e m c) reply.Finished i h = tt
@@ -77,6 +80,7 @@ fits-simple (request.Offer q discard m) _ i h = absurd (cc h)
 fits-simple (request.Call r) _ i h = absurd (cc h)
 fits-simple (request.Spawn seeds) _ i h = absurd (cc h)
 fits-simple (request.Join first count) _ i h = absurd (cc h)
+fits-simple (request.Arrive b key m) _ i h = absurd (cc h)
 fits-simple (request.Wait t) _ i h = absurd (cc h)
 fits-simple (request.Log n t) _ i h = absurd (cc h)
 fits-simple (request.Finish e m c) _ i h = absurd (cc h)
@@ -109,6 +113,7 @@ outside-unqueued q _ o h = refl
 abbrev pub bears : Reply → Bool
 bears (reply.Queued n) = true
 bears (reply.Born first count) = true
+bears (reply.Closed g c n) = true
 bears _ = false
 
 -- a copy in a queue is one
@@ -124,7 +129,22 @@ outside-unborn q (reply.Born first count) o h = by_request q o h
     by_request : (q : Request) → is_outside q ≡ true → fits q (reply.Born first count) ≡ true → bears (reply.Born first count) ≡ false
     by_request (request.Spawn seeds) o h = absurd (cc o)
     by_request _ o h = absurd (cc h)
+outside-unborn q (reply.Closed g c n) o h = by_request q o h
+  where
+    by_request : (q : Request) → is_outside q ≡ true → fits q (reply.Closed g c n) ≡ true → bears (reply.Closed g c n) ≡ false
+    by_request (request.Arrive a key m) o h = absurd (cc o)
+    by_request _ o h = absurd (cc h)
 outside-unborn q _ o h = refl
+
+-- nobody outside lets an arrival join a group
+pub outside-ungrouped : (q : Request) (a : Reply) → is_outside q ≡ true → fits q a ≡ true → is_arrival a ≡ false
+outside-ungrouped q (reply.Arrived g) o h = by_request q o h
+  where
+    by_request : (q : Request) → is_outside q ≡ true → fits q (reply.Arrived g) ≡ true → is_arrival (reply.Arrived g) ≡ false
+    by_request (request.Arrive a key m) o h = absurd (cc o)
+    by_request _ o h = absurd (cc h)
+outside-ungrouped q (reply.Closed g c n) o h = absurd (let f = outside-unborn q (reply.Closed g c n) o h in cc f)
+outside-ungrouped q _ o h = refl
 
 -- nobody outside lets an exchange sleep
 pub outside-wakeful : (q : Request) (a : Reply) → is_outside q ≡ true → fits q a ≡ true → is_sleep a ≡ false
@@ -145,119 +165,61 @@ made-simple s t past k (request.Call r) a i n = refl
 made-simple s t past k (request.Spawn seeds) (reply.Born first count) i none = absurd (cc none)
 made-simple s t past k (request.Spawn seeds) _ i none = refl
 made-simple s t past k (request.Join first count) a i n = refl
+made-simple s t past k (request.Arrive b key m) (reply.Closed g c n) i none = absurd (cc none)
+made-simple s t past k (request.Arrive b key m) _ i none = refl
 made-simple s t past k (request.Wait x) a i none = refl
 made-simple s t past k (request.Log n x) a i none = refl
 made-simple s t past k (request.Finish e m c) a i n = refl
 made-simple s t past k _ a i n = absurd i
 
-grouped-simple : (t : Story) (past : Past) (k : Asked) (q : Request) (a : Reply) → IsSimple q → grouped_for t past k q a ≡ t.groups
-grouped-simple t past k (request.Send g m) a i = refl
-grouped-simple t past k (request.Process n m) a i = refl
-grouped-simple t past k (request.Test n m) a i = refl
-grouped-simple t past k (request.Offer q discard m) a i = refl
-grouped-simple t past k (request.Call r) a i = refl
-grouped-simple t past k (request.Spawn seeds) a i = refl
-grouped-simple t past k (request.Join first count) a i = refl
-grouped-simple t past k (request.Wait x) a i = refl
-grouped-simple t past k (request.Log n x) a i = refl
-grouped-simple t past k (request.Finish e m c) a i = refl
-grouped-simple t past k _ a i = absurd i
-
--- the births of an entry: one for an accepted item, one for a copy that came into a queue, and the parts that were asked for
+-- the births of an entry: one for an accepted item, one for a copy that came into a queue, the parts that were asked for, and one for
+-- each group that closes
 abbrev pub simple_births : Plan → Past → Kind → List Birth
 simple_births s past (Accept source item m) = made_at s past (Accept source item m)
 simple_births s past (Answer x (reply.Queued n)) = made_at s past (Answer x (reply.Queued n))
 simple_births s past (Answer x (reply.Born first count)) = made_at s past (Answer x (reply.Born first count))
+simple_births s past (Answer x (reply.Closed g c n)) = made_at s past (Answer x (reply.Closed g c n))
+simple_births s past (Tick t) = made_at s past (Tick t)
+simple_births s past Force = made_at s past Force
 simple_births s past _ = []
 
 pub unborn-births : (s : Plan) (past : Past) (x : ℕ) (a : Reply) → bears a ≡ false → simple_births s past (Answer x a) ≡ []
 unborn-births s past x (reply.Queued n) h = absurd (cc h)
 unborn-births s past x (reply.Born first count) h = absurd (cc h)
+unborn-births s past x (reply.Closed g c n) h = absurd (cc h)
 unborn-births s past x _ h = refl
-
-no-groups-made : (s : Plan) (limit w : ℕ) (past : Past) (k : Kind) → IsSimpleEntry k → May s limit past w k → groups s past ≡ [] → grouped s (story s past) past k ≡ []
-no-groups-made s limit w past (Answer x r) i m h =
-    ap (λ o. grouped_by (story s past) past o r) m.asked_is ∙ (grouped-simple (story s past) past m.asks m.asks.request r (simple-asked m.asks.request r i m.fitting) ∙ h)
-no-groups-made s limit w past (Tick t) i m h = ap (closed_by by.Timeout (is_due s t)) h
-no-groups-made s limit w past Force i m h = ap (closed_by by.Force (is_forced s)) h
-no-groups-made s limit w past _ i m h = h
-
--- there are no groups
-pub no-groups : (s : Plan) (w limit : ℕ) (past : Past) → KeepsRules s w limit past → AnswersSimply past → groups s past ≡ []
-unfolding story
-no-groups s w limit [] legal simple = refl
-no-groups s w limit (e ∷ past) legal simple =
-    no-groups-made s limit e.worker past e.kind simple.1 (legal-may s w limit e past legal) (no-groups s w limit past (legal-tail s w limit e past legal) simple.0)
 
 made-answer : (s : Plan) (limit w : ℕ) (past : Past) (x : ℕ) (r : Reply) → IsSimpleAnswer r → bears r ≡ false → May s limit past w (Answer x r) → made_at s past (Answer x r) ≡ []
 made-answer s limit w past x r i none m =
     ap (λ o. made_by s (story s past) past o r) m.asked_is ∙ made-simple s (story s past) past m.asks m.asks.request r (simple-asked m.asks.request r i m.fitting) none
 
-made-simply : (s : Plan) (limit w : ℕ) (past : Past) (k : Kind) → IsSimpleEntry k → May s limit past w k → groups s past ≡ [] → made_at s past k ≡ simple_births s past k
-made-simply s limit w past (Accept source item m) i may h = refl
-made-simply s limit w past (Answer x (reply.Queued n)) i m h = refl
-made-simply s limit w past (Answer x (reply.Born first count)) i m h = refl
-made-simply s limit w past (Answer x (reply.Joined parts)) i m h = made-answer s limit w past x (reply.Joined parts) i refl m
-made-simply s limit w past (Answer x reply.Done) i m h = made-answer s limit w past x reply.Done i refl m
-made-simply s limit w past (Answer x reply.SendFailed) i m h = made-answer s limit w past x reply.SendFailed i refl m
-made-simply s limit w past (Answer x reply.Exists) i m h = made-answer s limit w past x reply.Exists i refl m
-made-simply s limit w past (Answer x (reply.Became b)) i m h = made-answer s limit w past x (reply.Became b) i refl m
-made-simply s limit w past (Answer x (reply.Raised f)) i m h = made-answer s limit w past x (reply.Raised f) i refl m
-made-simply s limit w past (Answer x (reply.Holds b)) i m h = made-answer s limit w past x (reply.Holds b) i refl m
-made-simply s limit w past (Answer x (reply.Full l)) i m h = made-answer s limit w past x (reply.Full l) i refl m
-made-simply s limit w past (Answer x reply.Dropped) i m h = made-answer s limit w past x reply.Dropped i refl m
-made-simply s limit w past (Answer x reply.Entered) i m h = made-answer s limit w past x reply.Entered i refl m
-made-simply s limit w past (Answer x (reply.Slept d)) i m h = made-answer s limit w past x (reply.Slept d) i refl m
-made-simply s limit w past (Answer x reply.Noted) i m h = made-answer s limit w past x reply.Noted i refl m
-made-simply s limit w past (Answer x reply.Finished) i m h = made-answer s limit w past x reply.Finished i refl m
-made-simply s limit w past (Answer x reply.CommitFailed) i m h = made-answer s limit w past x reply.CommitFailed i refl m
-made-simply s limit w past (Answer x _) i m h = absurd i
-made-simply s limit w past (Tick t) i m h = ap (λ gs. group_births s (next_number (story s past)) by.Timeout (filter (is_due s t) gs)) h
-made-simply s limit w past Force i m h = ap (λ gs. group_births s (next_number (story s past)) by.Force (filter (is_forced s) gs)) h
-made-simply s limit w past _ i m h = refl
+made-simply : (s : Plan) (limit w : ℕ) (past : Past) (k : Kind) → IsSimpleEntry k → May s limit past w k → made_at s past k ≡ simple_births s past k
+made-simply s limit w past (Accept source item m) i may = refl
+made-simply s limit w past (Answer x (reply.Queued n)) i m = refl
+made-simply s limit w past (Answer x (reply.Born first count)) i m = refl
+made-simply s limit w past (Answer x (reply.Closed g c n)) i m = refl
+made-simply s limit w past (Answer x (reply.Arrived g)) i m = made-answer s limit w past x (reply.Arrived g) i refl m
+made-simply s limit w past (Answer x (reply.Unfit f)) i m = made-answer s limit w past x (reply.Unfit f) i refl m
+made-simply s limit w past (Answer x (reply.Joined parts)) i m = made-answer s limit w past x (reply.Joined parts) i refl m
+made-simply s limit w past (Answer x reply.Done) i m = made-answer s limit w past x reply.Done i refl m
+made-simply s limit w past (Answer x reply.SendFailed) i m = made-answer s limit w past x reply.SendFailed i refl m
+made-simply s limit w past (Answer x reply.Exists) i m = made-answer s limit w past x reply.Exists i refl m
+made-simply s limit w past (Answer x (reply.Became b)) i m = made-answer s limit w past x (reply.Became b) i refl m
+made-simply s limit w past (Answer x (reply.Raised f)) i m = made-answer s limit w past x (reply.Raised f) i refl m
+made-simply s limit w past (Answer x (reply.Holds b)) i m = made-answer s limit w past x (reply.Holds b) i refl m
+made-simply s limit w past (Answer x (reply.Full l)) i m = made-answer s limit w past x (reply.Full l) i refl m
+made-simply s limit w past (Answer x reply.Dropped) i m = made-answer s limit w past x reply.Dropped i refl m
+made-simply s limit w past (Answer x reply.Entered) i m = made-answer s limit w past x reply.Entered i refl m
+made-simply s limit w past (Answer x (reply.Slept d)) i m = made-answer s limit w past x (reply.Slept d) i refl m
+made-simply s limit w past (Answer x reply.Noted) i m = made-answer s limit w past x reply.Noted i refl m
+made-simply s limit w past (Answer x reply.Finished) i m = made-answer s limit w past x reply.Finished i refl m
+made-simply s limit w past (Answer x reply.CommitFailed) i m = made-answer s limit w past x reply.CommitFailed i refl m
+made-simply s limit w past (Answer x _) i m = absurd i
+made-simply s limit w past (Tick t) i m = refl
+made-simply s limit w past Force i m = refl
+made-simply s limit w past _ i m = refl
 
--- only an accepted item, a copy that comes into a queue and parts that are asked for make births
+-- no other entry makes births
 pub births-simply : (s : Plan) (w limit : ℕ) (e : Entry) (past : Past) → KeepsRules s w limit (e ∷ past) → AnswersSimply (e ∷ past) → births s (e ∷ past) ≡ births s past ++ simple_births s past e.kind
 births-simply s w limit e past legal simple =
-    let tail = legal-tail s w limit e past legal in
-    births-more s e past ∙ ap (λ bs. births s past ++ bs) (made-simply s limit e.worker past e.kind simple.1 (legal-may s w limit e past legal) (no-groups s w limit past tail simple.0))
-
-abbrev IsOfSimple : Birth → Type 0
-IsOfSimple b = is_simple_origin b.origin ≡ true
-
--- what an offer that is queued makes: a copy
-copy-for : (s : Plan) (t : Story) (past : Past) (k : Asked) (q : Request) (n : ℕ) → fits q (reply.Queued n) ≡ true → Each IsOfSimple (made_for s t past k q (reply.Queued n))
-copy-for s t past k (request.Offer q discard m) n fit = (refl, tt)
-copy-for s t past k _ n fit = absurd (cc fit)
-
-copy-made : (s : Plan) (limit w : ℕ) (past : Past) (x n : ℕ) → May s limit past w (Answer x (reply.Queued n)) → Each IsOfSimple (made_at s past (Answer x (reply.Queued n)))
-copy-made s limit w past x n m =
-    subst (λ o. Each IsOfSimple (made_by s (story s past) past o (reply.Queued n))) (sym m.asked_is) (copy-for s (story s past) past m.asks m.asks.request n m.fitting)
-
--- what a Spawn makes: parts
-parts-simple : (n : ℕ) (k : Asked) (i : ℕ) (ds : List Seed) → Each IsOfSimple (part_births n k i ds)
-parts-simple n k i [] = tt
-parts-simple n k i (d ∷ ds) = (refl, parts-simple (n + 1) k (i + 1) ds)
-
-parts-for : (s : Plan) (t : Story) (past : Past) (k : Asked) (q : Request) (first count : ℕ) → fits q (reply.Born first count) ≡ true → Each IsOfSimple (made_for s t past k q (reply.Born first count))
-parts-for s t past k (request.Spawn seeds) first count fit = parts-simple (next_number t) k k.at.index seeds
-parts-for s t past k _ first count fit = absurd (cc fit)
-
-parts-made : (s : Plan) (limit w : ℕ) (past : Past) (x first count : ℕ) → May s limit past w (Answer x (reply.Born first count)) → Each IsOfSimple (made_at s past (Answer x (reply.Born first count)))
-parts-made s limit w past x first count m =
-    subst (λ o. Each IsOfSimple (made_by s (story s past) past o (reply.Born first count))) (sym m.asked_is) (parts-for s (story s past) past m.asks m.asks.request first count m.fitting)
-
-one-made : (s : Plan) (limit w : ℕ) (past : Past) (k : Kind) → May s limit past w k → Each IsOfSimple (simple_births s past k)
-one-made s limit w past (Accept source item m) may = (refl, tt)
-one-made s limit w past (Answer x (reply.Queued n)) may = copy-made s limit w past x n may
-one-made s limit w past (Answer x (reply.Born first count)) may = parts-made s limit w past x first count may
-one-made s limit w past _ may = tt
-
--- every exchange is an item's, a copy in a queue or a part
-pub only-simple : (s : Plan) (w limit : ℕ) (past : Past) → KeepsRules s w limit past → AnswersSimply past → Each (λ (b : Birth). is_simple_origin b.origin ≡ true) (births s past)
-unfolding story
-only-simple s w limit [] legal simple = tt
-only-simple s w limit (e ∷ past) legal simple =
-    let older = only-simple s w limit past (legal-tail s w limit e past legal) simple.0 in
-    subst (Each IsOfSimple) (sym (births-simply s w limit e past legal simple))
-    (each-append IsOfSimple (births s past) (simple_births s past e.kind) older (one-made s limit e.worker past e.kind (legal-may s w limit e past legal)))
+    births-more s e past ∙ ap (λ bs. births s past ++ bs) (made-simply s limit e.worker past e.kind simple.1 (legal-may s w limit e past legal))

@@ -1,7 +1,8 @@
 -- The plan of a route set: what its journals are read by.
-use Rattle.std.specs.Prelude.{ℕ, suc, Bool, false, cond, eqb, ◌||◌, List, [], ◌∷◌, Option, Some, None, is_some, unwrap_or, length, slice_get, max, Result, Ok, Err}
+use Rattle.std.specs.Prelude.{ℕ, suc, Bool, false, cond, eqb, List, [], ◌∷◌, Option, Some, None, is_some, unwrap_or, length, slice_get, max, Result, Ok, Err}
 use Rattle.std.specs.List.{list_any, position}
 use Rattle.eip_exchange.specs.declared.message.Message.{Message}
+use Rattle.eip_exchange.specs.declared.setting.Strategy.TheVariants.{Latest}
 use Rattle.eip_strategy.specs.Adding.{added}
 use Rattle.eip_strategy.specs.declared.fault.StrategyFault.{StrategyFault}
 use Rattle.eip_simple_read.specs.declared.tree.Predicate.{Predicate}
@@ -11,6 +12,7 @@ use Rattle.eip_uri.specs.declared.uri.Uri.{Uri}
 use Rattle.eip_uri.specs.declared.uri.Uri.TheVariants as uri
 use Rattle.eip_route.specs.Faults.{steps_numbers}
 use Rattle.eip_route.specs.declared.step.Aggregate.{Aggregate}
+use Rattle.eip_route.specs.declared.step.Expr.TheVariants.{Constant}
 use Rattle.eip_route.specs.declared.step.Step.{Step}
 use Rattle.eip_route.specs.declared.step.Step.TheVariants as step
 use Rattle.eip_route.specs.declared.route.Block.{Block}
@@ -66,15 +68,19 @@ abbrev pub aggregator_among : ℕ → List Block → Option Aggregate
 aggregator_among a [] = None
 aggregator_among a (b ∷ bs) = or_aggregator (aggregator_in a b.steps) (aggregator_among a bs)
 
--- block a stands in block j, among these blocks, the first of which has the number `here`; nested blocks have greater numbers
-abbrev pub stands_in : (here : ℕ) → List Block → (a j : ℕ) → Bool
-stands_in here [] a j = false
-stands_in here (b ∷ bs) a j =
-    cond (eqb j here) (list_any (λ i. eqb i a || stands_in (suc here) bs a i) (steps_numbers b.steps)) (stands_in (suc here) bs a j)
+-- is this the number of a block that stands in a step of this block
+abbrev pub stands_in : ℕ → Block → Bool
+stands_in c b = list_any (λ i. eqb i c) (steps_numbers b.steps)
+
+-- the outermost block around a block among these, the first of which has the number `here`, or the block itself: a block stands only
+-- in blocks with lesser numbers
+abbrev pub outermost : (here : ℕ) → List Block → ℕ → ℕ
+outermost here [] a = a
+outermost here (b ∷ bs) a = cond (stands_in (outermost (suc here) bs a) b) here (outermost (suc here) bs a)
 
 -- the route in whose blocks block a stands; one of a clause's blocks is the first route's
 abbrev pub route_around : RouteSet → ℕ → ℕ
-route_around set a = unwrap_or (position (λ r. stands_in 0 set.blocks a r.block) set.routes) 0
+route_around set a = unwrap_or (position (λ r. eqb r.block (outermost 0 set.blocks a)) set.routes) 0
 
 abbrev pub added_one : Result Message StrategyFault → Added
 added_one (Ok m) = Gives m
@@ -85,12 +91,16 @@ abbrev pub closed_by : RouteSet → Option Predicate → ℕ → ℕ → Message
 closed_by set None number route m = false
 closed_by set (Some p) number route m = predicate_holds p (record { message = m; number = number; route = id_of set route })
 
-abbrev pub no_group : GroupRule
-no_group = record { size = None; timeout = None; force = false; closes = λ number route m. false; add = λ old m. Gives m; route = 0 }
+-- an aggregator of which nothing is said: each message takes the place of those before it, and nothing closes its groups
+abbrev pub plain_aggregate : ℕ → Aggregate
+plain_aggregate a = record { key = Constant []; strategy = Latest; predicate = None; size = None; timeout = None; force = false; block = a }
 
-abbrev pub group_rule : RouteSet → ℕ → Option Aggregate → GroupRule
-group_rule set a None = no_group
-group_rule set a (Some g) = record {
+-- the setting of the aggregator whose groups run block a
+abbrev pub setting_of : RouteSet → ℕ → Aggregate
+setting_of set a = unwrap_or (aggregator_among a set.blocks) (plain_aggregate a)
+
+abbrev pub group_rule : RouteSet → ℕ → Aggregate → GroupRule
+group_rule set a g = record {
   size = g.size;
   timeout = g.timeout;
   force = g.force;
@@ -107,5 +117,5 @@ plan_of set = record {
   is_queue = λ r. is_queue set r;
   block_of = λ r. block_of_route (slice_get set.routes r);
   queue = λ r. queue_of_route (slice_get set.routes r);
-  group = λ a. group_rule set a (aggregator_among a set.blocks);
+  group = λ a. group_rule set a (setting_of set a);
 }

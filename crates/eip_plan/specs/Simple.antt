@@ -1,7 +1,5 @@
--- Journals in which nothing is answered but requests that make no group and take no key.
-use Rattle.std.specs.Prelude.{Bool, true, false, [], ◌∷◌}
-use Rattle.eip_exchange.specs.declared.birth.Origin.{Origin}
-use Rattle.eip_exchange.specs.declared.birth.Origin.TheVariants as from
+-- Journals in which nothing is answered but requests that take no key.
+use Rattle.std.specs.Prelude.{[], ◌∷◌}
 use Rattle.eip_frames.specs.declared.request.Request.{Request}
 use Rattle.eip_frames.specs.declared.request.Request.TheVariants as request
 use Rattle.eip_frames.specs.declared.answer.Answer.{Answer as Reply}
@@ -10,7 +8,7 @@ use Rattle.eip_ledger.specs.declared.entry.Kind.{Kind}
 use Rattle.eip_ledger.specs.declared.entry.Kind.TheVariants.{Answer}
 use Rattle.eip_history.specs.Own.{Past}
 
--- a request that makes no group and takes no key
+-- a request that takes no key
 abbrev pub IsSimple : Request → Type 0
 IsSimple (request.Send t m) = Unit {0}
 IsSimple (request.Process n m) = Unit {0}
@@ -19,6 +17,7 @@ IsSimple (request.Offer q discard m) = Unit {0}
 IsSimple (request.Call r) = Unit {0}
 IsSimple (request.Spawn seeds) = Unit {0}
 IsSimple (request.Join first count) = Unit {0}
+IsSimple (request.Arrive a key m) = Unit {0}
 IsSimple (request.Wait t) = Unit {0}
 IsSimple (request.Log n t) = Unit {0}
 IsSimple (request.Finish e m commit) = Unit {0}
@@ -38,6 +37,9 @@ IsSimpleAnswer reply.Dropped = Unit {0}
 IsSimpleAnswer reply.Entered = Unit {0}
 IsSimpleAnswer (reply.Born first count) = Unit {0}
 IsSimpleAnswer (reply.Joined parts) = Unit {0}
+IsSimpleAnswer (reply.Arrived g) = Unit {0}
+IsSimpleAnswer (reply.Closed g c n) = Unit {0}
+IsSimpleAnswer (reply.Unfit f) = Unit {0}
 IsSimpleAnswer (reply.Slept d) = Unit {0}
 IsSimpleAnswer reply.Noted = Unit {0}
 IsSimpleAnswer reply.Finished = Unit {0}
@@ -53,10 +55,3 @@ IsSimpleEntry _ = Unit {0}
 abbrev pub AnswersSimply : Past → Type 0
 AnswersSimply [] = Unit {0}
 AnswersSimply (e ∷ past) = AnswersSimply past × IsSimpleEntry e.kind
-
--- an exchange that a source's item made, a copy that was put into a queue, or a part
-abbrev pub is_simple_origin : Origin → Bool
-is_simple_origin (from.Source r item) = true
-is_simple_origin (from.Queue q) = true
-is_simple_origin (from.Part parent index) = true
-is_simple_origin _ = false

@@ -6,15 +6,17 @@ ghost use Rattle.eip_progress.specs.Rest.{rest, IsFirst};
 ghost use Rattle.eip_rows.specs.First.{CanBegin};
 ghost use Rattle.eip_tables.specs.Look.{CanTake, Stepped, HasCursor, LookedAt, birth_at, birth_of as told_birth, FirstLook};
 ghost use Rattle.eip_tables.specs.Offers.{copy_birth as offered_copy};
+ghost use Rattle.eip_tables.specs.Groups.{completed};
+ghost use Rattle.eip_history.specs.Births.{name_of};
 
 use eip_cursor::{Advance, Cursor, Next};
 use eip_exchange::{Birth, Care, Message, Origin, Work};
-use eip_frames::{Answer, Request};
+use eip_frames::{Answer, Completion, Request};
 use eip_ledger::{Entry, Kind};
 use eip_progress::Boxed;
 use eip_route::RouteSet;
 use eip_tables::row::{self, Born, Row};
-use eip_text::NoMemory;
+use eip_text::{NoMemory, Text};
 use std::alloc::Global;
 use std::mem;
 
@@ -185,6 +187,29 @@ pub fn offered_birth(set: &RouteSet, number: u64, queue: u32, hops: u32, message
     }
 }
 
+/// What closed a group, as its message says it.
+fn cause_name(cause: Completion) -> &'static str
+    ensures { result.now ≡ name_of cause }
+{
+    match cause {
+        Completion::Size => "size",
+        Completion::Predicate => "predicate",
+        Completion::Timeout => "timeout",
+        Completion::Force => "force",
+    }
+}
+
+/// The birth of a closed group's exchange, with what its message says of its closing.
+fn completed(alloc: Global, cause: Completion, birth: Birth) -> Result<Birth, NoMemory>
+    ensures { IfOk result (λ b. b ≡ completed cause birth) }
+{
+    let mut birth = birth;
+    let name = Text::of_str(alloc, "CamelAggregatedCompletedBy")?;
+    let value = Text::of_str(alloc, cause_name(cause))?;
+    birth.message.properties.set(name, value)?;
+    Ok(birth)
+}
+
 /// The birth of an exchange, from the entry that accepted its item or from its row.
 fn birth_of(
     alloc: Global,
@@ -202,7 +227,11 @@ fn birth_of(
             None => unreachable!(),
         },
         (Born::Copy(_) | Born::Part { .. }, Some(birth)) => copy_birth(alloc, birth),
-        (Born::Copy(_) | Born::Part { .. }, None) => unreachable!(),
+        (Born::Group { cause, .. }, Some(birth)) => {
+            let copy = copy_birth(alloc, birth)?;
+            completed(alloc, cause, copy)
+        }
+        (Born::Copy(_) | Born::Part { .. } | Born::Group { .. }, None) => unreachable!(),
     }
 }
 

@@ -4,16 +4,19 @@ ghost use Rattle.std.specs.Prelude.{OnErr};
 ghost use Rattle.eip_tables.specs.declared.row.Stage.TheVariants.{Starved};
 ghost use Rattle.eip_tables.specs.Moves.{started, begun, answered, held, joining, sleeping, closed, starved_end, last_message, ended_with, finished_asked, ended_by};
 ghost use Rattle.eip_tables.specs.Parts.{seed_rows, starving_faults, rows_behind};
+ghost use Rattle.eip_tables.specs.Groups.{group_rows};
 ghost use Rattle.eip_tables.specs.State.{outside_at, is_wanted};
 ghost use Rattle.eip_tables.specs.Numbers.{IsNumberOf};
 ghost use Rattle.eip_history.specs.Rules.{first};
 ghost use Rattle.eip_tables.specs.Look.{HasCursor, LookedAt};
 
 use crate::look::look_at;
+use eip_aggregator::Closed;
 use eip_exchange::{End, Ended, Fault};
 use eip_frames::{Answer, Request, Seed};
 use eip_progress::{Boxed, Cursor};
 use eip_route::RouteSet;
+use eip_tables::groups;
 use eip_tables::parts::{self, Parent};
 use eip_tables::rising::RisingNumbers;
 use eip_tables::row::{self, Row};
@@ -184,6 +187,16 @@ impl Rows {
         ensures spare { self.old.spare ≤ self.new.spare + length seeds.items }
     {
         parts::put_parts(&mut self.rows, parent, seeds, faults);
+    }
+
+    /// The rows of the exchanges of groups that close together go behind the others, into room that was reserved.
+    pub fn put_groups(&mut self, set: &RouteSet, closed: Vec<Closed>)
+        requires few { length set.now.routes ≤ 256 }
+        requires room { length closed.items ≤ self.old.spare }
+        ensures items { self.new.items ≡ self.old.items ++ group_rows set.now (length self.old.items + 1) closed.items }
+        ensures spare { self.old.spare ≤ self.new.spare + length closed.items }
+    {
+        groups::put_groups(&mut self.rows, set, closed);
     }
 
     /// What the exchange has waited for has come: the last of its parts has ended, or its moment is there.

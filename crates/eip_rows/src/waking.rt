@@ -1,5 +1,5 @@
 ghost use Rattle.std.specs.Prelude.{◌≡◌, ◌+◌, ◌<◌, ◌≤◌, IfSome};
-ghost use Rattle.eip_tables.specs.Numbers.{IsNumberOf};
+ghost use Rattle.eip_tables.specs.Numbers.{IsNumberOf, AreRising};
 ghost use Rattle.eip_tables.specs.Parts.{rows_behind, ready_behind};
 
 use crate::rows::Rows;
@@ -9,6 +9,7 @@ use eip_tables::rising::RisingNumbers;
 pub fn wake(rows: &mut Rows, ready: &mut RisingNumbers, woken: Option<u64>)
     requires within { IfSome woken (λ y. IsNumberOf rows.old.items y) }
     requires room { 0 < ready.old.spare }
+    requires rising { AreRising ready.old.numbers }
     ensures rows { rows.new.items ≡ rows_behind woken rows.old.items }
     ensures spare { rows.old.spare ≤ rows.new.spare }
     ensures numbers { ready.new.numbers ≡ ready_behind woken ready.old.numbers }

@@ -1,8 +1,8 @@
 -- An outcome has its cause: by what the command came to, and why a run stops.
-use Rattle.std.proofs.Common.{◌≡◌, ℕ, zero, suc, ◌+◌, ◌<◌, ◌≤◌, ◌++◌, ◌⊎◌, ◌==◌, ◌&&◌, Bool, true, false, cond, List, [], ◌∷◌, Option, Some, None, Result, Ok, Err, length, filter, refl, sym, ap, subst, ◌∙◌, arith, inl, inr}
+use Rattle.std.proofs.Common.{◌≡◌, ℕ, zero, suc, ◌+◌, ◌<◌, ◌≤◌, ◌++◌, ◌⊎◌, ◌==◌, ◌&&◌, Bool, true, false, cond, List, [], ◌∷◌, Option, Some, None, Result, Ok, Err, length, refl, sym, ap, subst, ◌∙◌, arith, inl, inr}
 use Rattle.std.specs.Option.{IsSome}
 use Rattle.std.specs.List.{slice_get}
-use Rattle.std.proofs.lemmas.Bool.{eqb-true, eq-eqb, and_parts}
+use Rattle.std.proofs.lemmas.Bool.{eqb-true, eq-eqb, and_parts, ne_eqb}
 use Rattle.std.proofs.lemmas.List.{length-map}
 use Rattle.std.proofs.lemmas.Option.{slice_get_within}
 use Rattle.eip_text.specs.Causes.{Rose, Rises}
@@ -36,14 +36,11 @@ use Rattle.eip_ledger.specs.declared.place.Stop.TheVariants as stop
 use Rattle.eip_history.specs.Plan.{Plan}
 use Rattle.eip_history.specs.Own.{Past, turns}
 use Rattle.eip_history.specs.Place.{hands}
-use Rattle.eip_history.specs.Groups.{Group, is_open}
 use Rattle.eip_history.specs.Rules.{IsSource, KeepsRules, May, Served, served}
 use Rattle.eip_history.specs.Stop.{first_fault, fault_in, or_else, is_over, open_groups, held_or_drained, with_fault, stop_of}
 use Rattle.eip_history.proofs.Steps.{fault-none, fault-more}
 use Rattle.eip_history.proofs.Unborn.{legal-tail, legal-may}
 use Rattle.eip_plan.specs.Plan.{plan_of}
-use Rattle.eip_plan.specs.Simple.{AnswersSimply}
-use Rattle.eip_plan.proofs.Items.{no-groups}
 use Rattle.eip_table_laws.proofs.StopCalls.{position-some}
 use Rattle.eip_core.specs.Doors.{doors_of, inlet_named, inlet_at}
 use Rattle.eip_core.specs.Outside.{seen_answers, pulls_in, pulls, inlet_acts}
@@ -66,29 +63,34 @@ rises-rose n before now some r = let least = r.least in omega arith
 
 -- ---- why a run stops
 
--- what a stop says of the first source that failed, and of the turns
-abbrev Says : Option ℕ → ℕ → ℕ → Stop → Type 0
-Says f taken limit stop.Drained = Unit {0}
-Says f taken limit (stop.SourceFault t) = f ≡ Some t
-Says f taken limit (stop.Held groups) = ⊥
-Says f taken limit stop.Spent = taken ≡ limit
-Says f taken limit stop.NoMemory = Unit {0}
+-- what a stop says of the first source that failed, of the turns, and of open groups
+abbrev Says : (over : Bool) → Option ℕ → (groups taken limit : ℕ) → Stop → Type 0
+Says over f groups taken limit stop.Drained = Unit {0}
+Says over f groups taken limit (stop.SourceFault t) = f ≡ Some t
+Says over f groups taken limit (stop.Held held) = (over ≡ true) × (held ≡ groups) × (1 ≤ held)
+Says over f groups taken limit stop.Spent = taken ≡ limit
+Says over f groups taken limit stop.NoMemory = Unit {0}
 
-says-by : (over spent : Bool) (f : Option ℕ) (groups taken limit : ℕ) (s : Stop) → groups ≡ 0 → (spent ≡ true → taken ≡ limit)
-    → cond over (Some (with_fault f (held_or_drained groups))) (cond spent (Some (with_fault f stop.Spent)) None) ≡ Some s → Says f taken limit s
-says-by true spent (Some t) groups taken limit s none full h = let same : stop.SourceFault t ≡ s = cc in subst (Says (Some t) taken limit) same refl
-says-by true spent None zero taken limit s none full h = let same : stop.Drained ≡ s = cc in subst (Says None taken limit) same tt
-says-by true spent None (suc groups) taken limit s none full h = absurd (omega (arith, none))
-says-by false true (Some t) groups taken limit s none full h = let same : stop.SourceFault t ≡ s = cc in subst (Says (Some t) taken limit) same refl
-says-by false true None groups taken limit s none full h = let same : stop.Spent ≡ s = cc in subst (Says None taken limit) same (full refl)
-says-by false false f groups taken limit s none full h = absurd (cc h)
+says-by : (over spent : Bool) (f : Option ℕ) (groups taken limit : ℕ) (s : Stop) → (spent ≡ true → taken ≡ limit)
+    → cond over (Some (with_fault f (held_or_drained groups))) (cond spent (Some (with_fault f stop.Spent)) None) ≡ Some s → Says over f groups taken limit s
+says-by true spent (Some t) groups taken limit s full h = let same : stop.SourceFault t ≡ s = cc in subst (Says true (Some t) groups taken limit) same refl
+says-by true spent None zero taken limit s full h = let same : stop.Drained ≡ s = cc in subst (Says true None zero taken limit) same tt
+says-by true spent None (suc groups) taken limit s full h =
+    let some : (suc groups == 0) ≡ false = ne_eqb (suc groups) 0 (λ q. omega (arith, q)) in
+    let held : Some (stop.Held (suc groups)) ≡ Some s = subst (λ v. Some (cond v stop.Drained (stop.Held (suc groups))) ≡ Some s) some h in
+    let same : stop.Held (suc groups) ≡ s = cc held in
+    subst (Says true None (suc groups) taken limit) same (refl, refl, omega arith)
+says-by false true (Some t) groups taken limit s full h = let same : stop.SourceFault t ≡ s = cc in subst (Says false (Some t) groups taken limit) same refl
+says-by false true None groups taken limit s full h = let same : stop.Spent ≡ s = cc in subst (Says false None groups taken limit) same (full refl)
+says-by false false f groups taken limit s full h = absurd (cc h)
 
-stop-says : (s : Plan) (w limit : ℕ) (past : Past) → KeepsRules s w limit past → AnswersSimply past → (r : Stop) → stop_of s limit past ≡ Some r
-    → Says (first_fault past) (turns past) limit r
+abbrev StopSays : Plan → Past → (limit : ℕ) → Stop → Type 0
+StopSays s past limit r = Says (is_over s past) (first_fault past) (length (open_groups s past)) (turns past) limit r
+
+stop-says : (s : Plan) (limit : ℕ) (past : Past) (r : Stop) → stop_of s limit past ≡ Some r → StopSays s past limit r
 unfolding stop_of
-stop-says s w limit past legal simple r h =
+stop-says s limit past r h =
     says-by (is_over s past) ((turns past == limit) && (hands s past == 0)) (first_fault past) (length (open_groups s past)) (turns past) limit r
-    (ap (λ (gs : List Group). length (filter is_open gs)) (no-groups s w limit past legal simple))
     (λ e. eqb-true (turns past) limit (and_parts (turns past == limit) _ e).0) h
 
 -- ---- the inlet of a source that failed
@@ -188,27 +190,27 @@ source-failed x p limit set s t has ran h =
 -- ---- the cause of what a command came to
 
 stop-caused : (x : Setting) (p : Path) (limit : ℕ) (set : RouteSet) (r s : Stop) → HasRoutes (asked x) (Drain p limit) set → IsRun x set limit r
-    → Says (first_fault x.journal.past) (turns x.journal.past) limit s → CauseOfStop x limit s
+    → StopSays (plan_of set) x.journal.past limit s → CauseOfStop x limit s
 stop-caused x p limit set r stop.Drained has ran h = tt
 stop-caused x p limit set r (stop.SourceFault t) has ran h = source-failed x p limit set r t has ran h
-stop-caused x p limit set r (stop.Held groups) has ran h = h
+stop-caused x p limit set r (stop.Held groups) has ran h = record { path = p; set = set; routes = has; over = h.0; count = h.1; some = h.2 }
 stop-caused x p limit set r stop.Spent has ran h = h
 stop-caused x p limit set r stop.NoMemory has ran h = tt
 
-told-caused : (x : Setting) (told : Outcome) (text : List ℕ) → AnswersSimply x.journal.past → Comes x told text → CauseOf x told
-told-caused x told text simple (NoCommand none still calm) = none
-told-caused x told text simple (NotRead k command still rises calm) = rises-rose 1 _ _ (omega arith) rises
-told-caused x told text simple (NoRoutes k read f command still was h) =
+told-caused : (x : Setting) (told : Outcome) (text : List ℕ) → Comes x told text → CauseOf x told
+told-caused x told text (NoCommand none still calm) = none
+told-caused x told text (NotRead k command still rises calm) = rises-rose 1 _ _ (omega arith) rises
+told-caused x told text (NoRoutes k read f command still was h) =
     record { command = k; read = read; words = command; answer = was; refused = h }
-told-caused x told text simple (WasChecked p set has still) = (p, has.command)
-told-caused x told text simple (Stopped p limit set s has ran ne) = (limit, (p, has.command), by_stop ran.stops)
+told-caused x told text (WasChecked p set has still) = (p, has.command)
+told-caused x told text (Stopped p limit set s has ran ne) = (limit, (p, has.command), by_stop ran.stops)
   where
     by_stop : (s ≡ stop.NoMemory) ⊎ (stop_of (plan_of set) limit x.journal.past ≡ Some s) → CauseOfStop x limit s
     by_stop (inl e) = absurd (ne e)
-    by_stop (inr h) = stop-caused x p limit set s s has ran (stop-says (plan_of set) 0 limit x.journal.past ran.legal.entries simple s h)
-told-caused x told text simple (Starved p limit set has ran) = (limit, (p, has.command), tt)
-told-caused x told text simple (LacksMemory still count spared) = tt
-told-caused x told text simple (LacksText p limit set s has ran ne) = tt
+    by_stop (inr h) = stop-caused x p limit set s s has ran (stop-says (plan_of set) limit x.journal.past s h)
+told-caused x told text (Starved p limit set has ran) = (limit, (p, has.command), tt)
+told-caused x told text (LacksMemory still count spared) = tt
+told-caused x told text (LacksText p limit set s has ran ne) = tt
 
 -- the sink's fault is the cause where there was none before it
 behind-caused : (x : Setting) (told : Outcome) (w : Result Unit SinkFault) → Rises (sink_failure w) x.before.sink_faults x.after.sink_faults → CauseOf x told
@@ -303,7 +305,7 @@ without-faults x outcome.FilesFault h u = u.files h
 without-faults x outcome.Checked h u = tt
 without-faults x (outcome.Ran stop.Drained) h u = tt
 without-faults x (outcome.Ran (stop.SourceFault t)) h u = u.inlets h.2.inlet h.2.failed
-without-faults x (outcome.Ran (stop.Held groups)) h u = h.2
+without-faults x (outcome.Ran (stop.Held groups)) h u = tt
 without-faults x (outcome.Ran stop.Spent) h u = tt
 without-faults x (outcome.Ran stop.NoMemory) h u = tt
 without-faults x outcome.SinkFault h u = u.sink h
@@ -404,10 +406,10 @@ prints x p held outcome.NoMemory h file right u f = tt
 
 -- ---- the clause
 
-pub causes : (x : Setting) (o : Outcome) → Reports x o → AnswersSimply x.journal.past → Causes x o
-causes x o r simple =
+pub causes : (x : Setting) (o : Outcome) → Reports x o → Causes x o
+causes x o r =
     let is : behind r.told r.tells.write ≡ o = sym r.tells.outcome in
-    let cause : CauseOf x o = subst (CauseOf x) is (behind-caused x r.told r.tells.write r.tells.faults (told-caused x r.told r.text simple r.comes)) in
+    let cause : CauseOf x o = subst (CauseOf x) is (behind-caused x r.told r.tells.write r.tells.faults (told-caused x r.told r.text r.comes)) in
     record {
       cause = cause;
       patterns = subst (PatternsOf x) is (behind-patterns x r.told r.tells.write (told-patterns x r.told r.text r.comes));

@@ -1,8 +1,6 @@
 -- The part of routes that is run today.
 use Rattle.std.specs.Prelude.{Bool, true, false, ◌&&◌, List}
 use Rattle.std.specs.List.{list_all}
-use Rattle.eip_exchange.specs.declared.setting.How.{How}
-use Rattle.eip_exchange.specs.declared.setting.How.TheVariants as how_is
 use Rattle.eip_uri.specs.declared.uri.Uri.{Uri}
 use Rattle.eip_uri.specs.declared.uri.Uri.TheVariants as uri
 use Rattle.eip_route.specs.declared.step.Step.{Step}
@@ -11,13 +9,7 @@ use Rattle.eip_route.specs.declared.route.Block.{Block}
 use Rattle.eip_route.specs.declared.route.Route.{Route}
 use Rattle.eip_route.specs.declared.route.RouteSet.{RouteSet}
 
--- a split into the parts of the body; that of a batch comes with groups
-abbrev pub is_built_split : How → Bool
-is_built_split (how_is.Token token) = true
-is_built_split how_is.JsonArray = true
-is_built_split (how_is.Batch key) = false
-
--- a step that sets or removes a part of the message, sends, logs, faults, runs a processor, runs a block or leaves it out, or runs parts
+-- a step that sets or removes a part of the message, sends, logs, faults, runs a processor, runs a block or leaves it out, runs parts, or gathers a group
 abbrev pub is_built_step : Step → Bool
 is_built_step (step.SetBody value) = true
 is_built_step (step.SetHeader name value) = true
@@ -29,25 +21,25 @@ is_built_step (step.Throw kind message) = true
 is_built_step (step.Process name) = true
 is_built_step (step.Choice cases otherwise) = true
 is_built_step (step.Filter check block) = true
-is_built_step (step.Split how fan block) = is_built_split how
+is_built_step (step.Split how fan block) = true
 is_built_step (step.Multicast fan blocks) = true
 is_built_step (step.Recipients list delimiter fan) = true
-is_built_step (step.Aggregate g) = false
+is_built_step (step.Aggregate g) = true
 is_built_step (step.Idempotent key repository skip eager remove block) = false
 is_built_step (step.Try block catches finish) = true
 
 abbrev pub is_built_block : Block → Bool
 is_built_block b = list_all is_built_step b.steps
 
--- where a route begins: standard input, direct calls, or a queue
+-- where a route begins: standard input, files, lines of a port, direct calls, or a queue
 abbrev pub is_built_source : Uri → Bool
 is_built_source uri.StreamIn = true
 is_built_source (uri.Direct name) = true
 is_built_source (uri.Seda name size consumers discard) = true
-is_built_source (uri.File folder after failed exist) = false
+is_built_source (uri.File folder after failed exist) = true
 is_built_source (uri.Log name) = false
 is_built_source (uri.Line host port) = false
-is_built_source (uri.Listen port) = false
+is_built_source (uri.Listen port) = true
 is_built_source (uri.Lane name) = false
 is_built_source (uri.Load n) = false
 

@@ -1,5 +1,5 @@
 -- Which cause each outcome of a command has, and which outcomes are left where nothing that was handed in failed.
-use Rattle.std.specs.Prelude.{ℕ, ◌≡◌, ◌⊎◌, List, Some, None, slice_get}
+use Rattle.std.specs.Prelude.{ℕ, ◌≡◌, ◌≤◌, ◌⊎◌, true, List, length, Some, None, slice_get}
 use Rattle.eip_text.specs.Causes.{Rose}
 use Rattle.eip_route.specs.declared.route.RouteSet.{RouteSet}
 use Rattle.eip_route_faults.specs.Sites.{Site, first_fault, Stops}
@@ -17,6 +17,8 @@ use Rattle.eip_endpoint.specs.Inlets.{InletView, inlet_names}
 use Rattle.eip_ledger.specs.declared.place.Stop.{Stop}
 use Rattle.eip_ledger.specs.declared.place.Stop.TheVariants as stop
 use Rattle.eip_history.specs.Own.{turns}
+use Rattle.eip_history.specs.Stop.{is_over, open_groups}
+use Rattle.eip_plan.specs.Plan.{plan_of}
 use Rattle.eip_core.specs.Doors.{inlet_at}
 use Rattle.eip_run.specs.declared.report.Outcome.{Outcome}
 use Rattle.eip_run.specs.declared.report.Outcome.TheVariants as outcome
@@ -61,12 +63,20 @@ IsDrain x limit = (path : Path) × (command_of x.words ≡ Some (Drain path limi
 abbrev pub IsCheck : Setting → Type 0
 IsCheck x = (path : Path) × (command_of x.words ≡ Some (Check path))
 
--- the cause of each stop of a run with this limit on its turns: a drained run and want of memory have none, and no run of these routes is held by its
--- groups
+-- nothing waits any more, and so many groups are open that nothing will close
+pub record IsHeld (x : Setting) (limit groups : ℕ) : Type 0 where
+  pub path : Path
+  pub set : RouteSet
+  pub routes : HasRoutes (asked x) (Drain path limit) set
+  pub over : is_over (plan_of set) x.journal.past ≡ true
+  pub count : groups ≡ length (open_groups (plan_of set) x.journal.past)
+  pub some : 1 ≤ groups
+
+-- the cause of each stop of a run with this limit on its turns: a drained run and want of memory have none
 abbrev pub CauseOfStop : Setting → (limit : ℕ) → Stop → Type 0
 CauseOfStop x limit stop.Drained = Unit {0}
 CauseOfStop x limit (stop.SourceFault route) = SourceFailed x route
-CauseOfStop x limit (stop.Held groups) = ⊥
+CauseOfStop x limit (stop.Held groups) = IsHeld x limit groups
 CauseOfStop x limit stop.Spent = turns x.journal.past ≡ limit
 CauseOfStop x limit stop.NoMemory = Unit {0}
 
@@ -94,9 +104,10 @@ pub record IsUnharmed (x : Setting) : Type 0 where
   pub inlets : (inlet : ℕ) → InletRose x.before.inlets x.after.inlets inlet → ⊥
   pub sink : Rose x.before.sink_faults x.after.sink_faults → ⊥
 
--- the routes were drained, or the turns or the memory were too few
+-- the routes were drained, or groups are left, or the turns or the memory were too few
 abbrev pub Completes : Outcome → Type 0
 Completes (outcome.Ran stop.Drained) = Unit {0}
+Completes (outcome.Ran (stop.Held groups)) = Unit {0}
 Completes (outcome.Ran stop.Spent) = Unit {0}
 Completes (outcome.Ran stop.NoMemory) = Unit {0}
 Completes outcome.NoMemory = Unit {0}
@@ -108,7 +119,7 @@ Prints outcome.Checked = Unit {0}
 Prints outcome.NoMemory = Unit {0}
 Prints _ = ⊥
 
--- they were printed or drained, or the words or the routes were refused, or turns or memory were too few
+-- they were printed or ran to their end, or the words or the routes were refused, or turns or memory were too few
 abbrev pub IsFaultless : Outcome → Type 0
 IsFaultless outcome.Words = Unit {0}
 IsFaultless (outcome.Routes f) = Unit {0}
@@ -141,7 +152,7 @@ pub record IsRight (at : List Site) : Type 0 where
 
 -- an outcome has its cause, and the patterns' count rose only where a pattern of the file was refused. Words that are no command are refused, unless
 -- memory is wanting, and routes with a fault are refused, unless memory is wanting or the files fail. Where no count of faults rose, the outcome is no
--- fault of the files, a source or the sink; a drain whose file is right runs its routes until they are drained, or turns or memory are too few; and a
+-- fault of the files, a source or the sink; a drain whose file is right runs its routes until nothing waits, or turns or memory are too few; and a
 -- check whose file is right prints them, or memory is wanting
 pub record Causes (x : Setting) (o : Outcome) : Type 0 where
   pub cause : CauseOf x o

@@ -1,13 +1,12 @@
 ghost use Rattle.std.specs.Prelude.{◌≡◌};
 ghost use Rattle.eip_run.specs.Built as spec;
 
-use eip_exchange::How;
 use eip_route::{Block, Route, RouteSet, Step};
 use eip_uri::Uri;
 
-/// Whether the set is of the part that is run today: every source is `stream:in`, a `direct:` or a `seda:`; every step is a
+/// Whether the set is of the part that is run today: every source is `stream:in`, a `file:`, a `line:listen`, a `direct:` or a `seda:`; every step is a
 /// `setBody`, `setHeader`, `setProperty`, `removeHeader`, `to`, `log`, `throwException`, `process`, `choice`, `filter`,
-/// `split` (save that of a batch), `multicast`, `recipientList` or `doTry`; and whatever the error handler and the clauses
+/// `split`, `multicast`, `recipientList`, `aggregate`, `resequence` or `doTry`; and whatever the error handler and the clauses
 /// are. It takes no memory.
 #[tactic(auto, unfolding(crate::specs::Built::is_built))]
 pub fn is_built(set: &RouteSet) -> bool
@@ -34,18 +33,14 @@ fn is_built_route(route: &Route) -> bool
     is_built_source(&route.from)
 }
 
-/// Whether a route that begins there is run: standard input, direct calls, or a queue.
+/// Whether a route that begins there is run: standard input, files, lines of a port, direct calls, or a queue.
 fn is_built_source(from: &Uri) -> bool
     ensures { result ≡ spec.is_built_source from.now }
 {
     match from {
-        Uri::StreamIn | Uri::Direct(_) | Uri::Seda { .. } => true,
-        Uri::File { .. }
-        | Uri::Log(_)
-        | Uri::Line { .. }
-        | Uri::Listen(_)
-        | Uri::Lane(_)
-        | Uri::Load(_) => false,
+        Uri::StreamIn | Uri::File { .. } | Uri::Listen(_) | Uri::Direct(_) | Uri::Seda { .. } =>
+            true,
+        Uri::Log(_) | Uri::Line { .. } | Uri::Lane(_) | Uri::Load(_) => false,
     }
 }
 
@@ -53,16 +48,6 @@ fn is_built_block(block: &Block) -> bool
     ensures { result ≡ spec.is_built_block block.now }
 {
     block.steps.items().iter().all(|step| is_built_step(step))
-}
-
-/// Whether a split is into the parts of the body; that of a batch comes with groups.
-fn is_built_split(how: &How) -> bool
-    ensures { result ≡ spec.is_built_split how.now }
-{
-    match how {
-        How::Token(_) | How::JsonArray => true,
-        How::Batch(_) => false,
-    }
 }
 
 fn is_built_step(step: &Step) -> bool
@@ -79,10 +64,11 @@ fn is_built_step(step: &Step) -> bool
         | Step::Process(_)
         | Step::Choice { .. }
         | Step::Filter { .. }
+        | Step::Split { .. }
         | Step::Multicast { .. }
         | Step::Recipients { .. }
+        | Step::Aggregate(_)
         | Step::Try { .. } => true,
-        Step::Split { how, .. } => is_built_split(how),
-        Step::Aggregate(_) | Step::Idempotent { .. } => false,
+        Step::Idempotent { .. } => false,
     }
 }

@@ -1,7 +1,6 @@
 ghost use Rattle.std.specs.Prelude.{◌≡◌, ◌≤◌, length};
 ghost use Rattle.eip_endpoint.specs.Lanes.{lane_names};
 ghost use Rattle.eip_endpoint.specs.Inlets.{inlet_names};
-ghost use Rattle.eip_plan.specs.Simple.{AnswersSimply};
 ghost use Rattle.eip_core.specs.Doors.{CanRun};
 ghost use Rattle.eip_run.specs.Given.{outside};
 ghost use Rattle.eip_run.specs.Reports.{IsNew, Reports};
@@ -44,7 +43,6 @@ fn drain<L: Lanes, I: Inlets, O: Sink>(
     requires can_run { CanRun set (lane_names (L.views lanes.old)) (inlet_names (I.views inlets.old)) }
     ensures drained { Drained set turns result.1 (L.views lanes.old) (L.views lanes.new) (I.views inlets.old) (I.views inlets.new)
         (O.bytes out.old) (O.bytes out.new) (O.sink_faults out.old) (O.sink_faults out.new) result.0 }
-    ensures simple { AnswersSimply result.1.past }
 {
     let Ok(mut hub) = Hub::new(alloc, set, 0, turns) else {
         let outcome = tell_memory(out, Outcome::NoMemory);
@@ -52,7 +50,6 @@ fn drain<L: Lanes, I: Inlets, O: Sink>(
     };
     let stop = drain_alone(&mut hub, lanes, inlets, registry);
     let outcome = tell_run(alloc, &hub, stop, out);
-    let _ = hub.journal();
     (outcome, hub.into_journal())
 }
 
@@ -73,7 +70,6 @@ fn carry_out<F: Files, P: Patterns, L: Lanes, I: Inlets, O: Sink>(
       after = outside F.Files O.Sink files.new (P.pattern_faults patterns.new) (L.views lanes.new) (I.views inlets.new) out.new;
       journal = result.1;
     }) result.0 }
-    ensures simple { AnswersSimply result.1.past }
     ensures files { F.files files.new ≡ F.files files.old }
 {
     match prepare(alloc, words, files, patterns, lanes, inlets, registry) {

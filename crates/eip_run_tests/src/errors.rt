@@ -179,7 +179,7 @@ fn routes_of(alloc: Global, handler: &str, steps: &str) -> Result<String, NoMemo
 }
 
 /// The lane `x`, which fails its first calls, so many.
-fn failing_lane(alloc: Global, failing: Failing) -> Result<Vec<Lane<MemoryLane>>, NoMemory> {
+pub fn failing_lane(alloc: Global, failing: Failing) -> Result<Vec<Lane<MemoryLane>>, NoMemory> {
     let mut calls = Vec::new(alloc);
     for call in 1..=failing {
         calls.push(call)?;
@@ -226,7 +226,7 @@ fn calls_of(alloc: Global, entries: &[Entry]) -> Result<String, NoMemory> {
 }
 
 /// The moments of the ticks of a journal, a space behind each.
-fn ticks_of(alloc: Global, entries: &[Entry]) -> Result<String, NoMemory> {
+pub fn ticks_of(alloc: Global, entries: &[Entry]) -> Result<String, NoMemory> {
     let mut ticks = String::new(alloc);
     for entry in entries {
         if let Kind::Tick(now) = &entry.kind {

@@ -10,6 +10,8 @@ mod errors;
 #[cfg(test)]
 mod given;
 #[cfg(test)]
+mod groups;
+#[cfg(test)]
 mod lines;
 #[cfg(test)]
 mod parts;

@@ -105,4 +105,4 @@ module _ {routes : RouteSet} {workers limit : ℕ} {past : Past} (t : Tables) (w
         subst (λ (n : ℕ). IsUnasked ((record { worker = w; kind = Start q n }) ∷ past) d) (number-of d d_at) (unasked-started past w q d g.none)))
         (ap (put_in x) st.ready ∙ sym (rw number at (numbers-join row_ready 1 t.rows (x - 1) r (started r) row (ap state_ready waits) refl)))
         (rw b refl) (rw l refl) queues_are (λ legal. joins-stay routes workers limit w (Start q x) past t.joins legal refl st.joins)
-        (λ legal. sleepers-stay routes workers limit w (Start q x) past t.sleepers legal refl st.sleepers))
+        (λ legal. sleepers-stay routes workers limit w (Start q x) past t.sleepers legal refl st.sleepers) refl)

@@ -14,11 +14,15 @@ use Rattle.eip_seda.specs.Consuming.{QueueView}
 use Rattle.eip_redelivery.specs.Sleep as sleep
 use Rattle.eip_join.specs.Parts as join
 use Rattle.eip_join.specs.Parts.{Open}
+use Rattle.eip_aggregator.specs.Tables as tables
+use Rattle.eip_aggregator.specs.Tables.{Table}
 use Rattle.eip_tables.specs.Queues.{limits}
+use Rattle.eip_tables.specs.Groups.{settings}
 use Rattle.eip_tables.specs.Rows.{SourcesStand}
 use Rattle.eip_table_laws.proofs.QueueCalls.{queues-none}
 use Rattle.eip_table_laws.proofs.JoinsKept.{joins-none}
 use Rattle.eip_table_laws.proofs.SleepersKept.{sleepers-none}
+use Rattle.eip_table_laws.proofs.GroupsKept.{groups-none}
 use Rattle.eip_tables.specs.Stands.{Stands}
 
 nobody-below : (n : ℕ) → length (numbers_below (λ t. false) n) ≡ 0
@@ -28,10 +32,10 @@ nobody-below n = none n
     none zero = refl
     none (suc n) = rw append-nil (none n)
 
-pub first-tables : (set : RouteSet) (workers limit : ℕ) (sources : List SourceState) (queues : List QueueView) (joins : List (ℕ × Open)) (sleepers : List (ℕ × ℕ)) → workers ≤ 16 → 1 ≤ limit → limit ≤ 1000000 → SourcesStand (plan_of set) [] sources → seda.Stands (limits set) [] queues → join.Stands [] joins → sleep.Stands [] sleepers
-    → Stands set workers limit [] (record { rows = []; ready = []; sources = sources; turns = 0; fault = None; notes = []; taken = 0; pulled = 0; live = 0; queues = queues; joins = joins; clock = 0; sleepers = sleepers })
+pub first-tables : (set : RouteSet) (workers limit : ℕ) (sources : List SourceState) (queues : List QueueView) (joins : List (ℕ × Open)) (sleepers : List (ℕ × ℕ)) (groups : Table) → workers ≤ 16 → 1 ≤ limit → limit ≤ 1000000 → SourcesStand (plan_of set) [] sources → seda.Stands (limits set) [] queues → join.Stands [] joins → sleep.Stands [] sleepers → tables.Stands (settings set) [] groups
+    → Stands set workers limit [] (record { rows = []; ready = []; sources = sources; turns = 0; fault = None; notes = []; taken = 0; pulled = 0; live = 0; queues = queues; joins = joins; clock = 0; sleepers = sleepers; groups = groups })
 unfolding KeepsRules story turns clock first_fault served pulls_out source_state
-first-tables set workers limit sources queues joins sleepers few some most h empty closed awake = record {
+first-tables set workers limit sources queues joins sleepers groups few some most h empty closed awake none = record {
   legal = record { few_workers = few; some_turns = some; few_turns = most; entries = tt };
   simple = tt;
   rows = tt;
@@ -47,4 +51,5 @@ first-tables set workers limit sources queues joins sleepers few some most h emp
   joins = joins-none set joins closed;
   clock = refl;
   sleepers = sleepers-none set sleepers awake;
+  groups = groups-none set groups none;
 }

@@ -17,7 +17,7 @@ use Rattle.eip_history.specs.Births.{births}
 use Rattle.eip_history.specs.Place.{place_of}
 use Rattle.eip_history.specs.Rules.{KeepsRules, May}
 use Rattle.eip_history.specs.Tables.{Related, bit}
-use Rattle.eip_history.specs.TableWords.{moves_sleepers}
+use Rattle.eip_history.specs.TableWords.{moves_sleepers, moves_groups}
 use Rattle.eip_history.proofs.Lists.{related-set, related-at, related-length, slice_get-some, numbered-at}
 use Rattle.eip_history.proofs.Main.{legal-add}
 use Rattle.eip_history.proofs.Told.{births-numbered}
@@ -40,6 +40,7 @@ use Rattle.eip_table_laws.proofs.RowNumbers.{numbers-stay, numbers-join, count-s
 use Rattle.eip_table_laws.proofs.RowPlaces.{Placed, row-place, row-on, row-other, answer-other, pause-placed}
 use Rattle.eip_table_laws.proofs.SourceEvents.{births-same, get-set-other}
 use Rattle.eip_table_laws.proofs.SleepersKept.{sleepers-stay}
+use Rattle.eip_table_laws.proofs.GroupsKept.{groups-stay}
 use Rattle.eip_table_laws.proofs.OwnEvents.{IsOfOne, IsWoken, AlsoMoves, notes_in, stands-own, stands-one}
 
 -- who stands in its place Joining has a row that waits
@@ -100,7 +101,7 @@ pub stands-end : (set : RouteSet) (workers limit : ℕ) (past : Past) (t : Table
     → ((b : Birth) → slice_get (births (plan_of set) past) i ≡ Some b → RowStands set past b old → RowStands set ((record { worker = w; kind = k }) ∷ past) b new)
     → ready ≡ row_numbers row_ready 1 (put_at t.rows i new) → taken + bit (row_held old) ≡ t.taken + bit (row_held new) → live + bit (row_live old) ≡ t.live + bit (row_live new)
     → (KeepsRules (plan_of set) workers limit ((record { worker = w; kind = k }) ∷ past) → QueuesStand set ((record { worker = w; kind = k }) ∷ past) queues)
-    → (KeepsRules (plan_of set) workers limit ((record { worker = w; kind = k }) ∷ past) → JoinsStand set ((record { worker = w; kind = k }) ∷ past) joins) → moves_sleepers k ≡ false
+    → (KeepsRules (plan_of set) workers limit ((record { worker = w; kind = k }) ∷ past) → JoinsStand set ((record { worker = w; kind = k }) ∷ past) joins) → moves_sleepers k ≡ false → moves_groups k ≡ false
     → Stands set workers limit ((record { worker = w; kind = k }) ∷ past) (record t {
       rows = rows_behind behind (put_at t.rows i new);
       ready = ready_behind behind ready;
@@ -111,14 +112,14 @@ pub stands-end : (set : RouteSet) (workers limit : ℕ) (past : Past) (t : Table
       queues = queues;
       joins = joins;
     })
-stands-end routes workers limit past t w x i k old new ready taken live queues joins None st lw may of none x_is at moves here ready_is taken_is live_is queues_are joins_are wakeful =
+stands-end routes workers limit past t w x i k old new ready taken live queues joins None st lw may of none x_is at moves here ready_is taken_is live_is queues_are joins_are wakeful still =
     stands-one routes workers limit past t w x i k old new ready taken live queues joins t.sleepers st lw may of none x_is at moves here ready_is taken_is live_is queues_are joins_are
-    (λ legal. sleepers-stay routes workers limit w k past t.sleepers legal wakeful st.sleepers)
-stands-end routes workers limit past t w x i k old new ready taken live queues joins (Some zero) st lw may of none x_is at moves here ready_is taken_is live_is queues_are joins_are wakeful =
+    (λ legal. sleepers-stay routes workers limit w k past t.sleepers legal wakeful st.sleepers) still
+stands-end routes workers limit past t w x i k old new ready taken live queues joins (Some zero) st lw may of none x_is at moves here ready_is taken_is live_is queues_are joins_are wakeful still =
     let m = moves (legal-add (plan_of routes) workers limit (record { worker = w; kind = k }) past st.legal lw may).entries in
     let there : None ≡ Some m.birth = m.at in
     absurd (cc there)
-stands-end routes workers limit past t w x i k old new ready taken live queues joins (Some (suc j)) st lw may of none x_is at moves here ready_is taken_is live_is queues_are joins_are wakeful =
+stands-end routes workers limit past t w x i k old new ready taken live queues joins (Some (suc j)) st lw may of none x_is at moves here ready_is taken_is live_is queues_are joins_are wakeful still =
     let e : Entry = record { worker = w; kind = k } in
     let s = plan_of routes in
     let rules = (legal-add s workers limit e past st.legal lw may).entries in
@@ -142,12 +143,12 @@ stands-end routes workers limit past t w x i k old new ready taken live queues j
     let l' : row_live (woken found.0) ≡ true = ap state_live now_state in
     let place : 1 + j ≡ suc j = omega arith in
     rw (before, there)
-    (stands-own routes workers limit past t w x k (put_at (put_at t.rows i new) j (woken found.0)) (ready_behind (Some (suc j)) ready) taken live queues joins t.sleepers st lw may of
+    (stands-own routes workers limit past t w x k (put_at (put_at t.rows i new) j (woken found.0)) (ready_behind (Some (suc j)) ready) taken live queues joins t.sleepers t.groups st lw may of
     (λ legal. rw (births-same routes workers limit e past legal (st.simple, of.simple) none) (both legal m found.0 waits.0 waits.1 waits.2 alone stands b_at number))
     (rw (ready_is, ← place) (sym (numbers-join row_ready 1 (put_at t.rows i new) j found.0 (woken found.0) there was_ready now_ready)))
     (let c = count-set row_held t.rows i old new at in let d = count-set row_held (put_at t.rows i new) j found.0 (woken found.0) there in let u = ap bit h in let v = ap bit h' in omega (arith, c, d, u, v, taken_is, st.taken))
     (let c = count-set row_live t.rows i old new at in let d = count-set row_live (put_at t.rows i new) j found.0 (woken found.0) there in let u = ap bit l in let v = ap bit l' in omega (arith, c, d, u, v, live_is, st.live))
-    queues_are joins_are (λ legal. sleepers-stay routes workers limit w k past t.sleepers legal wakeful st.sleepers))
+    queues_are joins_are (λ legal. sleepers-stay routes workers limit w k past t.sleepers legal wakeful st.sleepers) (groups-stay routes w k past t.groups still st.groups))
   where
     -- the rows but the parent's, and then the parent's
     Between : Birth → Row → Type 0

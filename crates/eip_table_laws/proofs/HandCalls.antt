@@ -35,7 +35,7 @@ use Rattle.eip_history.proofs.Places.{ended-is}
 use Rattle.eip_history.proofs.Unborn.{birth-stays}
 use Rattle.eip_plan.specs.Plan.{plan_of}
 use Rattle.eip_plan.specs.Simple.{IsSimple}
-use Rattle.eip_plan.proofs.Items.{bears, outside-simple, fits-simple, outside-unqueued, outside-unborn, outside-wakeful, unborn-births}
+use Rattle.eip_plan.proofs.Items.{bears, outside-simple, fits-simple, outside-unqueued, outside-unborn, outside-wakeful, unborn-births, outside-ungrouped}
 use Rattle.eip_meaning.proofs.Laws.{asked-finish}
 use Rattle.eip_progress.specs.declared.cursor.Cursor.{Cursor}
 use Rattle.eip_seda.specs.Consuming.{QueueView}
@@ -331,7 +331,7 @@ module _ {routes : RouteSet} {workers limit : ℕ} {past : Past} (t : Tables) (w
         (rw (b, b') (omega arith)) (rw (l, l') refl)
         (λ legal. queues-stay routes workers limit w (Take x) past t.queues legal refl refl st.queues)
         (λ legal. joins-stay routes workers limit w (Take x) past t.joins legal refl st.joins)
-        (λ legal. sleepers-stay routes workers limit w (Take x) past t.sleepers legal refl st.sleepers))
+        (λ legal. sleepers-stay routes workers limit w (Take x) past t.sleepers legal refl st.sleepers) refl)
 
   -- it is in this worker's hand
   module _ (placed : place (plan_of routes) past x ≡ Some (place_is.InHand w)) where
@@ -450,7 +450,7 @@ module _ {routes : RouteSet} {workers limit : ℕ} {past : Past} (t : Tables) (w
         (ap (put_in x) st.ready ∙ sym (rw number at (numbers-join row_ready 1 t.rows (x - 1) r (answered (length past) r) row (ap state_ready in-hand.1) (ap state_ready now))))
         (rw (was-held, b) (omega (arith, n))) (rw (was-live, l) refl) (same-queues q a asks fit goes)
         (λ legal. joins-on routes workers limit w x a past legal (lives-on q a asks fit goes) (outside-closes q a k.outside fit) (unopened routes past x (record { birth = (here (place_is.InHand w) placed).birth; request = q; at = k.asking.at }) k.asked_is (outside-other q k.outside)) st.joins)
-        (λ legal. sleepers-stay routes workers limit w (Answer x a) past t.sleepers legal (outside-wakeful q a k.outside fit) st.sleepers))
+        (λ legal. sleepers-stay routes workers limit w (Answer x a) past t.sleepers legal (outside-wakeful q a k.outside fit) st.sleepers) (outside-ungrouped q a k.outside fit))
 
     -- it ends as its source took it
     module _ (q : Request) (e : End) (a : Reply) (asks : IsAsked (plan_of routes) past x q) (fit : fits q a ≡ true) (ends : end_asked (Some q) ≡ Some e) where
@@ -532,7 +532,7 @@ module _ {routes : RouteSet} {workers limit : ℕ} {past : Past} (t : Tables) (w
           (st.ready ∙ sym (numbers-stay row_ready 1 t.rows (x - 1) r (ended_by e a r) row (ap state_ready in-hand.1 ∙ sym (ap state_ready now-over))))
           (rw (was-held, b) (omega (arith, n))) (rw (was-live, l) (omega (arith, m)))
           (λ legal. queues-ended workers limit w x (Answer x a) h.birth t.queues (leaving-answer x a (outside-unqueued q a told-end.outside fit)) legal h.at over-some st.queues r.born queues h.stands.born leaves) joins-over
-          (λ legal. sleepers-stay routes workers limit w (Answer x a) past t.sleepers legal (outside-wakeful q a told-end.outside fit) st.sleepers))
+          (λ legal. sleepers-stay routes workers limit w (Answer x a) past t.sleepers legal (outside-wakeful q a told-end.outside fit) st.sleepers) (outside-ungrouped q a told-end.outside fit))
 
     pub end-not-outside : (q : Request) (e : End) (a : Reply) → IsAsked (plan_of routes) past x q → fits q a ≡ true → end_asked (Some q) ≡ Some e → row_outside (ended_by e a r) ≡ false
     end-not-outside q e a asks fit ends =
@@ -616,4 +616,4 @@ module _ {routes : RouteSet} {workers limit : ℕ} {past : Past} (t : Tables) (w
           (subst (λ (n : ℕ). HasEnded routes ((record { worker = w; kind = Starve n }) ∷ past) d closing.Starved) (number-of (place_is.InHand w) placed d d_at) (has-starved routes past w d)))
           (st.ready ∙ sym (numbers-stay row_ready 1 t.rows (x - 1) r (closed stage.Starved r) row (ap state_ready in-hand.1)))
           (rw was-held (omega (arith, n))) (rw was-live (omega (arith, m)))
-          (λ legal. queues-ended workers limit w x (Starve x) h.birth t.queues (leaving-starve x) legal h.at gone-some st.queues r.born queues h.stands.born leaves) joins-gone refl)
+          (λ legal. queues-ended workers limit w x (Starve x) h.birth t.queues (leaving-starve x) legal h.at gone-some st.queues r.born queues h.stands.born leaves) joins-gone refl refl)

@@ -39,6 +39,7 @@ module _ {set : RouteSet} {past : Past} (workers limit w x : ℕ) (k : Kind) (b 
   pub may-leave : (o : Born) → ComesFrom (plan_of set) past o b → MayLeave o queues
   may-leave (made.Item i) h = tt
   may-leave (made.Part y j) h = tt
+  may-leave (made.Group y c) h = tt
   may-leave (made.Copy q) h = queues-busy set workers limit w x q k past b queues of legal at h gone st
 
   pub queues-ended : (o : Born) (new : List QueueView) → ComesFrom (plan_of set) past o b → Leaves o queues new → QueuesStand set ((record { worker = w; kind = k }) ∷ past) new
@@ -46,6 +47,9 @@ module _ {set : RouteSet} {past : Past} (workers limit w x : ℕ) (k : Kind) (b 
       subst (λ (qs : List QueueView). QueuesStand set ((record { worker = w; kind = k }) ∷ past) qs) (sym l)
       (queues-apart set workers limit w x k past b queues of legal at (λ q. not-into q b.origin h.source h.item (born-origin (plan_of set) past i b h)) st)
   queues-ended (made.Part y j) new h l =
+      subst (λ (qs : List QueueView). QueuesStand set ((record { worker = w; kind = k }) ∷ past) qs) (sym l)
+      (queues-apart set workers limit w x k past b queues of legal at (λ q. ap (is_born_into q) h) st)
+  queues-ended (made.Group y c) new h l =
       subst (λ (qs : List QueueView). QueuesStand set ((record { worker = w; kind = k }) ∷ past) qs) (sym l)
       (queues-apart set workers limit w x k past b queues of legal at (λ q. ap (is_born_into q) h) st)
   queues-ended (made.Copy q) new h l = queues-left set workers limit w x q k past b queues new of legal at h gone l st

@@ -4,6 +4,11 @@ pub mod RowSteps
 pub mod PartFacts
 pub mod JoinsKept
 pub mod SleepersKept
+pub mod GroupLists
+pub mod GroupParts
+pub mod GroupLaws
+pub mod GroupsKept
+pub mod GroupShut
 pub mod SourceEvents
 pub mod OwnEvents
 pub mod Telling
@@ -19,9 +24,12 @@ pub mod LookCalls
 pub mod OfferCalls
 pub mod AskedPlaces
 pub mod PartCalls
+pub mod GroupCalls
+pub mod GroupRows
 pub mod SleepCalls
 pub mod InnerCalls
 pub mod StopCalls
+pub mod OpenGroups
 pub mod Bounds
 pub mod RowTicks
 pub mod DueMoments

@@ -75,6 +75,8 @@ told-by set past x b (made.Copy q) true kept f n h k l = k
 told-by set past x b (made.Copy q) false kept f n h k l = absurd (cc l)
 told-by set past x b (made.Part y j) true kept f n h k l = k.0
 told-by set past x b (made.Part y j) false kept f n h k l = absurd (cc l)
+told-by set past x b (made.Group g c) true kept f n h k l = rw k.1 (ap (λ (d : Birth). Some d) (sym k.2))
+told-by set past x b (made.Group g c) false kept f n h k l = absurd (cc l)
 
 -- a ready row is new, asks, or has an answer to come
 module _ {routes : RouteSet} {workers limit : ℕ} {past : Past} (t : Tables) (x : ℕ) (r : Row) (st : Stands routes workers limit past t)

@@ -1,18 +1,25 @@
 -- What an exchange that offers to a queue is known to offer, and how many exchanges there are.
-use Rattle.std.proofs.Common.{◌≡◌, ℕ, suc, ◌+◌, ◌*◌, ◌-◌, ◌≤◌, Bool, false, List, [], ◌∷◌, length, map, Option, Some, None, refl, sym, ap, ◌∙◌, arith, length-append}
+use Rattle.std.proofs.Common.{◌≡◌, ℕ, suc, ◌+◌, ◌*◌, ◌-◌, ◌≤◌, ◌==◌, Bool, true, false, cond, List, [], ◌∷◌, length, map, filter, Option, Some, None, refl, sym, ap, ◌∙◌, arith, inl, inr, length-append}
+use Rattle.std.proofs.lemmas.Bool.{and_parts, cases_Bool}
 use Rattle.std.specs.List.{slice_get}
 use Rattle.eip_frames.specs.declared.answer.Answer.TheVariants as reply
+use Rattle.eip_frames.specs.declared.answer.Completion.{Completion}
+use Rattle.eip_frames.specs.declared.answer.Completion.TheVariants as by
 use Rattle.eip_frames.specs.Fate.{AsksNext}
 use Rattle.eip_frames.specs.declared.request.Seed.{Seed}
 use Rattle.eip_frames.specs.declared.request.Request.{Request}
 use Rattle.eip_frames.specs.declared.request.Request.TheVariants as request
 use Rattle.eip_route.specs.declared.route.RouteSet.{RouteSet}
 use Rattle.eip_ledger.specs.declared.entry.Kind.{Kind}
-use Rattle.eip_ledger.specs.declared.entry.Kind.TheVariants.{Accept, Answer}
+use Rattle.eip_ledger.specs.declared.entry.Kind.TheVariants.{Accept, Answer, Tick, Force}
 use Rattle.eip_history.specs.Plan.{Plan}
 use Rattle.eip_history.specs.Own.{Past, own, answers, numbered, turns, turns_in}
-use Rattle.eip_history.specs.Births.{Asked, Story, story, births, asked, asked_of, made_at, made_by, made_for, part_births}
-use Rattle.eip_history.specs.Rules.{KeepsRules, May, next}
+use Rattle.eip_history.specs.Births.{Asked, Story, story, births, groups, asked, asked_of, made_at, made_by, made_for, part_births, group_births}
+use Rattle.eip_history.specs.Groups.{Group, is_open, is_due, is_forced, put_group}
+use Rattle.eip_history.specs.Rules.{KeepsRules, May, next, group_at}
+use Rattle.eip_history.specs.TableWords.{moves_groups}
+use Rattle.eip_history.proofs.Falls.{open-due, closed-count}
+use Rattle.eip_history.proofs.GroupTable.{groups-same, groups-own, groups-closed, groups-tick, groups-force}
 use Rattle.eip_history.proofs.Limit.{turns-more}
 use Rattle.eip_history.proofs.Told.{births-none}
 use Rattle.eip_history.proofs.Unborn.{legal-tail, legal-may, asked-born}
@@ -29,6 +36,7 @@ use Rattle.eip_tables.specs.State.{state_of, known_of}
 use Rattle.eip_tables.specs.State as state
 use Rattle.eip_table_laws.proofs.LookCalls.{known-state, known-request}
 use Rattle.eip_table_laws.proofs.PartFacts.{asks-meaning}
+use Rattle.eip_table_laws.proofs.GroupLaws.{arrives}
 
 abbrev queue_of : Option (ℕ × Bool) → ℕ
 queue_of (Some p) = p.0
@@ -84,17 +92,97 @@ few-parts set limit w past x first count may =
     let few = few-asked set past x k sp.0 may.asked_is sp.1 in
     omega (arith, many, few.few)
 
-few-born : (set : RouteSet) (limit w : ℕ) (past : Past) (k : Kind) → May (plan_of set) limit past w k → length (simple_births (plan_of set) past k) ≤ turns_in k * 10000
-few-born set limit w past (Accept source item m) may = omega arith
-few-born set limit w past (Answer x (reply.Queued n)) may = let l = few-by (plan_of set) (story (plan_of set) past) past (asked_of (plan_of set) past (numbered (births (plan_of set) past) x)) n in omega (arith, l)
-few-born set limit w past (Answer x (reply.Born first count)) may = let l = few-parts set limit w past x first count may in omega (arith, l)
-few-born set limit w past _ may = omega arith
+-- and by one that closes a group one
+shut-for : (s : Plan) (t : Story) (past : Past) (k : Asked) (q : Request) (g n : ℕ) (c : Completion) → length (made_for s t past k q (reply.Closed g c n)) ≤ 1
+shut-for s t past k (request.Arrive a key m) g n c = omega arith
+shut-for s t past k _ g n c = omega arith
 
-pub births-few : (set : RouteSet) (w limit : ℕ) (past : Past) → KeepsRules (plan_of set) w limit past → AnswersSimply past → length (births (plan_of set) past) ≤ turns past * 10000
-births-few set w limit [] legal simple = rw (births-none (plan_of set)) (omega arith)
-births-few set w limit (e ∷ past) legal simple =
+shut-by : (s : Plan) (t : Story) (past : Past) (o : Option Asked) (g n : ℕ) (c : Completion) → length (made_by s t past o (reply.Closed g c n)) ≤ 1
+shut-by s t past None g n c = omega arith
+shut-by s t past (Some k) g n c = shut-for s t past k k.request g n c
+
+few-still : (set : RouteSet) (limit w : ℕ) (past : Past) (k : Kind) → moves_groups k ≡ false → May (plan_of set) limit past w k → length (simple_births (plan_of set) past k) ≤ turns_in k * 10000
+few-still set limit w past (Accept source item m) h may = omega arith
+few-still set limit w past (Answer x (reply.Queued n)) h may = let l = few-by (plan_of set) (story (plan_of set) past) past (asked_of (plan_of set) past (numbered (births (plan_of set) past) x)) n in omega (arith, l)
+few-still set limit w past (Answer x (reply.Born first count)) h may = let l = few-parts set limit w past x first count may in omega (arith, l)
+few-still set limit w past (Answer x (reply.Closed g c n)) h may = absurd (cc h)
+few-still set limit w past (Tick t) h may = absurd (cc h)
+few-still set limit w past Force h may = absurd (cc h)
+few-still set limit w past _ h may = omega arith
+
+-- ---- open groups, each of which will be one exchange at most
+
+abbrev pub opened : Plan → Past → ℕ
+opened s past = length (filter is_open (groups s past))
+
+opened-none : (s : Plan) → opened s [] ≡ 0
+unfolding story
+opened-none s = refl
+
+open-put : (g : Group) (gs : List Group) → length (filter is_open (put_group g gs)) ≤ length (filter is_open gs) + 1
+open-put g [] = elim (is_open g) as (λ v. length (cond v (g ∷ []) []) ≤ 1) [ true ↦ omega arith | false ↦ omega arith ]
+open-put g (d ∷ gs) =
+    let ih = open-put g gs in
+    elim (d.number == g.number) as (λ v. length (filter is_open (cond v (g ∷ gs) (d ∷ put_group g gs))) ≤ length (filter is_open (d ∷ gs)) + 1) [
+      | true ↦ elim (is_open g) as (λ v. length (cond v (g ∷ filter is_open gs) (filter is_open gs)) ≤ length (filter is_open (d ∷ gs)) + 1) [
+        | true ↦ elim (is_open d) as (λ v. suc (length (filter is_open gs)) ≤ length (cond v (d ∷ filter is_open gs) (filter is_open gs)) + 1) [ true ↦ omega arith | false ↦ omega arith ]
+        | false ↦ elim (is_open d) as (λ v. length (filter is_open gs) ≤ length (cond v (d ∷ filter is_open gs) (filter is_open gs)) + 1) [ true ↦ omega arith | false ↦ omega arith ]
+      ]
+      | false ↦ elim (is_open d) as (λ v. length (cond v (d ∷ filter is_open (put_group g gs)) (filter is_open (put_group g gs))) ≤ length (cond v (d ∷ filter is_open gs) (filter is_open gs)) + 1) [
+        | true ↦ omega (arith, ih)
+        | false ↦ omega (arith, ih)
+      ]
+    ]
+
+births-many : (s : Plan) (n : ℕ) (c : Completion) (gs : List Group) → length (group_births s n c gs) ≡ length gs
+births-many s n c [] = refl
+births-many s n c (g ∷ gs) = ap suc (births-many s (n + 1) c gs)
+
+forced-open : (s : Plan) (g : Group) → is_forced s g ≡ true → is_open g ≡ true
+forced-open s g h = (and_parts (is_open g) (s.group g.aggregator).force h).0
+
+few-moved : (set : RouteSet) (limit w : ℕ) (past : Past) (k : Kind) → moves_groups k ≡ true → May (plan_of set) limit past w k
+    → length (simple_births (plan_of set) past k) + opened (plan_of set) ((record { worker = w; kind = k }) ∷ past) ≤ opened (plan_of set) past + turns_in k * 10000
+few-moved set limit w past (Answer x (reply.Arrived n)) h may =
+    let q = arrives may.asks.request (reply.Arrived n) refl may.fitting in
+    let same = ap (λ (gs : List Group). length (filter is_open gs)) (groups-own (plan_of set) w x n past may.asks q.0 q.1 q.2 may.asked_is q.3) in
+    let l = open-put (group_at (plan_of set) past may.asks q.0 q.1 q.2) (groups (plan_of set) past) in
+    omega (arith, same, l)
+few-moved set limit w past (Answer x (reply.Closed g c n)) h may =
+    let q = arrives may.asks.request (reply.Closed g c n) refl may.fitting in
+    let same = ap (λ (gs : List Group). length (filter is_open gs)) (groups-closed (plan_of set) w x g n c past may.asks q.0 q.1 q.2 may.asked_is q.3) in
+    let l = open-put (record (group_at (plan_of set) past may.asks q.0 q.1 q.2) { closed = Some c }) (groups (plan_of set) past) in
+    let m : length (simple_births (plan_of set) past (Answer x (reply.Closed g c n))) ≤ 1 = shut-by (plan_of set) (story (plan_of set) past) past (asked_of (plan_of set) past (numbered (births (plan_of set) past) x)) g n c in
+    omega (arith, same, l, m)
+few-moved set limit w past (Tick t) h may =
+    let same = ap (λ (gs : List Group). length (filter is_open gs)) (groups-tick (plan_of set) w t past) in
+    let l = closed-count by.Timeout (is_due (plan_of set) t) (groups (plan_of set) past) (λ g y. open-due (plan_of set) t g y) in
+    let m : length (simple_births (plan_of set) past (Tick t)) ≡ length (filter (is_due (plan_of set) t) (groups (plan_of set) past)) = births-many (plan_of set) (length (births (plan_of set) past) + 1) by.Timeout (filter (is_due (plan_of set) t) (groups (plan_of set) past)) in
+    omega (arith, same, l, m)
+few-moved set limit w past Force h may =
+    let same = ap (λ (gs : List Group). length (filter is_open gs)) (groups-force (plan_of set) w past) in
+    let l = closed-count by.Force (is_forced (plan_of set)) (groups (plan_of set) past) (λ g y. forced-open (plan_of set) g y) in
+    let m : length (simple_births (plan_of set) past Force) ≡ length (filter (is_forced (plan_of set)) (groups (plan_of set) past)) = births-many (plan_of set) (length (births (plan_of set) past) + 1) by.Force (filter (is_forced (plan_of set)) (groups (plan_of set) past)) in
+    omega (arith, same, l, m)
+few-moved set limit w past (Answer x _) h may = absurd (cc h)
+few-moved set limit w past _ h may = absurd (cc h)
+
+few-born : (set : RouteSet) (limit w : ℕ) (past : Past) (k : Kind) → May (plan_of set) limit past w k
+    → length (simple_births (plan_of set) past k) + opened (plan_of set) ((record { worker = w; kind = k }) ∷ past) ≤ opened (plan_of set) past + turns_in k * 10000
+few-born set limit w past k may = elim (cases_Bool (moves_groups k)) [
+  | inl t ↦ few-moved set limit w past k t may
+  | inr f ↦ (let same = ap (λ (gs : List Group). length (filter is_open gs)) (groups-same (plan_of set) w k past f) in let l = few-still set limit w past k f may in omega (arith, same, l))
+]
+
+-- exchanges and open groups together
+pub few-all : (set : RouteSet) (w limit : ℕ) (past : Past) → KeepsRules (plan_of set) w limit past → AnswersSimply past → length (births (plan_of set) past) + opened (plan_of set) past ≤ turns past * 10000
+few-all set w limit [] legal simple = let b = ap length (births-none (plan_of set)) in let n = opened-none (plan_of set) in omega (arith, b, n)
+few-all set w limit (e ∷ past) legal simple =
     let s = plan_of set in
-    let ih = births-few set w limit past (legal-tail s w limit e past legal) simple.0 in
+    let ih = few-all set w limit past (legal-tail s w limit e past legal) simple.0 in
     let many : length (births s (e ∷ past)) ≡ length (births s past) + length (simple_births s past e.kind) =
     ap length (births-simply s w limit e past legal simple) ∙ length-append (births s past) (simple_births s past e.kind) in
     omega (arith, ih, many, few-born set limit e.worker past e.kind (legal-may s w limit e past legal), turns-more e past)
+
+pub births-few : (set : RouteSet) (w limit : ℕ) (past : Past) → KeepsRules (plan_of set) w limit past → AnswersSimply past → length (births (plan_of set) past) ≤ turns past * 10000
+births-few set w limit past legal simple = let l = few-all set w limit past legal simple in omega (arith, l)

@@ -70,6 +70,7 @@ told-origin set past b (made.Item i) h =
     ap origin_in at ∙ ap (λ o. Some o) (sym (born-origin (plan_of set) past i b h))
 told-origin set past b (made.Copy q) h = ap (λ o. Some o) (sym h)
 told-origin set past b (made.Part y j) h = ap (λ o. Some o) (sym h)
+told-origin set past b (made.Group g c) h = ap (λ o. Some o) (sym h)
 
 module _ {set : RouteSet} {workers limit : ℕ} {past : Past} (t : Tables) (st : Stands set workers limit past t) (x : ℕ) where
   pub origin-beyond : length t.rows < x → None ≡ origin_at (plan_of set) past x

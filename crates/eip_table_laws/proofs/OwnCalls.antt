@@ -29,7 +29,7 @@ use Rattle.eip_history.specs.Births.{births, fate, asked, Asked, story, made_by}
 use Rattle.eip_history.specs.Place.{place, place_of, ended, end_of, waiting, joined, all_ended, pause_of, Runs}
 use Rattle.eip_history.specs.Rules.{IsBelow, KeepsRules, May, MayAct, Content}
 use Rattle.eip_history.specs.Tables.{without, bit}
-use Rattle.eip_history.specs.TableWords.{open_parts, born_by, is_sleep}
+use Rattle.eip_history.specs.TableWords.{open_parts, born_by, is_sleep, is_arrival}
 use Rattle.eip_history.proofs.Limit.{not-same, turns-more}
 use Rattle.eip_history.proofs.Lists.{related-at, related-length, related-push, numbered-at, slice_get-some}
 use Rattle.eip_history.proofs.Told.{births-more, births-numbered}
@@ -59,6 +59,8 @@ use Rattle.eip_tables.specs.Closing as closing
 use Rattle.eip_tables.specs.State as state
 use Rattle.eip_tables.specs.State.{State, state_of, state_by}
 use Rattle.eip_tables.specs.Queues.{MayLeave, Leaves}
+use Rattle.eip_tables.specs.Groups.{GroupsStand}
+use Rattle.eip_aggregator.specs.Tables.{Table}
 use Rattle.eip_tables.specs.Parts.{rows_behind, ready_behind}
 use Rattle.eip_tables.specs.Joins.{JoinsStand, MayTell, Tells, Wakes, Closes, closing as closing_calls}
 use Rattle.eip_tables.specs.Rows.{ComesFrom, Keeps, RowStands, IsAsking, HasAnswer, HasEnded, closed_end, row_ready, row_held, row_live, state_ready, state_held, state_live}
@@ -66,13 +68,14 @@ use Rattle.eip_tables.specs.Stands.{Tables, Stands}
 use Rattle.eip_table_laws.proofs.PartFacts.{IsNoJoin, unopened, answer-lives, joined-many, stands-alive}
 use Rattle.eip_table_laws.proofs.JoinsKept.{opens, ends-are, ready-is, joins-on, joins-closed}
 use Rattle.eip_table_laws.proofs.SleepersKept.{sleepers-stay}
+use Rattle.eip_table_laws.proofs.GroupsKept.{groups-stay}
 use Rattle.eip_table_laws.proofs.Telling.{IsShut, shut-none, shut-closing, may-tell, joins-ended, also-moves, woken-within, starved-end, starved-told}
 use Rattle.eip_table_laws.proofs.RowNumbers.{numbers-stay, numbers-leave, count-set, count-push, push-none}
 use Rattle.eip_table_laws.proofs.RowPlaces.{plan-mean, row-is_ready, row-on, row-ended, fate-asks}
 use Rattle.eip_table_laws.proofs.RowSteps.{mean-asks, runs-simple, fate-answer, has-answer, has-finished, has-starved, closing_of, IsNoFinish}
 use Rattle.eip_table_laws.proofs.QueueCalls.{queues-on, queues-offered, leaving-answer, leaving-starve}
 use Rattle.eip_table_laws.proofs.Leaving.{ends-some, may-leave, queues-ended}
-use Rattle.eip_table_laws.proofs.OwnEvents.{AlsoMoves, stands-own, stands-one, rows-one, apart-lives, notes_in, of-answer, of-starve}
+use Rattle.eip_table_laws.proofs.OwnEvents.{AlsoMoves, stands-own, stands-beside, rows-one, apart-lives, notes_in, of-answer, of-starve}
 use Rattle.eip_table_laws.proofs.Ending.{stands-end}
 
 -- an exchange with a place has its row
@@ -156,7 +159,7 @@ asks-fields (stage.Answered i) (Some c') oq f c q h = absurd (cc h)
 asks-fields _ _ _ f c q h = absurd (cc h)
 
 -- an exchange whose line is written has that answer to come
-answered-state : (i : ℕ) (r : Row) (c : Cursor) (q : Request) → state_of r ≡ state.Asks c q → state_of (answered i r) ≡ state.Answered c i
+pub answered-state : (i : ℕ) (r : Row) (c : Cursor) (q : Request) → state_of r ≡ state.Asks c q → state_of (answered i r) ≡ state.Answered c i
 answered-state i r c q h = let f = asks-fields r.stage r.cursor r.request r.fault c q h in rw f.0 refl
 
 ended-state : (e : End) (r : Row) → state_of (finished e r) ≡ state.Ended (closing_of e)
@@ -169,13 +172,14 @@ pub hops-told : (s : Plan) (past : Past) (o : Born) (kept : Option Birth) (f : O
 hops-told s past (made.Item i) kept f b h k = sym (ap (λ (d : Birth). d.hops) h.birth)
 hops-told s past (made.Copy q) kept f b h k = rw k refl
 hops-told s past (made.Part y j) kept f b h k = rw k.0 refl
+hops-told s past (made.Group g c) kept f b h k = rw k.1 (ap (λ (d : Birth). d.hops) (sym k.2))
 
 module _ {routes : RouteSet} {workers limit : ℕ} {past : Past} (t : Tables) (w x : ℕ) (st : Stands routes workers limit past t) (lw : w ≤ workers) (c : Cursor) (r : Row)
     (ready : place (plan_of routes) past x ≡ Some place_is.Ready) (row : slice_get t.rows (x - 1) ≡ Some r) where
-  here : IsAt routes past x r place_is.Ready
+  pub here : IsAt routes past x r place_is.Ready
   here = is-at t x place_is.Ready r st ready row
 
-  above : suc (x - 1) ≡ x
+  pub above : suc (x - 1) ≡ x
   above = let h = row-within t x place_is.Ready st ready in omega (arith, h.0)
 
   same-birth : (b : Birth) → slice_get (births (plan_of routes) past) (x - 1) ≡ Some b → here.birth ≡ b
@@ -185,10 +189,10 @@ module _ {routes : RouteSet} {workers limit : ℕ} {past : Past} (t : Tables) (w
   number-of b at = ap (λ (d : Birth). d.number) (sym (same-birth b at)) ∙ here.number
 
   module _ (q : Request) (asks : state_of r ≡ state.Asks c q) where
-    asking : IsAsking routes past here.birth c q None
+    pub asking : IsAsking routes past here.birth c q None
     asking = rw asks at here.stands.stands
 
-    asked-here : asked (plan_of routes) past x ≡ Some (record { birth = here.birth; request = q; at = asking.at })
+    pub asked-here : asked (plan_of routes) past x ≡ Some (record { birth = here.birth; request = q; at = asking.at })
     asked-here = asked-by-fate routes past x here.birth q asking.at here.at (fate-asks routes past here.birth c q None asking)
 
     -- the request that it is known to ask is the one that its next answer is for
@@ -208,7 +212,7 @@ module _ {routes : RouteSet} {workers limit : ℕ} {past : Past} (t : Tables) (w
     live-counts : 1 ≤ t.live
     live-counts = let k = count-set row_live t.rows (x - 1) r (finished end.Completed r) row in let a = ap bit was-live in omega (arith, k, a, st.live)
 
-  has-it : (q : Request) (a : Reply) → state_of r ≡ state.Asks c q → pause_of (Some a) ≡ Runs → IsNoFinish q → fits q a ≡ true → (d : Birth) → slice_get (births (plan_of routes) past) (x - 1) ≡ Some d → RowStands routes past d r
+  pub has-it : (q : Request) (a : Reply) → state_of r ≡ state.Asks c q → pause_of (Some a) ≡ Runs → IsNoFinish q → fits q a ≡ true → (d : Birth) → slice_get (births (plan_of routes) past) (x - 1) ≡ Some d → RowStands routes past d r
       → HasAnswer routes ((record { worker = w; kind = Answer x a }) ∷ past) d c (length past) place_is.Ready
   has-it q a asks runs goes fit d d_at h =
       subst (λ (n : ℕ). HasAnswer routes ((record { worker = w; kind = Answer n a }) ∷ past) d c (length past) place_is.Ready) (number-of d d_at)
@@ -226,15 +230,16 @@ module _ {routes : RouteSet} {workers limit : ℕ} {past : Past} (t : Tables) (w
         let at : slice_get (births (plan_of routes) past) (x - 1) ≡ Some here.birth = subst (λ (n : ℕ). numbered (births (plan_of routes) past) n ≡ Some here.birth) (sym above) here.at in
         ended-is (plan_of routes) (e ∷ past) x here.birth (birth-stays (plan_of routes) e past x here.birth here.at) ∙ (has-it q a asks (runs-simple a unborn wakeful) goes fit here.birth at here.stands).lives
 
-    stands-on : (joins : List (ℕ × Open)) → IsBelow (plan_of routes) limit past → Content (plan_of routes) past (record { birth = here.birth; request = q; at = (asking q asks).at }) q a → notes_in (plan_of routes) past w (Answer x a) ≡ written
+    pub stands-with : (joins : List (ℕ × Open)) (groups : Table) → IsBelow (plan_of routes) limit past → Content (plan_of routes) past (record { birth = here.birth; request = q; at = (asking q asks).at }) q a → notes_in (plan_of routes) past w (Answer x a) ≡ written
         → (KeepsRules (plan_of routes) workers limit ((record { worker = w; kind = Answer x a }) ∷ past) → JoinsStand routes ((record { worker = w; kind = Answer x a }) ∷ past) joins)
+        → GroupsStand routes ((record { worker = w; kind = Answer x a }) ∷ past) groups
         → Stands routes workers limit ((record { worker = w; kind = Answer x a }) ∷ past)
-        (record t { rows = put_at t.rows (x - 1) (answered (length past) r); turns = t.turns + 1; notes = t.notes ++ written; joins = joins })
-    stands-on joins below content written_is joins_are =
+        (record t { rows = put_at t.rows (x - 1) (answered (length past) r); turns = t.turns + 1; notes = t.notes ++ written; joins = joins; groups = groups })
+    stands-with joins groups below content written_is joins_are groups_are =
         let b : row_held (answered (length past) r) ≡ false = ap state_held now-answered in
         let l : row_live (answered (length past) r) ≡ true = ap state_live now-answered in
         rw written_is at
-        (stands-one routes workers limit past t w x (x - 1) (Answer x a) r (answered (length past) r) t.ready t.taken t.live t.queues joins t.sleepers st lw
+        (stands-beside routes workers limit past t w x (x - 1) (Answer x a) r (answered (length past) r) t.ready t.taken t.live t.queues joins t.sleepers groups st lw
         (record {
           asks = record { birth = here.birth; request = q; at = (asking q asks).at };
           asked_is = asked-here q asks;
@@ -248,10 +253,17 @@ module _ {routes : RouteSet} {workers limit : ℕ} {past : Past} (t : Tables) (w
         (st.ready ∙ sym (numbers-stay row_ready 1 t.rows (x - 1) r (answered (length past) r) row (still-ready q asks ∙ sym (ap state_ready now-answered))))
         (rw (not-held q asks, b) refl) (rw (was-live q asks, l) refl)
         (λ legal. queues-on routes workers limit w x a past here.birth t.queues legal (unborn-unqueued a unborn) here.at goes-on st.queues) joins_are
-        (λ legal. sleepers-stay routes workers limit w (Answer x a) past t.sleepers legal wakeful st.sleepers))
+        (λ legal. sleepers-stay routes workers limit w (Answer x a) past t.sleepers legal wakeful st.sleepers) groups_are)
+
+    pub stands-on : (joins : List (ℕ × Open)) → IsBelow (plan_of routes) limit past → Content (plan_of routes) past (record { birth = here.birth; request = q; at = (asking q asks).at }) q a → notes_in (plan_of routes) past w (Answer x a) ≡ written
+        → (KeepsRules (plan_of routes) workers limit ((record { worker = w; kind = Answer x a }) ∷ past) → JoinsStand routes ((record { worker = w; kind = Answer x a }) ∷ past) joins) → is_arrival a ≡ false
+        → Stands routes workers limit ((record { worker = w; kind = Answer x a }) ∷ past)
+        (record t { rows = put_at t.rows (x - 1) (answered (length past) r); turns = t.turns + 1; notes = t.notes ++ written; joins = joins })
+    stands-on joins below content written_is joins_are still =
+        stands-with joins t.groups below content written_is joins_are (groups-stay routes w (Answer x a) past t.groups still st.groups)
 
     -- and its joins are as they were, where it asked for none
-    same-joins : born_by a ≡ None → IsNoJoin q → KeepsRules (plan_of routes) workers limit ((record { worker = w; kind = Answer x a }) ∷ past) → JoinsStand routes ((record { worker = w; kind = Answer x a }) ∷ past) t.joins
+    pub same-joins : born_by a ≡ None → IsNoJoin q → KeepsRules (plan_of routes) workers limit ((record { worker = w; kind = Answer x a }) ∷ past) → JoinsStand routes ((record { worker = w; kind = Answer x a }) ∷ past) t.joins
     same-joins none other legal =
         joins-on routes workers limit w x a past legal goes-on none (unopened routes past x (record { birth = here.birth; request = q; at = (asking q asks).at }) (asked-here q asks) other) st.joins
 
@@ -263,7 +275,7 @@ module _ {routes : RouteSet} {workers limit : ℕ} {past : Past} (t : Tables) (w
       let q : Request = request.Log name text in
       let note : List Note = (record { number = x; name = name; text = text }) ∷ [] in
       let written : notes_in (plan_of routes) past w (Answer x reply.Noted) ≡ note = rw (asked-here q asks, here.number) refl in
-      stands-on q reply.Noted note asks refl tt refl refl tt refl t.joins below tt written (same-joins q reply.Noted note asks refl tt refl refl tt refl refl tt)
+      stands-on q reply.Noted note asks refl tt refl refl tt refl t.joins below tt written (same-joins q reply.Noted note asks refl tt refl refl tt refl refl tt) refl
 
   -- the block of the route that it calls runs
   pub stands-entered : (route : ℕ) → state_of r ≡ state.Asks c (request.Call route) → IsBelow (plan_of routes) limit past
@@ -271,7 +283,7 @@ module _ {routes : RouteSet} {workers limit : ℕ} {past : Past} (t : Tables) (w
       (record t { rows = put_at t.rows (x - 1) (answered (length past) r); turns = t.turns + 1 })
   stands-entered route asks below =
       let q : Request = request.Call route in
-      rw (append-nil t.notes) at (stands-on q reply.Entered [] asks refl tt refl refl tt refl t.joins below tt (rw (asked-here q asks) refl) (same-joins q reply.Entered [] asks refl tt refl refl tt refl refl tt))
+      rw (append-nil t.notes) at (stands-on q reply.Entered [] asks refl tt refl refl tt refl t.joins below tt (rw (asked-here q asks) refl) (same-joins q reply.Entered [] asks refl tt refl refl tt refl refl tt) refl)
 
   -- the queue that it offers to is full
   pub stands-full : (queue size : ℕ) (m : Message) → state_of r ≡ state.Asks c (request.Offer queue false m) → IsBelow (plan_of routes) limit past
@@ -280,7 +292,7 @@ module _ {routes : RouteSet} {workers limit : ℕ} {past : Past} (t : Tables) (w
       (record t { rows = put_at t.rows (x - 1) (answered (length past) r); turns = t.turns + 1 })
   stands-full queue size m asks below many full =
       let q : Request = request.Offer queue false m in
-      rw (append-nil t.notes) at (stands-on q (reply.Full size) [] asks refl tt refl refl tt refl t.joins below (many, full) (rw (asked-here q asks) refl) (same-joins q (reply.Full size) [] asks refl tt refl refl tt refl refl tt))
+      rw (append-nil t.notes) at (stands-on q (reply.Full size) [] asks refl tt refl refl tt refl t.joins below (many, full) (rw (asked-here q asks) refl) (same-joins q (reply.Full size) [] asks refl tt refl refl tt refl refl tt) refl)
 
   -- and drops the copy
   pub stands-dropped : (queue : ℕ) (m : Message) → state_of r ≡ state.Asks c (request.Offer queue true m) → IsBelow (plan_of routes) limit past
@@ -289,7 +301,7 @@ module _ {routes : RouteSet} {workers limit : ℕ} {past : Past} (t : Tables) (w
       (record t { rows = put_at t.rows (x - 1) (answered (length past) r); turns = t.turns + 1 })
   stands-dropped queue m asks below full =
       let q : Request = request.Offer queue true m in
-      rw (append-nil t.notes) at (stands-on q reply.Dropped [] asks refl tt refl refl tt refl t.joins below full (rw (asked-here q asks) refl) (same-joins q reply.Dropped [] asks refl tt refl refl tt refl refl tt))
+      rw (append-nil t.notes) at (stands-on q reply.Dropped [] asks refl tt refl refl tt refl t.joins below full (rw (asked-here q asks) refl) (same-joins q reply.Dropped [] asks refl tt refl refl tt refl refl tt) refl)
 
   -- the copy is refused by the full queue
   pub stands-refused : (queue : ℕ) (discard : Bool) (size : ℕ) (m : Message) → state_of r ≡ state.Asks c (request.Offer queue discard m) → IsBelow (plan_of routes) limit past
@@ -333,7 +345,7 @@ module _ {routes : RouteSet} {workers limit : ℕ} {past : Past} (t : Tables) (w
         let fit : fits q (reply.Joined parts) ≡ true = eq-eqb (length parts) count (joined-many (plan_of routes) past first count parts all) in
         rw (append-nil t.notes) at
         (stands-on q (reply.Joined parts) [] asks refl tt refl refl tt fit joins below all (rw (asked-here q asks) refl)
-        (λ legal. joins-closed routes workers limit w x (reply.Joined parts) past legal (goes-on q (reply.Joined parts) [] asks refl tt refl refl tt fit) joins refl took st.joins))
+        (λ legal. joins-closed routes workers limit w x (reply.Joined parts) past legal (goes-on q (reply.Joined parts) [] asks refl tt refl refl tt fit) joins refl took st.joins) refl)
 
   -- the queue that it offers to is one of the set's
   pub offer-within : (queue : ℕ) (discard : Bool) (m : Message) → state_of r ≡ state.Asks c (request.Offer queue discard m) → queue < (plan_of routes).routes
@@ -342,7 +354,7 @@ module _ {routes : RouteSet} {workers limit : ℕ} {past : Past} (t : Tables) (w
       let laws = plan-laws routes in
       (laws.offers here.birth (answers (own here.birth.number past)) queue discard m a.at (plan-mean routes here.birth (answers (own here.birth.number past)) ∙ mean-asks routes past here.birth c (request.Offer queue discard m) None a)).0
 
-  hops-are : (q : Request) → state_of r ≡ state.Asks c q → hops_by r.born r.birth ≡ here.birth.hops
+  pub hops-are : (q : Request) → state_of r ≡ state.Asks c q → hops_by r.born r.birth ≡ here.birth.hops
   hops-are q asks = hops-told (plan_of routes) past r.born r.birth r.fault here.birth here.stands.born (subst (λ (v : Bool). Keeps r.born v here.birth r.birth r.fault) (ap state_live asks) here.stands.kept)
 
   -- and they are few, since each is a turn
@@ -407,7 +419,7 @@ module _ {routes : RouteSet} {workers limit : ℕ} {past : Past} (t : Tables) (w
         let none : notes_in (plan_of routes) past w (Answer x a) ≡ [] = rw (asked-here q asks) refl in
         let lives = answer-lives routes w x a past k (asked-here q asks) (λ h. cc h) (λ h. cc h) in
         rw (none, append-nil t.notes) at
-        (stands-own routes workers limit past t w x (Answer x a) (put_at t.rows (x - 1) new ++ copy ∷ []) t.ready t.taken (t.live + 1) queues t.joins t.sleepers st lw may-offer (of-answer w x a tt)
+        (stands-own routes workers limit past t w x (Answer x a) (put_at t.rows (x - 1) new ++ copy ∷ []) t.ready t.taken (t.live + 1) queues t.joins t.sleepers t.groups st lw may-offer (of-answer w x a tt)
         (λ legal. rw copy-made
         (related-push (RowStands routes ((record { worker = w; kind = Answer x a }) ∷ past)) (births (plan_of routes) past) (put_at t.rows (x - 1) new) _ copy
         (rows-one routes workers limit past t w x (x - 1) (Answer x a) r new st legal (of-answer w x a tt) above row (apart-lives routes workers limit w x (Answer x a) past legal (of-answer w x a tt) lives)
@@ -418,7 +430,8 @@ module _ {routes : RouteSet} {workers limit : ℕ} {past : Past} (t : Tables) (w
         (let n = count-set row_live t.rows (x - 1) r new row in let p = count-push row_live (put_at t.rows (x - 1) new) copy in let g = ap bit (was-live q asks) in let g' = ap bit l in omega (arith, n, p, g, g', st.live))
         (λ legal. queues-offered routes workers limit w x (length t.rows + 1) past k queue discard m t.queues queues legal (asked-here q asks) refl offers st.queues)
         (λ legal. joins-on routes workers limit w x a past legal lives refl (unopened routes past x k (asked-here q asks) tt) st.joins)
-        (λ legal. sleepers-stay routes workers limit w (Answer x a) past t.sleepers legal refl st.sleepers))
+        (λ legal. sleepers-stay routes workers limit w (Answer x a) past t.sleepers legal refl st.sleepers)
+        (groups-stay routes w (Answer x a) past t.groups refl st.groups))
 
   -- it ends
   module _ (e : End) (m : Message) (asks : state_of r ≡ state.Asks c (request.Finish e m false)) where
@@ -516,7 +529,7 @@ module _ {routes : RouteSet} {workers limit : ℕ} {past : Past} (t : Tables) (w
           (λ d d_at h. row-ended routes (record { worker = w; kind = Answer x reply.Finished }) past d r (finished e r) h refl l (rw now-ended (has-done d d_at h)))
           (ap (without x) st.ready ∙ sym (rw number at (numbers-leave row_ready 1 t.rows (x - 1) (finished e r) (ap state_ready now-ended))))
           (rw (not-held q asks, b) refl) (let n = live-counts q asks in rw (was-live q asks, l) (omega (arith, n)))
-          (λ legal. queues-ended workers limit w x (Answer x reply.Finished) here.birth t.queues (leaving-answer x reply.Finished refl) legal here.at done-some st.queues r.born queues here.stands.born leaves) joins-told refl)
+          (λ legal. queues-ended workers limit w x (Answer x reply.Finished) here.birth t.queues (leaving-answer x reply.Finished refl) legal here.at done-some st.queues r.born queues here.stands.born leaves) joins-told refl refl)
 
 -- a Ready exchange is starved
 module _ {routes : RouteSet} {workers limit : ℕ} {past : Past} (t : Tables) (w x : ℕ) (r : Row) (st : Stands routes workers limit past t) (lw : w ≤ workers)
@@ -595,4 +608,4 @@ module _ {routes : RouteSet} {workers limit : ℕ} {past : Past} (t : Tables) (w
           (subst (λ (n : ℕ). HasEnded routes ((record { worker = w; kind = Starve n }) ∷ past) d closing.Starved) (numbered-at 1 (births s past) (x - 1) d (births-numbered s past) d_at ∙ number) (has-starved routes past w d)))
           (ap (without x) st.ready ∙ sym (rw number at (numbers-leave row_ready 1 t.rows (x - 1) (closed_row stage.Starved r) refl)))
           (rw facts.0 refl) (omega (arith, count, live, st.live))
-          (λ legal. queues-ended workers limit w x (Starve x) starving.birth t.queues (leaving-starve x) legal starving.at starved-some st.queues r.born queues starving.stands.born leaves) joins-starved refl)
+          (λ legal. queues-ended workers limit w x (Starve x) starving.birth t.queues (leaving-starve x) legal starving.at starved-some st.queues r.born queues starving.stands.born leaves) joins-starved refl refl)

@@ -48,6 +48,7 @@ use Rattle.eip_table_laws.proofs.PartFacts.{unopened, answer-lives, joined-none}
 use Rattle.eip_table_laws.proofs.JoinsKept.{awaits, unborn-lives, joins-born}
 use Rattle.eip_table_laws.proofs.QueueCalls.{queues-on}
 use Rattle.eip_table_laws.proofs.SleepersKept.{sleepers-stay}
+use Rattle.eip_table_laws.proofs.GroupsKept.{groups-stay}
 use Rattle.eip_table_laws.proofs.OwnEvents.{stands-own, rows-one, apart-lives, notes_in, of-answer}
 use Rattle.eip_table_laws.proofs.OwnCalls.{IsAt, is-at, row-within, rows-many, asked-by-fate, asks-fields, hops-told}
 use Rattle.eip_table_laws.proofs.OfferCalls.{few-asked}
@@ -69,7 +70,7 @@ seeds-many p n i [] = refl
 seeds-many p n i (d ∷ ds) = ap suc (seeds-many p (n + 1) (i + 1) ds)
 
 -- new numbers behind those of the rows before
-numbers-behind : (f : Row → Bool) (n : ℕ) (rs ss : List Row) → row_numbers f n (rs ++ ss) ≡ row_numbers f n rs ++ row_numbers f (n + length rs) ss
+pub numbers-behind : (f : Row → Bool) (n : ℕ) (rs ss : List Row) → row_numbers f n (rs ++ ss) ≡ row_numbers f n rs ++ row_numbers f (n + length rs) ss
 numbers-behind f n [] ss = let e : n + 0 ≡ n = omega arith in rw e refl
 numbers-behind f n (r ∷ rs) ss =
     let ih = numbers-behind f (n + 1) rs ss in
@@ -79,7 +80,7 @@ numbers-behind f n (r ∷ rs) ss =
       | false ↦ ih
     ])
 
-count-behind : (f : Row → Bool) (rs ss : List Row) → row_count f (rs ++ ss) ≡ row_count f rs + row_count f ss
+pub count-behind : (f : Row → Bool) (rs ss : List Row) → row_count f (rs ++ ss) ≡ row_count f rs + row_count f ss
 count-behind f [] ss = omega arith
 count-behind f (r ∷ rs) ss =
     let ih = count-behind f rs ss in
@@ -98,7 +99,7 @@ parts-free : (p : Parent) (n i : ℕ) (ds : List Seed) → row_count row_held (s
 parts-free p n i [] = refl
 parts-free p n i (d ∷ ds) = parts-free p (n + 1) (i + 1) ds
 
-related-behind : {A B : Type 0} (R : A → B → Type 0) (xs zs : List A) (ys ws : List B) → Related R xs ys → Related R zs ws → Related R (xs ++ zs) (ys ++ ws)
+pub related-behind : {A B : Type 0} (R : A → B → Type 0) (xs zs : List A) (ys ws : List B) → Related R xs ys → Related R zs ws → Related R (xs ++ zs) (ys ++ ws)
 related-behind R [] zs [] ws r h = h
 related-behind R [] zs (y ∷ ys) ws r h = absurd r
 related-behind R (x ∷ xs) zs [] ws r h = absurd r
@@ -281,7 +282,7 @@ module _ {routes : RouteSet} {workers limit : ℕ} {past : Past} (t : Tables) (w
         let l' : row_live new ≡ true = ap state_live now-joining in
         let hops = hops-here in
         rw (none, append-nil t.notes) at
-        (stands-own routes workers limit past t w x (Answer x a) (rows ++ parts) (without x t.ready ++ numbers_from n (length seeds)) t.taken (t.live + length seeds) t.queues joins t.sleepers st lw may-born (of-answer w x a tt)
+        (stands-own routes workers limit past t w x (Answer x a) (rows ++ parts) (without x t.ready ++ numbers_from n (length seeds)) t.taken (t.live + length seeds) t.queues joins t.sleepers t.groups st lw may-born (of-answer w x a tt)
         (λ legal. rw born-now
         (related-behind (RowStands routes (e ∷ past)) (births s past) (seed_births p n i seeds) rows parts
         (rows-one routes workers limit past t w x (x - 1) (Answer x a) r new st legal (of-answer w x a tt) above row (apart-lives routes workers limit w x (Answer x a) past legal (of-answer w x a tt) born-lives)
@@ -294,4 +295,5 @@ module _ {routes : RouteSet} {workers limit : ℕ} {past : Past} (t : Tables) (w
         (let k = count-set row_live t.rows (x - 1) r new row in let b = count-behind row_live rows parts in let z = parts-live p n i seeds in let g = ap bit l in let g' = ap bit l' in omega (arith, k, b, z, g, g', st.live))
         (λ legal. queues-on routes workers limit w x a past here.birth t.queues legal refl here.at born-lives st.queues)
         (λ legal. joins-born routes workers limit w x a past legal born-lives n (length seeds) joins refl (sym next-is) began (let q = within in let all = rows-many t st in omega (arith, q.1, all)) st.joins)
-        (λ legal. sleepers-stay routes workers limit w (Answer x a) past t.sleepers legal refl st.sleepers))
+        (λ legal. sleepers-stay routes workers limit w (Answer x a) past t.sleepers legal refl st.sleepers)
+        (groups-stay routes w (Answer x a) past t.groups refl st.groups))

@@ -1,5 +1,5 @@
 -- Who waits for parts: behind their birth an exchange asks how they ended, and a part that lives is one of those that its parent waits for.
-use Rattle.std.proofs.Common.{◌≡◌, ℕ, zero, suc, ◌+◌, ◌<◌, ◌≤◌, Bool, true, false, List, [], ◌∷◌, ◌++◌, length, Option, Some, None, is_some, refl, sym, ap, subst, ◌∙◌, arith, cond, inl, inr, eq-eqb, ◌==◌, ◌-◌}
+use Rattle.std.proofs.Common.{◌≡◌, ℕ, zero, suc, ◌+◌, ◌<◌, ◌≤◌, Bool, true, false, List, [], ◌∷◌, ◌++◌, length, filter, Option, Some, None, is_some, refl, sym, ap, subst, ◌∙◌, arith, cond, inl, inr, eq-eqb, ◌==◌, ◌-◌}
 use Rattle.std.specs.List.{slice_get}
 use Rattle.std.proofs.lemmas.Bool.{cases_Bool, eqb-true}
 use Rattle.std.proofs.lemmas.List.{append-nil}
@@ -18,7 +18,7 @@ use Rattle.eip_frames.specs.Fate.{Fate, AsksNext, Ends, Strays}
 use Rattle.eip_frames.specs.Fits.{fits}
 use Rattle.eip_ledger.specs.declared.entry.Entry.{Entry}
 use Rattle.eip_ledger.specs.declared.entry.Kind.{Kind}
-use Rattle.eip_ledger.specs.declared.entry.Kind.TheVariants.{Accept, Start, Answer}
+use Rattle.eip_ledger.specs.declared.entry.Kind.TheVariants.{Accept, Start, Answer, Tick, Force}
 use Rattle.eip_ledger.specs.declared.place.Place.{Place}
 use Rattle.eip_ledger.specs.declared.place.Place.TheVariants as place_is
 use Rattle.eip_meaning.specs.Meaning.{mean}
@@ -26,7 +26,10 @@ use Rattle.eip_meaning.proofs.Laws.{ends}
 use Rattle.eip_meaning.proofs.Parts.{born-joins}
 use Rattle.eip_history.specs.Plan.{Plan}
 use Rattle.eip_history.specs.Own.{Past, own, concerns, is_start, answers, answer_in, or_answer, starved, last_answer, numbered, clock}
-use Rattle.eip_history.specs.Births.{Asked, Story, story, births, asked, asked_by, fate, fate_by, made_at, made_by, made_for, part_births}
+use Rattle.eip_history.specs.Births.{Asked, Story, story, births, asked, asked_by, fate, fate_by, groups, made_at, made_by, made_for, part_births, group_births}
+use Rattle.eip_frames.specs.declared.answer.Completion.{Completion}
+use Rattle.eip_frames.specs.declared.answer.Completion.TheVariants as by
+use Rattle.eip_history.specs.Groups.{Group, is_due, is_forced}
 use Rattle.eip_history.specs.Place.{ended, end_of, is_ended, place_of, joined, all_ended, cons_option, pause_of, paused, is_in}
 use Rattle.eip_history.specs.Rules.{KeepsRules, May, Content, next, first}
 use Rattle.eip_history.specs.TableWords.{unless_ended, born_last, open_parts}
@@ -278,6 +281,15 @@ copy-alone : (s : Plan) (t : Story) (past : Past) (k : Asked) (q : Request) (n :
 copy-alone s t past k (request.Offer q discard m) n fit = (λ p i h. cc h, tt)
 copy-alone s t past k _ n fit = absurd (cc fit)
 
+-- nor is the exchange of a closed group
+shut-alone : (s : Plan) (t : Story) (past : Past) (k : Asked) (q : Request) (g n : ℕ) (c : Completion) → fits q (reply.Closed g c n) ≡ true → Each NoPart (made_for s t past k q (reply.Closed g c n))
+shut-alone s t past k (request.Arrive a key m) g n c fit = (λ p i h. cc h, tt)
+shut-alone s t past k _ g n c fit = absurd (cc fit)
+
+groups-alone : (s : Plan) (n : ℕ) (c : Completion) (gs : List Group) → Each NoPart (group_births s n c gs)
+groups-alone s n c [] = tt
+groups-alone s n c (g ∷ gs) = (λ p i h. cc h, groups-alone s (n + 1) c gs)
+
 abbrev origin_of : Option Birth → Option Origin
 origin_of (Some b) = Some b.origin
 origin_of None = None
@@ -382,6 +394,14 @@ awaited set workers limit (e ∷ past) legal simple x d y j at origin lives =
         absurd (each-at NoPart (made_at s past (Answer n (reply.Queued m))) (i - length (births s past)) d
         (subst (λ (o : Option Asked). Each NoPart (made_by s (story s past) past o (reply.Queued m))) (sym may.asked_is) (copy-alone s (story s past) past may.asks may.asks.request m may.fitting)) there y j origin)
     newborn i same l (Answer n (reply.Born first count)) rules there = rw same (part-awaited set workers limit e.worker n first count past i d y j rules l there origin)
+    newborn i same l (Answer n (reply.Closed g c m)) rules there =
+        let may = legal-may s workers limit (record { worker = e.worker; kind = Answer n (reply.Closed g c m) }) past rules in
+        absurd (each-at NoPart (made_at s past (Answer n (reply.Closed g c m))) (i - length (births s past)) d
+        (subst (λ (o : Option Asked). Each NoPart (made_by s (story s past) past o (reply.Closed g c m))) (sym may.asked_is) (shut-alone s (story s past) past may.asks may.asks.request g m c may.fitting)) there y j origin)
+    newborn i same l (Tick t) rules there =
+        absurd (each-at NoPart (made_at s past (Tick t)) (i - length (births s past)) d (groups-alone s (length (births s past) + 1) by.Timeout (filter (is_due s t) (groups s past))) there y j origin)
+    newborn i same l Force rules there =
+        absurd (each-at NoPart (made_at s past Force) (i - length (births s past)) d (groups-alone s (length (births s past) + 1) by.Force (filter (is_forced s) (groups s past))) there y j origin)
     newborn i same l _ rules there = absurd (cc there)
 
     by_number : (n : ℕ) → x ≡ n → numbered (births s past) x ≡ None → IsAwaited s (e ∷ past) y x

@@ -288,6 +288,7 @@ pub comes-stays : (s : Plan) (e : Entry) (past : Past) (o : Born) (b : Birth) �
 comes-stays s e past (made.Item i) b h = born-stays s e past i b h
 comes-stays s e past (made.Copy q) b h = h
 comes-stays s e past (made.Part y j) b h = h
+comes-stays s e past (made.Group g c) b h = h
 
 pub turns-rise : (e : Entry) (past : Past) → turns past ≤ turns (e ∷ past)
 turns-rise e past = omega (arith, turns-more e past)
@@ -312,6 +313,7 @@ keeps-none : (o : Born) (b : Birth) (kept : Option Birth) (f : Option Fault) →
 keeps-none (made.Item i) b kept f = tt
 keeps-none (made.Copy q) b kept f = tt
 keeps-none (made.Part y j) b kept f = tt
+keeps-none (made.Group g c) b kept f = tt
 
 -- a row of the same birth, which lives where the one before it did
 pub row-kept : (old new : Row) (b : Birth) → new.born ≡ old.born → new.birth ≡ old.birth → new.fault ≡ old.fault → row_live old ≡ row_live new → Keeps old.born (row_live old) b old.birth old.fault

@@ -129,7 +129,7 @@ module _ {routes : RouteSet} {workers limit : ℕ} {past : Past} (t : Tables) (w
         (rw (was-held, h) refl) (rw (was-live, l) refl)
         (λ legal. queues-on routes workers limit w x a past here.birth t.queues legal refl here.at lives st.queues)
         (λ legal. joins-on routes workers limit w x a past legal lives refl (unopened routes past x waits asked-here tt) st.joins)
-        (λ legal. sleepers-asleep routes workers limit w x due past legal lives sleepers later slept st.sleepers))
+        (λ legal. sleepers-asleep routes workers limit w x due past legal lives sleepers later slept st.sleepers) refl)
 
     -- its moment is not beyond the clock, so it goes on
     now-awake : state_of (answered (length past) r) ≡ state.Answered c (length past)
@@ -153,4 +153,4 @@ module _ {routes : RouteSet} {workers limit : ℕ} {past : Past} (t : Tables) (w
         (rw (was-held, h) refl) (rw (was-live, l) refl)
         (λ legal. queues-on routes workers limit w x a past here.birth t.queues legal refl here.at lives st.queues)
         (λ legal. joins-on routes workers limit w x a past legal lives refl (unopened routes past x waits asked-here tt) st.joins)
-        (λ legal. sleepers-awake routes workers limit w x due past legal lives passed ready st.sleepers))
+        (λ legal. sleepers-awake routes workers limit w x due past legal lives passed ready st.sleepers) refl)

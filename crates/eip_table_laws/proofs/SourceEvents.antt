@@ -19,7 +19,7 @@ use Rattle.eip_history.specs.Place.{pulls_out}
 use Rattle.eip_history.specs.Rules.{KeepsRules, May, Served, served, served_in}
 use Rattle.eip_history.specs.Stop.{first_fault, fault_in, or_else}
 use Rattle.eip_history.specs.Tables.{Related, bit}
-use Rattle.eip_history.specs.TableWords.{moves_waiting, moves_busy, moves_joins, moves_sleepers}
+use Rattle.eip_history.specs.TableWords.{moves_waiting, moves_busy, moves_joins, moves_sleepers, moves_groups}
 use Rattle.eip_history.specs.Texts.{notes, note_for}
 use Rattle.eip_history.proofs.Lists.{related-all, related-push, related-length}
 use Rattle.eip_history.proofs.Limit.{source-after, pulls-change, turns-more, not-same}
@@ -41,6 +41,7 @@ use Rattle.eip_table_laws.proofs.RowNumbers.{numbers-push, count-push}
 use Rattle.eip_table_laws.proofs.QueueCalls.{queues-stay}
 use Rattle.eip_table_laws.proofs.JoinsKept.{joins-stay}
 use Rattle.eip_table_laws.proofs.SleepersKept.{sleepers-stay}
+use Rattle.eip_table_laws.proofs.GroupsKept.{groups-stay}
 use Rattle.eip_table_laws.proofs.RowPlaces.{row-other, entry-new}
 
 pub get-set-same : {A : Type 0} (xs : List A) (i : ℕ) (x : A) → i < length xs → slice_get (put_at xs i x) i ≡ Some x
@@ -105,11 +106,12 @@ pub record IsOfSource (w t : ℕ) (k : Kind) : Type 0 where
   pub works : moves_busy k ≡ false
   pub joins : moves_joins k ≡ false
   pub wakeful : moves_sleepers k ≡ false
+  pub still : moves_groups k ≡ false
   pub silent : answer_in k ≡ []
   pub fed : is_starve k ≡ false
   pub no_tick : (n : ℕ) → ticked k n ≡ n
 
-rows-quiet : (set : RouteSet) (workers limit : ℕ) (e : Entry) (past : Past) (bs : List Birth) (rows : List Row) → KeepsRules (plan_of set) workers limit (e ∷ past) → ((x : ℕ) → concerns x e.kind ≡ false) → answer_in e.kind ≡ [] → is_starve e.kind ≡ false
+pub rows-quiet : (set : RouteSet) (workers limit : ℕ) (e : Entry) (past : Past) (bs : List Birth) (rows : List Row) → KeepsRules (plan_of set) workers limit (e ∷ past) → ((x : ℕ) → concerns x e.kind ≡ false) → answer_in e.kind ≡ [] → is_starve e.kind ≡ false
     → ((n : ℕ) → ticked e.kind n ≡ n) → Related (RowStands set past) bs rows → Related (RowStands set (e ∷ past)) bs rows
 rows-quiet set workers limit e past bs rows legal nobody a v t rel =
     related-all (RowStands set past) (RowStands set (e ∷ past)) bs rows
@@ -160,22 +162,23 @@ stands-source routes workers limit past t w r k was after pulled st lw may withi
       joins = joins-stay routes workers limit w k past t.joins legal.entries of.joins st.joins;
       clock = st.clock ∙ sym (clock-same e past of.no_tick);
       sleepers = sleepers-stay routes workers limit w k past t.sleepers legal.entries of.wakeful st.sleepers;
+      groups = groups-stay routes w k past t.groups of.still st.groups;
     }
 
 pub of-pull : (w t : ℕ) → IsOfSource w t (Pull t)
-of-pull w t = record { nobody = λ x. refl; others = λ u was ne. rw (not-same u t ne) refl; simple = tt; waits = refl; works = refl; joins = refl; wakeful = refl; silent = refl; fed = refl; no_tick = λ n. refl }
+of-pull w t = record { nobody = λ x. refl; others = λ u was ne. rw (not-same u t ne) refl; simple = tt; waits = refl; works = refl; joins = refl; wakeful = refl; still = refl; silent = refl; fed = refl; no_tick = λ n. refl }
 
 pub of-accept : (w t : ℕ) (item : List ℕ) (m : Message) → IsOfSource w t (Accept t item m)
-of-accept w t item m = record { nobody = λ x. refl; others = λ u was ne. rw (not-same u t ne) refl; simple = tt; waits = refl; works = refl; joins = refl; wakeful = refl; silent = refl; fed = refl; no_tick = λ n. refl }
+of-accept w t item m = record { nobody = λ x. refl; others = λ u was ne. rw (not-same u t ne) refl; simple = tt; waits = refl; works = refl; joins = refl; wakeful = refl; still = refl; silent = refl; fed = refl; no_tick = λ n. refl }
 
 pub of-refuse : (w t : ℕ) (item : List ℕ) (c : Refused) → IsOfSource w t (Refuse t item c)
-of-refuse w t item c = record { nobody = λ x. refl; others = λ u was ne. rw (not-same u t ne) refl; simple = tt; waits = refl; works = refl; joins = refl; wakeful = refl; silent = refl; fed = refl; no_tick = λ n. refl }
+of-refuse w t item c = record { nobody = λ x. refl; others = λ u was ne. rw (not-same u t ne) refl; simple = tt; waits = refl; works = refl; joins = refl; wakeful = refl; still = refl; silent = refl; fed = refl; no_tick = λ n. refl }
 
 pub of-end : (w t : ℕ) → IsOfSource w t (SourceEnd t)
-of-end w t = record { nobody = λ x. refl; others = λ u was ne. rw (not-same u t ne) refl; simple = tt; waits = refl; works = refl; joins = refl; wakeful = refl; silent = refl; fed = refl; no_tick = λ n. refl }
+of-end w t = record { nobody = λ x. refl; others = λ u was ne. rw (not-same u t ne) refl; simple = tt; waits = refl; works = refl; joins = refl; wakeful = refl; still = refl; silent = refl; fed = refl; no_tick = λ n. refl }
 
 pub of-fault : (w t : ℕ) → IsOfSource w t (SourceFault t)
-of-fault w t = record { nobody = λ x. refl; others = λ u was ne. rw (not-same u t ne) refl; simple = tt; waits = refl; works = refl; joins = refl; wakeful = refl; silent = refl; fed = refl; no_tick = λ n. refl }
+of-fault w t = record { nobody = λ x. refl; others = λ u was ne. rw (not-same u t ne) refl; simple = tt; waits = refl; works = refl; joins = refl; wakeful = refl; still = refl; silent = refl; fed = refl; no_tick = λ n. refl }
 
 -- the row of a newborn stands for it
 newborn-row : (set : RouteSet) (workers limit : ℕ) (past : Past) (w r : ℕ) (item : List ℕ) (m : Message) → KeepsRules (plan_of set) workers limit ((record { worker = w; kind = Accept r item m }) ∷ past)
@@ -225,4 +228,5 @@ stands-accept routes workers limit past t w r item m st lw may =
       joins = joins-stay routes workers limit w k past t.joins legal.entries refl st.joins;
       clock = st.clock ∙ sym (clock-same e past of.no_tick);
       sleepers = sleepers-stay routes workers limit w k past t.sleepers legal.entries refl st.sleepers;
+      groups = groups-stay routes w k past t.groups refl st.groups;
     }

@@ -11,7 +11,7 @@ use Rattle.eip_route.specs.declared.route.RouteSet.{RouteSet}
 use Rattle.eip_frames.specs.declared.request.Request.{Request}
 use Rattle.eip_ledger.specs.declared.place.Place.{Place}
 use Rattle.eip_ledger.specs.declared.place.Place.TheVariants as place_is
-use Rattle.eip_ledger.specs.declared.place.Stop.TheVariants.{Drained, Spent}
+use Rattle.eip_ledger.specs.declared.place.Stop.TheVariants.{Spent}
 use Rattle.eip_meaning.specs.Meaning.{item_of}
 use Rattle.eip_progress.specs.declared.cursor.Cursor.{Cursor}
 use Rattle.eip_history.specs.Plan.{Plan}
@@ -19,12 +19,11 @@ use Rattle.eip_history.specs.Own as own_of
 use Rattle.eip_history.specs.Own.{Past, numbers_below, numbered, source_state, is_done, Idle}
 use Rattle.eip_history.specs.Births.{births, groups}
 use Rattle.eip_history.specs.Place.{place, place_of, count_at, is_ended}
-use Rattle.eip_history.specs.Rules.{unfinished}
-use Rattle.eip_history.specs.Stop.{is_over, stop_of, unended, no_numbers, with_fault}
+use Rattle.eip_history.specs.Rules.{unfinished, any_group}
+use Rattle.eip_history.specs.Stop.{is_over, stop_of, unended, no_numbers, with_fault, will_close, open_groups, held_or_drained}
 use Rattle.eip_history.proofs.Lists.{related-at, slice_get-some}
 use Rattle.eip_history.proofs.Stuck.{below-none}
 use Rattle.eip_plan.specs.Plan.{plan_of}
-use Rattle.eip_plan.proofs.Items.{no-groups}
 use Rattle.eip_tables.specs.declared.row.Born.{Born}
 use Rattle.eip_tables.specs.declared.row.Born.TheVariants as made
 use Rattle.eip_tables.specs.declared.row.Stage.{Stage}
@@ -154,27 +153,19 @@ sources-over s past rows st = by (list_all is_done_row rows) (no_numbers (number
         absurd (not-both (list_all is_done_row rows) all h)
 
 module _ {set : RouteSet} {workers limit : ℕ} {past : Past} (t : Tables) (st : Stands set workers limit past t) where
-  groupless : groups (plan_of set) past ≡ []
-  groupless = no-groups (plan_of set) workers limit past st.legal.entries st.simple
-
   live-is : unended (plan_of set) past ≡ t.live
   unfolding count_at
   live-is = count-related (RowStands set past) (λ b. not (is_ended (place_of (plan_of set) past b))) row_live (births (plan_of set) past) t.rows st.rows (λ b r h. row-is_live set past b r h) ∙ sym st.live
 
-  -- nothing waits where no exchange lives and every source is done
-  pub over-is : is_over (plan_of set) past ≡ (t.live == 0) && are_done t.sources
+  -- nothing waits where no exchange lives, every source is done and no group will close
+  pub over-is : (closing : Bool) → closing ≡ any_group (will_close (plan_of set)) (groups (plan_of set) past) → is_over (plan_of set) past ≡ (t.live == 0) && (are_done t.sources && not closing)
   unfolding is_over
-  over-is = rw (live-is, sources-over (plan_of set) past t.sources st.sources, groupless) (last (t.live == 0) (are_done t.sources))
-    where
-      last : (a b : Bool) → a && (b && true) ≡ a && b
-      last true true = refl
-      last true false = refl
-      last false b = refl
+  over-is closing h = rw (live-is, sources-over (plan_of set) past t.sources st.sources, h) refl
 
-  pub stop-is : (over spent : Bool) → over ≡ is_over (plan_of set) past → spent ≡ (t.turns == limit) && (t.pulled + t.taken == 0)
-      → cond over (Some (with_fault t.fault Drained)) (cond spent (Some (with_fault t.fault Spent)) None) ≡ stop_of (plan_of set) limit past
+  pub stop-is : (over spent : Bool) (open_count : ℕ) → over ≡ is_over (plan_of set) past → spent ≡ (t.turns == limit) && (t.pulled + t.taken == 0) → open_count ≡ length (open_groups (plan_of set) past)
+      → cond over (Some (with_fault t.fault (held_or_drained open_count))) (cond spent (Some (with_fault t.fault Spent)) None) ≡ stop_of (plan_of set) limit past
   unfolding stop_of
-  stop-is over spent h k = rw (h, k, st.fault, st.turns, sym (hands-are t st), groupless) refl
+  stop-is over spent open_count h k n = rw (h, k, n, st.fault, st.turns, sym (hands-are t st)) refl
 
 -- a number beyond the births is not born
 pub beyond : {A : Type 0} (xs : List A) (i : ℕ) → length xs ≤ i → slice_get xs i ≡ None
@@ -227,11 +218,13 @@ told-item set past b (made.Item i) h =
     ap item_at at ∙ sym (ap item_of (born-origin (plan_of set) past i b h))
 told-item set past b (made.Copy q) h = sym (ap item_of h)
 told-item set past b (made.Part y j) h = sym (ap item_of h)
+told-item set past b (made.Group g c) h = sym (ap item_of h)
 
 -- and so is the queue
 told-queue : (set : RouteSet) (past : Past) (b : Birth) (o : Born) (q : ℕ) → ComesFrom (plan_of set) past o b → b.origin ≡ from.Queue q → queue_place o ≡ place_is.Queue q
 told-queue set past b (made.Item i) q h e = let was = born-origin (plan_of set) past i b h in absurd (cc (sym was ∙ e))
 told-queue set past b (made.Part y j) q h e = absurd (let same : from.Part y j ≡ from.Queue q = sym h ∙ e in cc same)
+told-queue set past b (made.Group g c) q h e = absurd (let same : from.Group g ≡ from.Queue q = sym h ∙ e in cc same)
 told-queue set past b (made.Copy r) q h e = let same : from.Queue r ≡ from.Queue q = sym h ∙ e in let is : r ≡ q = cc in ap place_is.Queue is
 
 shown-place : (set : RouteSet) (past : Past) (b : Birth) (r : Row) → RowStands set past b r → shown (reverse past) r ≡ place_of (plan_of set) past b

@@ -118,6 +118,7 @@ not-part q (from.Group g) h = refl
 pub comes-alone : (s : Plan) (past : Past) (o : Born) (b : Birth) → ComesFrom s past o b → ((p i : ℕ) → o ≡ made.Part p i → ⊥) → (p i : ℕ) → b.origin ≡ from.Part p i → ⊥
 comes-alone s past (made.Item n) b h alone p i g = let k = sym (born-origin s past n b h) ∙ g in cc k
 comes-alone s past (made.Copy q) b h alone p i g = let k = sym h ∙ g in cc k
+comes-alone s past (made.Group y c) b h alone p i g = let k = sym h ∙ g in cc k
 comes-alone s past (made.Part y j) b h alone p i g = alone y j refl
 
 -- the parent that is ready again has a row
@@ -185,6 +186,7 @@ module _ {set : RouteSet} {past : Past} {joins : List (ℕ × Open)} (workers li
   pub may-tell : (o : Born) (told : Option Finished) → ComesFrom (plan_of set) past o b → ((p i : ℕ) → o ≡ made.Part p i → told ≡ Some f) → MayTell o x told closed
   may-tell (made.Item i) told h is = tt
   may-tell (made.Copy q) told h is = tt
+  may-tell (made.Group y c) told h is = tt
   may-tell (made.Part y j) (Some g) h is = open-part y j h
   may-tell (made.Part y j) None h is = absurd (let n = is y j refl in cc n)
 
@@ -217,6 +219,8 @@ module _ {set : RouteSet} {past : Past} {joins : List (ℕ × Open)} (workers li
       subst (λ (js : List (ℕ × Open)). JoinsStand set ((record { worker = w; kind = k }) ∷ past) js) (sym t) (joins-alone (comes-alone (plan_of set) past (made.Item i) b h (λ p j g. cc g)))
   joins-ended (made.Copy q) told new h is t =
       subst (λ (js : List (ℕ × Open)). JoinsStand set ((record { worker = w; kind = k }) ∷ past) js) (sym t) (joins-alone (comes-alone (plan_of set) past (made.Copy q) b h (λ p j g. cc g)))
+  joins-ended (made.Group y c) told new h is t =
+      subst (λ (js : List (ℕ × Open)). JoinsStand set ((record { worker = w; kind = k }) ∷ past) js) (sym t) (joins-alone (comes-alone (plan_of set) past (made.Group y c) b h (λ p j g. cc g)))
   joins-ended (made.Part y j) (Some g) new h is t =
       let n = is y j refl in
       let same : g ≡ f = cc in
@@ -286,4 +290,6 @@ module _ {set : RouteSet} {past : Past} {joins : List (ℕ × Open)} (workers li
       subst (λ (u : Option ℕ). AlsoMoves set past (record { worker = w; kind = k }) x u) (sym wakes) (moves-alone (comes-alone (plan_of set) past (made.Item i) b h (λ p j g. cc g)))
   also-moves (made.Copy q) new woken h now wakes =
       subst (λ (u : Option ℕ). AlsoMoves set past (record { worker = w; kind = k }) x u) (sym wakes) (moves-alone (comes-alone (plan_of set) past (made.Copy q) b h (λ p j g. cc g)))
+  also-moves (made.Group y c) new woken h now wakes =
+      subst (λ (u : Option ℕ). AlsoMoves set past (record { worker = w; kind = k }) x u) (sym wakes) (moves-alone (comes-alone (plan_of set) past (made.Group y c) b h (λ p j g. cc g)))
   also-moves (made.Part y j) new woken h now wakes = also y j h now woken wakes

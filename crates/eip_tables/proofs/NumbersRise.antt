@@ -1,6 +1,6 @@
 -- Rising numbers: those of rows, how one of them is taken out, and where one goes in two runs of them.
-use Rattle.std.proofs.Common.{◌≡◌, ◌≢◌, ℕ, zero, suc, ◌+◌, ◌<◌, ◌≤◌, ◌==◌, Bool, true, false, nat_lt, List, [], ◌∷◌, ◌++◌, length, cond, refl, sym, ap, arith, get_or, eq-eqb}
-use Rattle.std.proofs.lemmas.Bool.{ne_eqb}
+use Rattle.std.proofs.Common.{◌≡◌, ◌≢◌, ℕ, zero, suc, ◌+◌, ◌<◌, ◌≤◌, ◌==◌, Bool, true, false, not, nat_lt, List, [], ◌∷◌, length, cond, refl, sym, ap, arith, get_or, eq-eqb}
+use Rattle.std.proofs.lemmas.Bool.{ne_eqb, lt-ltb, le-ltb}
 use Rattle.std.specs.List.{remove}
 use Rattle.eip_history.specs.Tables.{without}
 use Rattle.eip_tables.specs.Numbers.{RiseFrom, AreRising, row_numbers, place_in}
@@ -42,6 +42,16 @@ without-absent x (y ∷ ys) h =
     let other : (y == x) ≡ false = ne_eqb y x (h 0 (omega arith)) in
     rw other (ap (λ zs. y ∷ zs) (without-absent x ys (λ i l. h (suc i) (omega (arith, l)))))
 
+-- those that are left rise as well
+pub without-rises : (x n : ℕ) (xs : List ℕ) → RiseFrom n xs → RiseFrom n (without x xs)
+without-rises x n [] h = tt
+without-rises x n (y ∷ ys) h =
+    let rest = without-rises x (y + 1) ys h.1 in
+    elim (y == x) as (λ b. RiseFrom n (cond (not b) (y ∷ without x ys) (without x ys))) [
+      | true ↦ rise-before n (y + 1) (without x ys) (omega (arith, h.0)) rest
+      | false ↦ (h.0, rest)
+    ]
+
 -- one that is there stands there once
 pub without-found : (n x i : ℕ) (xs : List ℕ) → RiseFrom n xs → i < length xs → get_or xs i 0 ≡ x → remove xs i ≡ without x xs
 without-found n x i [] h l e = absurd (omega (arith, l))
@@ -53,19 +63,31 @@ without-found n x (suc i) (y ∷ ys) h l e =
     let other : (y == x) ≡ false = ne_eqb y x (λ is. omega (arith, is, above, e)) in
     rw other (ap (λ zs. y ∷ zs) (without-found (y + 1) x i ys h.1 (omega (arith, l)) e))
 
--- where a number goes in two runs
-pub place-in-front : (x : ℕ) (front rest : List ℕ) → place_in x front < length front → place_in x (front ++ rest) ≡ place_in x front
-place-in-front x [] rest l = absurd (omega (arith, l))
-place-in-front x (y ∷ ys) rest l =
-    (elim (nat_lt x y) as (λ v. cond v 0 (place_in x ys + 1) < suc (length ys) → cond v 0 (place_in x (ys ++ rest) + 1) ≡ cond v 0 (place_in x ys + 1)) [
-      | true ↦ λ m. refl
-      | false ↦ λ m. ap (λ n. n + 1) (place-in-front x ys rest (omega (arith, m)))
-    ]) l
+-- where a number goes that is there: behind it
+pub place-behind : (n x i : ℕ) (xs : List ℕ) → RiseFrom n xs → i < length xs → get_or xs i 0 ≡ x → place_in x xs ≡ i + 1
+place-behind n x i [] h l e = absurd (omega (arith, l))
+place-behind n x zero (y ∷ []) h l e =
+    let least : nat_lt x y ≡ false = le-ltb x y (omega (arith, e)) in
+    rw least refl
+place-behind n x zero (y ∷ (z ∷ zs)) h l e =
+    let least : nat_lt x y ≡ false = le-ltb x y (omega (arith, e)) in
+    let next : nat_lt x z ≡ true = lt-ltb x z (omega (arith, e, h.1.0)) in
+    rw least (rw next refl)
+place-behind n x (suc i) (y ∷ ys) h l e =
+    let above = above-start (y + 1) ys i h.1 (omega (arith, l)) in
+    let least : nat_lt x y ≡ false = le-ltb x y (omega (arith, above, e)) in
+    let rest = place-behind (y + 1) x i ys h.1 (omega (arith, l)) e in
+    rw least (omega (arith, rest))
 
-pub place-in-rest : (x : ℕ) (front rest : List ℕ) → length front ≤ place_in x front → place_in x (front ++ rest) ≡ length front + place_in x rest
-place-in-rest x [] rest l = omega arith
-place-in-rest x (y ∷ ys) rest l =
-    (elim (nat_lt x y) as (λ v. suc (length ys) ≤ cond v 0 (place_in x ys + 1) → cond v 0 (place_in x (ys ++ rest) + 1) ≡ suc (length ys) + place_in x rest) [
-      | true ↦ λ m. absurd (omega (arith, m))
-      | false ↦ λ m. let behind = place-in-rest x ys rest (omega (arith, m)) in omega (arith, behind)
-    ]) l
+-- where a number goes that isn't there: behind the lesser ones
+pub place-between : (x i : ℕ) (xs : List ℕ) → i ≤ length xs
+    → ((k : ℕ) → k < i → get_or xs k 0 < x)
+    → ((k : ℕ) → i ≤ k → k < length xs → x < get_or xs k 0) → place_in x xs ≡ i
+place-between x i [] l below above = omega (arith, l)
+place-between x zero (y ∷ ys) l below above =
+    let first : nat_lt x y ≡ true = lt-ltb x y (above 0 (omega arith) (omega arith)) in
+    rw first refl
+place-between x (suc i) (y ∷ ys) l below above =
+    let least : nat_lt x y ≡ false = le-ltb x y (omega (arith, below 0 (omega arith))) in
+    let rest = place-between x i ys (omega (arith, l)) (λ k m. below (suc k) (omega (arith, m))) (λ k m o. above (suc k) (omega (arith, m)) (omega (arith, o))) in
+    rw least (omega (arith, rest))

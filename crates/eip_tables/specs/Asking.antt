@@ -15,6 +15,7 @@ inner_kind (request.Call r) = asked.Route
 inner_kind (request.Offer q discard m) = asked.Copy
 inner_kind (request.Spawn seeds) = asked.Parts
 inner_kind (request.Join first count) = asked.Ends
+inner_kind (request.Arrive a key m) = asked.Group
 inner_kind (request.Wait ticks) = asked.Moment
 inner_kind (request.Finish e m commit) = asked.End
 inner_kind _ = asked.Other
@@ -50,6 +51,13 @@ pub record AsksEnds (known : List (Option Request)) (x : ℕ) : Type 0 where
   pub first : ℕ
   pub count : ℕ
   pub asks : slice_get known (x - 1) ≡ Some (Some (request.Join first count))
+
+-- it asks to join a group
+pub record AsksGroup (known : List (Option Request)) (x : ℕ) : Type 0 where
+  pub aggregator : ℕ
+  pub key : List ℕ
+  pub message : Message
+  pub asks : slice_get known (x - 1) ≡ Some (Some (request.Arrive aggregator key message))
 
 -- it asks to wait
 pub record AsksMoment (known : List (Option Request)) (x : ℕ) : Type 0 where

@@ -9,6 +9,7 @@ pub mod Rows
 pub mod Queues
 pub mod Joins
 pub mod Sleepers
+pub mod Groups
 pub mod Stands
 pub mod Asking
 pub mod Outside

@@ -1,5 +1,5 @@
 -- What a look at an exchange does: its cursor is given what it has not been given yet.
-use Rattle.std.specs.Prelude.{ℕ, ◌≡◌, List, [], ◌∷◌, ◌++◌, Option, Some, None, slice_get}
+use Rattle.std.specs.Prelude.{ℕ, ◌≡◌, List, [], ◌∷◌, ◌++◌, Option, Some, None, slice_get, option_map}
 use Rattle.eip_exchange.specs.declared.birth.Birth.{Birth}
 use Rattle.eip_route.specs.declared.route.RouteSet.{RouteSet}
 use Rattle.eip_frames.specs.declared.request.At.{At}
@@ -19,6 +19,7 @@ use Rattle.eip_tables.specs.declared.row.Born.{Born}
 use Rattle.eip_tables.specs.declared.row.Born.TheVariants as born
 use Rattle.eip_tables.specs.declared.row.Row.{Row}
 use Rattle.eip_tables.specs.Moves.{begun}
+use Rattle.eip_tables.specs.Groups.{completed}
 
 -- a cursor that may be given this answer, and goes on behind it
 pub record CanTake (set : RouteSet) (a : Reply) (c : Cursor) : Type 0 where
@@ -61,6 +62,7 @@ abbrev pub birth_by : RouteSet → List Entry → ℕ → Born → Option Birth 
 birth_by set entries number (born.Item i) kept = birth_in set number (slice_get entries i)
 birth_by set entries number (born.Copy q) kept = kept
 birth_by set entries number (born.Part parent index) kept = kept
+birth_by set entries number (born.Group group cause) kept = option_map (completed cause) kept
 
 abbrev pub birth_of : RouteSet → List Entry → ℕ → Row → Option Birth
 birth_of set entries number r = birth_by set entries number r.born r.birth

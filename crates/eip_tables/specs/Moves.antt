@@ -11,6 +11,7 @@ use Rattle.eip_frames.specs.declared.request.Request.{Request}
 use Rattle.eip_frames.specs.declared.request.Request.TheVariants as request
 use Rattle.eip_frames.specs.declared.answer.Answer.{Answer as Reply}
 use Rattle.eip_frames.specs.declared.answer.Answer.TheVariants as reply
+use Rattle.eip_frames.specs.declared.answer.Completion.{Completion}
 use Rattle.eip_exchange.specs.declared.birth.Birth.{Birth}
 use Rattle.eip_tables.specs.declared.row.Born.{Born}
 use Rattle.eip_tables.specs.declared.row.Born.TheVariants as born
@@ -34,6 +35,10 @@ starving = fault (codes "OutOfMemory") []
 abbrev pub part_row : (parent index : ℕ) → Birth → Row
 part_row parent index b =
     record { born = born.Part parent index; stage = stage.New; birth = Some b; cursor = None; request = None; fault = Some starving }
+
+-- the exchange of a group that closed by a cause
+abbrev pub grouped_row : ℕ → Completion → Birth → Row
+grouped_row group cause b = record { born = born.Group group cause; stage = stage.New; birth = Some b; cursor = None; request = None; fault = None }
 
 -- a copy has left its queue
 abbrev pub started : Row → Row

@@ -38,6 +38,7 @@ abbrev pub origin_born : List Entry → Born → Option Origin
 origin_born entries (born.Item i) = origin_in (slice_get entries i)
 origin_born entries (born.Copy q) = Some (from.Queue q)
 origin_born entries (born.Part parent index) = Some (from.Part parent index)
+origin_born entries (born.Group group cause) = Some (from.Group group)
 
 -- how an exchange that stands here ended
 abbrev pub ending_at : Option Place → Option Ending

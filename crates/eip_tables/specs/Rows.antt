@@ -34,6 +34,7 @@ use Rattle.eip_plan.specs.Plan.{plan_of}
 use Rattle.eip_tables.specs.Closing.{Closing}
 use Rattle.eip_tables.specs.Closing as closing
 use Rattle.eip_tables.specs.Moves.{starving}
+use Rattle.eip_tables.specs.Groups.{completed}
 use Rattle.eip_tables.specs.State.{State, state_of}
 use Rattle.eip_tables.specs.State as state
 use Rattle.eip_tables.specs.declared.row.Born.{Born}
@@ -60,12 +61,14 @@ abbrev pub ComesFrom : Plan → Past → Born → Birth → Type 0
 ComesFrom s past (born.Item i) b = IsBornAt s past i b
 ComesFrom s past (born.Copy q) b = b.origin ≡ from.Queue q
 ComesFrom s past (born.Part parent index) b = b.origin ≡ from.Part parent index
+ComesFrom s past (born.Group group cause) b = b.origin ≡ from.Group group
 
--- what a row keeps of a birth, by whether the exchange lives: that of a copy or a part, until it has ended, and for a part what
--- it would fail with if it were starved
+-- what a row keeps of a birth, by whether the exchange lives: that of a copy, a part or a group, until it has ended, and for a part
+-- what it would fail with if it were starved; that of a group doesn't say yet what closed it
 abbrev pub Keeps : Born → Bool → Birth → Option Birth → Option Fault → Type 0
 Keeps (born.Copy q) true b o f = o ≡ Some b
 Keeps (born.Part parent index) true b o f = (o ≡ Some b) × (f ≡ Some starving)
+Keeps (born.Group group cause) true b o f = (k : Birth) × (o ≡ Some k) × (b ≡ completed cause k)
 Keeps _ _ b o f = Unit {0}
 
 -- it has left its queue, by whether it has started, or was born into none

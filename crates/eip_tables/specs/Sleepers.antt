@@ -15,6 +15,12 @@ use Rattle.eip_tables.specs.State as state
 abbrev pub due_moment : (now ticks : ℕ) → ℕ
 due_moment now ticks = min (now + ticks) 18446744073709551615
 
+-- the sooner of two moments, where there are any
+abbrev pub sooner : Option ℕ → Option ℕ → Option ℕ
+sooner None o = o
+sooner (Some a) None = Some a
+sooner (Some a) (Some b) = Some (min a b)
+
 -- the table stands for a list of calls by which the same exchanges sleep, each until the same moment
 pub record SleepersStand (set : RouteSet) (past : Past) (sleepers : List (ℕ × ℕ)) : Type 0 where
   pub calls : List Call

@@ -17,6 +17,8 @@ pub enum Asked {
     Parts,
     /// The ends of its parts are to be told.
     Ends,
+    /// A group is to be joined.
+    Group,
     /// A moment is to come.
     Moment,
     /// It is to end.
@@ -48,6 +50,7 @@ fn kind_of(request: &Request) -> Asked
         Request::Offer { .. } => Asked::Copy,
         Request::Spawn { .. } => Asked::Parts,
         Request::Join { .. } => Asked::Ends,
+        Request::Arrive { .. } => Asked::Group,
         Request::Wait { .. } => Asked::Moment,
         Request::Finish { .. } => Asked::End,
         _ => Asked::Other,

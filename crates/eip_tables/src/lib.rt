@@ -1,7 +1,10 @@
 // The tables that stand for a history: rows, rising numbers, sources, and what a row shows. They know no call of the books.
 #![tactic(auto)]
 
+pub mod aggregators;
+pub mod around;
 pub mod asking;
+pub mod groups;
 pub mod joins;
 pub mod notes;
 pub mod origin;

@@ -41,6 +41,7 @@ pub fn origin_born(entries: &[Entry], born: Born) -> Option<OriginView<'_>>
         Born::Item(entry) => origin_in(entries, entry),
         Born::Copy(route) => Some(OriginView::Queue { route }),
         Born::Part { parent, index } => Some(OriginView::Part { parent, index }),
+        Born::Group { group, .. } => Some(OriginView::Group { group }),
     }
 }
 

@@ -74,7 +74,7 @@ fn birth_of(parent: Parent, number: u64, index: u32, seed: Seed) -> Birth
 
 /// An item goes behind the others, into room that was reserved. For items of every type, since what a row is would be looked at
 /// here for nothing.
-fn put_behind<T: Drop>(items: &mut Vec<T>, item: T)
+pub fn put_behind<T: Drop>(items: &mut Vec<T>, item: T)
     requires { vec_len items.old < vec_capacity items.old }
     ensures items { items.new.items ≡ items.old.items ++ item ∷ [] }
     ensures room { vec_capacity items.old ≤ vec_capacity items.new }

@@ -27,7 +27,7 @@ fn item_born(alloc: Global, entries: &[Entry], born: Born) -> Result<Text, NoMem
 {
     match born {
         Born::Item(entry) => item_of(alloc, entries, entry),
-        Born::Copy(_) | Born::Part { .. } => Text::of_str(alloc, ""),
+        Born::Copy(_) | Born::Part { .. } | Born::Group { .. } => Text::of_str(alloc, ""),
     }
 }
 
@@ -37,7 +37,7 @@ fn queue_place(born: Born) -> Place
 {
     match born {
         Born::Copy(queue) => Place::Queue(queue),
-        Born::Item(_) | Born::Part { .. } => Place::Ready,
+        Born::Item(_) | Born::Part { .. } | Born::Group { .. } => Place::Ready,
     }
 }
 

@@ -90,9 +90,11 @@ impl RisingNumbers {
         }
     }
 
-    /// A number goes before the first greater one, into room that was reserved.
+    /// A number goes before the first greater one, into room that was reserved. One that is above all others costs the same
+    /// however many there are.
     pub fn put_in(&mut self, number: u64)
-        requires { 0 < self.old.spare }
+        requires room { 0 < self.old.spare }
+        requires rising { AreRising self.old.numbers }
         ensures numbers { self.new.numbers ≡ put_in number self.old.numbers }
         ensures spare { self.old.spare ≤ self.new.spare + 1 }
         ensures capacity { capacity self.old ≤ capacity self.new }
@@ -114,28 +116,14 @@ impl RisingNumbers {
     }
 }
 
-/// Where a number goes: before the first greater one.
+/// Where a number goes among rising ones: before the first greater one.
 fn place_of(numbers: &VecDeque<u64>, number: u64) -> usize
+    requires { AreRising numbers.now.items }
     ensures within { result ≤ length numbers.now.items }
     ensures place { place_in number numbers.now.items ≡ result }
 {
-    let (front, rest) = numbers.as_slices();
-    let at = place_in_run(front, number);
-    if at < front.len() {
-        return at;
+    match numbers.binary_search(&number) {
+        Ok(at) => at + 1,
+        Err(at) => at,
     }
-    at + place_in_run(rest, number)
-}
-
-/// The same in one run of them.
-fn place_in_run(numbers: &[u64], number: u64) -> usize
-    ensures within { result ≤ length numbers.now }
-    ensures place { place_in number numbers.now ≡ result }
-{
-    for (at, other) in numbers.iter().enumerate() {
-        if number < *other {
-            return at;
-        }
-    }
-    numbers.len()
 }

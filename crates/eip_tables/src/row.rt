@@ -1,11 +1,11 @@
 ghost use Rattle.std.specs.Prelude.{◌≡◌, Some, None, IfOk, option_map};
-ghost use Rattle.eip_tables.specs.Moves.{new_row, copy_row, part_row, starving, started, begun, answered, held, joining, sleeping, woken, closed, starved_end, stage_of, fault_of, finished, end_asked, last_message, part_end, ended_with, ticks_asked, line_asked, finished_asked, ended_by};
+ghost use Rattle.eip_tables.specs.Moves.{new_row, copy_row, part_row, grouped_row, starving, started, begun, answered, held, joining, sleeping, woken, closed, starved_end, stage_of, fault_of, finished, end_asked, last_message, part_end, ended_with, ticks_asked, line_asked, finished_asked, ended_by};
 ghost use Rattle.eip_tables.specs.State.{row_outside};
 ghost use Rattle.eip_tables.specs.Offers.{hops_by, offer_asked, offered_message};
 ghost use Rattle.eip_tables.specs.Parts.{at_by, seeds_asked, count_asked};
 
 use eip_exchange::{Birth, End, Ended, Fault, Message};
-use eip_frames::{Answer, At, Request, Seed, is_outside};
+use eip_frames::{Answer, At, Completion, Request, Seed, is_outside};
 use eip_progress::{Boxed, Cursor};
 use eip_text::{NoMemory, Text};
 use std::mem;
@@ -19,6 +19,8 @@ pub enum Born {
     Copy(u32),
     /// A fan-out of a parent, of which it is the part with this index.
     Part { parent: u64, index: u32 },
+    /// The closing of the group with this number, by this cause.
+    Group { group: u64, cause: Completion },
 }
 
 /// How far an exchange is.
@@ -53,7 +55,7 @@ pub enum Stage {
 pub struct Row {
     pub born: Born,
     pub stage: Stage,
-    /// What a copy or a part was born as, until it has ended; an item's birth is read from the journal.
+    /// What a copy, a part or a closed group's exchange was born as, until it has ended; an item's birth is read from the journal.
     pub birth: Option<Birth>,
     /// Its cursor, from the first look until it has ended.
     pub cursor: Option<Boxed<Cursor>>,
@@ -120,12 +122,26 @@ impl Row {
         }
     }
 
+    /// The row of the exchange of a group that closed by this cause, with this birth.
+    pub fn grouped(group: u64, cause: Completion, birth: Birth) -> Row
+        ensures { result ≡ grouped_row group cause birth }
+    {
+        Row {
+            born: Born::Group { group, cause },
+            stage: Stage::New,
+            birth: Some(birth),
+            cursor: None,
+            request: None,
+            fault: None,
+        }
+    }
+
     /// How many queues its lineage has passed.
     pub fn hops(&self) -> u32
         ensures { result ≡ hops_by self.now.born self.now.birth }
     {
         match (self.born, &self.birth) {
-            (Born::Copy(_) | Born::Part { .. }, Some(birth)) => birth.hops,
+            (Born::Copy(_) | Born::Part { .. } | Born::Group { .. }, Some(birth)) => birth.hops,
             _ => 0,
         }
     }

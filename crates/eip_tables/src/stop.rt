@@ -1,6 +1,6 @@
 ghost use Rattle.std.specs.Prelude.{◌≡◌, ◌==◌, ◌&&◌, cond, Some, None};
-ghost use Rattle.eip_history.specs.Stop.{or_else, with_fault};
-ghost use Rattle.eip_ledger.specs.declared.place.Stop.TheVariants.{Drained, Spent};
+ghost use Rattle.eip_history.specs.Stop.{or_else, with_fault, held_or_drained};
+ghost use Rattle.eip_ledger.specs.declared.place.Stop.TheVariants.{Spent};
 
 use eip_ledger::Stop;
 
@@ -24,12 +24,30 @@ fn reported(fault: Option<u32>, stop: Stop) -> Stop
     }
 }
 
-/// The stop of a run, if it is over or its turns are spent with no hand out.
-pub fn stop_by(over: bool, turns: u64, limit: u64, hands: u64, fault: Option<u32>) -> Option<Stop>
-    ensures { result ≡ cond over (Some (with_fault fault Drained)) (cond ((turns == limit) && (hands == 0)) (Some (with_fault fault Spent)) None) }
+/// The stop of a run that is over, which so many open groups may hold.
+fn held(open_groups: u64) -> Stop
+    ensures { result ≡ held_or_drained open_groups }
+{
+    if open_groups == 0 {
+        Stop::Drained
+    } else {
+        Stop::Held(open_groups)
+    }
+}
+
+/// The stop of a run, if it is over, where so many groups are still open, or its turns are spent with no hand out.
+pub fn stop_by(
+    over: bool,
+    open_groups: u64,
+    turns: u64,
+    limit: u64,
+    hands: u64,
+    fault: Option<u32>,
+) -> Option<Stop>
+    ensures { result ≡ cond over (Some (with_fault fault (held_or_drained open_groups))) (cond ((turns == limit) && (hands == 0)) (Some (with_fault fault Spent)) None) }
 {
     if over {
-        return Some(reported(fault, Stop::Drained));
+        return Some(reported(fault, held(open_groups)));
     }
     if turns == limit && hands == 0 {
         return Some(reported(fault, Stop::Spent));

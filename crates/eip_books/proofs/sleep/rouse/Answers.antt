@@ -1,10 +1,8 @@
-use Rattle.std.proofs.Common.{arith, ◌≡◌, ◌-◌, ◌+◌, ◌<◌, ◌≤◌, length, set as put_at, Some, None, refl, sym, ap, subst, ◌∙◌}
-use Rattle.eip_tables.specs.Moves.{woken}
-use Rattle.eip_tables.specs.Numbers.{row_numbers, row_count, capacity}
-use Rattle.eip_tables.specs.Parts.{rows_behind}
-use Rattle.eip_tables.specs.Rows.{row_ready, row_live}
-use Rattle.eip_tables.specs.Sleepers.{SleepersTold, roused_rows}
-use Rattle.eip_books.proofs.Rousing.{row_asleep, first-one, woken-rows, woken-numbers, woken-live, room-for, fewer-asleep, woken-roused, woken-told, all-roused}
+use Rattle.std.proofs.Common.{arith, length, refl, sym, ap, ◌∙◌}
+use Rattle.eip_tables.specs.Rows.{row_ready}
+use Rattle.eip_tables.specs.Sleepers.{roused_rows}
+use Rattle.eip_tables.proofs.NumbersRise.{numbers-rise}
+use Rattle.eip_books.proofs.Rousing.{first-one, woken-rows, woken-numbers, woken-live, room-for, fewer-asleep, woken-roused, woken-told, all-roused}
 use Rattle.eip_books.proofs.sleep.rouse.Goals as goal
 
 pub wake-requires-in-Some-clause-above : goal.wake-requires-in-Some-clause-above
@@ -19,8 +17,11 @@ wake-requires-in-Some-clause-within c =
     let one = first-one c.loop-number.rows.items c.loop-number.sleepers told c.args.now c.in-Some.number (rw c.in-Some.is at c.wake.ensures.sleeper told.calls told.stands) in
     one.2.within
 
-pub put_in-requires : goal.put_in-requires
-put_in-requires c =
+pub put_in-requires-clause-rising : goal.put_in-requires-clause-rising
+put_in-requires-clause-rising c = rw c.loop-number.invariant.numbers (numbers-rise row_ready c.loop-number.rows.items)
+
+pub put_in-requires-clause-room : goal.put_in-requires-clause-room
+put_in-requires-clause-room c =
     let told = c.loop-number.invariant.told in
     let one = first-one c.loop-number.rows.items c.loop-number.sleepers told c.args.now c.in-Some.number (rw c.in-Some.is at c.wake.ensures.sleeper told.calls told.stands) in
     let few = room-for c.loop-number.rows.items c.in-Some.number one.0 c.args.now one.2 one.1 in

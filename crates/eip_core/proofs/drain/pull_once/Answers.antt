@@ -3,8 +3,8 @@ use Rattle.eip_core.proofs.Compose.{drains-still}
 use Rattle.eip_endpoint.proofs.LaneLaws.{LanesGrew-none}
 use Rattle.eip_core.proofs.drain.pull_once.Goals as goal
 
-pub tick_once-requires-clause-no_source : goal.tick_once-requires-clause-no_source
-tick_once-requires-clause-no_source g c = rw c.in_default.ensures.none c.in_default.ensures.exact
+pub move_on-requires-clause-no_source : goal.move_on-requires-clause-no_source
+move_on-requires-clause-no_source g c = rw c.in_default.ensures.none c.in_default.ensures.exact
 
 pub accept-requires-clause-may : goal.accept-requires-clause-may
 accept-requires-clause-may g c =

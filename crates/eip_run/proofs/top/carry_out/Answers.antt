@@ -27,9 +27,3 @@ pub returns-in-Err-clause-report : goal.returns-in-Err-clause-report
 returns-in-Err-clause-report g c =
     reports-refused _ _ c.in-Err.ensures.answer
     (record { lanes = refl; inlets = refl; journal = c.unused_journal-in-Err.ensures }) c.tell_refusal.ensures
-
-pub returns-in-Ok-Check-clause-simple : goal.returns-in-Ok-Check-clause-simple
-returns-in-Ok-Check-clause-simple g c = rw c.unused_journal.ensures.past tt
-
-pub returns-in-Err-clause-simple : goal.returns-in-Err-clause-simple
-returns-in-Err-clause-simple g c = rw c.unused_journal-in-Err.ensures.past tt

@@ -4,7 +4,7 @@ use Rattle.eip_run.proofs.top.run.Goals as goal
 pub returns : goal.returns
 returns g c = record {
   reports = c.carry_out-outcome.ensures.report;
-  causes = causes _ _ c.carry_out-outcome.ensures.report c.carry_out-outcome.ensures.simple;
+  causes = causes _ _ c.carry_out-outcome.ensures.report;
   status = c.status.ensures;
   files = c.carry_out-outcome.ensures.files;
 }

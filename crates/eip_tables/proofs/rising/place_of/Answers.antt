@@ -1,18 +1,15 @@
-use Rattle.std.proofs.Common.{◌≡◌, ◌+◌, ◌<◌, ◌≤◌, length, sym, ap, ◌∙◌, arith}
-use Rattle.eip_tables.specs.Numbers.{place_in}
-use Rattle.eip_tables.proofs.NumbersRise.{place-in-front, place-in-rest}
+use Rattle.std.proofs.lemmas.List.Sorted.{searched}
+use Rattle.eip_tables.proofs.NumbersRise.{rising-order, place-behind, place-between}
 use Rattle.eip_tables.proofs.rising.place_of.Goals as goal
 
-pub returns-then-at-front-clause-place : goal.returns-then-at-front-clause-place
-returns-then-at-front-clause-place c =
-    let front = c.as_slices.result.0.now in
-    let within : place_in c.args.number front < length front = omega (arith, c.if-at-front.true, c.place_in_run-at.ensures.place) in
-    rw (← c.as_slices.ensures.items) (place-in-front c.args.number front c.as_slices.result.1.now within ∙ c.place_in_run-at.ensures.place)
+pub returns-in-Ok-clause-place : goal.returns-in-Ok-clause-place
+returns-in-Ok-clause-place c =
+    let numbers = c.args.numbers.now.items in
+    let found = rw c.in-Ok.is at (searched numbers c.args.number c.binary_search.result c.binary_search.ensures.position (rising-order 0 numbers c.requires)) in
+    place-behind 0 c.args.number c.in-Ok.at numbers c.requires found.0 found.1
 
-pub returns-clause-place : goal.returns-clause-place
-returns-clause-place c =
-    let front = c.as_slices.result.0.now in
-    let rest = c.as_slices.result.1.now in
-    let behind : length front ≤ place_in c.args.number front = omega (arith, c.if-at-front.false, c.place_in_run-at.ensures.place) in
-    let at = place-in-rest c.args.number front rest behind in
-    rw (← c.as_slices.ensures.items) (omega (arith, at, behind, c.if-at-front.false, c.place_in_run-at.ensures.within, c.place_in_run-at.ensures.place, c.place_in_run.ensures.place))
+pub returns-in-Err-clause-place : goal.returns-in-Err-clause-place
+returns-in-Err-clause-place c =
+    let numbers = c.args.numbers.now.items in
+    let found = rw c.in-Err.is at (searched numbers c.args.number c.binary_search.result c.binary_search.ensures.position (rising-order 0 numbers c.requires)) in
+    place-between c.args.number c.in-Err.at numbers found.0 found.1 found.2

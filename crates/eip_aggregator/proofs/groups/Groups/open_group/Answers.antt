@@ -13,4 +13,4 @@ pub returns-in-Some : goal.returns-in-Some
 returns-in-Some c = λ s calls stands.
     shows_next s calls c.args.self.now c.args.behind _ (c.in-Some.number, c.in-Some.group.now) stands
     (subst (λ (t : Table). IsNext t.open_groups c.args.behind (c.in-Some.number, c.in-Some.group.now)) c.self.view_is c.in-Some.ensures)
-    (record { number = refl; size = c.count.ensures; key = c.text.ensures ∙ ap (λ (k : Key). k.1) c.key.ensures })
+    (record { number = refl; size = c.count.ensures; key = c.text.ensures ∙ ap (λ (k : Key). k.1) c.key.ensures; force = c.is_forced.ensures })

@@ -1,7 +1,7 @@
 use Rattle.std.proofs.Common.{arith, ◌≡◌, ◌-◌, false, ap, ◌∙◌}
 use Rattle.eip_ledger.specs.declared.place.Place.TheVariants.{Ready}
 use Rattle.eip_frames.specs.declared.request.Request.TheVariants as request
-use Rattle.eip_tables.specs.Moves.{finished, finished_asked, finished_by, end_asked, part_end, last_message, ended_with}
+use Rattle.eip_tables.specs.Moves.{finished, finished_asked, finished_by, end_asked}
 use Rattle.eip_tables.specs.State.{row_outside}
 use Rattle.eip_table_laws.proofs.Bounds.{within-limit}
 use Rattle.eip_table_laws.proofs.OwnCalls.{row-within, ready-some, stands-finish, finish-leaves, finish-tells, finish-wakes, live-above}
@@ -9,7 +9,7 @@ use Rattle.eip_table_laws.proofs.LookCalls.{known-state, known-request}
 use Rattle.eip_table_laws.proofs.ListedNumbers.{leave-at}
 use Rattle.eip_table_laws.proofs.HandCalls.{finished-not-outside}
 use Rattle.eip_tables.specs.Rows.{row_ready}
-use Rattle.eip_tables.proofs.NumbersRise.{numbers-rise}
+use Rattle.eip_tables.proofs.NumbersRise.{numbers-rise, without-rises}
 use Rattle.eip_books.specs.Facts.{tables_of}
 use Rattle.eip_table_laws.proofs.Ending.{behind-outside}
 use Rattle.eip_books.proofs.Waking.{if-woken}
@@ -74,6 +74,9 @@ overflow_sub-self c =
 
 pub remove-requires : goal.remove-requires
 remove-requires c = rw (c.reserve.ensures.numbers, c.self.invariant.stands.ready) (numbers-rise row_ready c.self.inside.rows.items)
+
+pub wake-requires-clause-rising : goal.wake-requires-clause-rising
+wake-requires-clause-rising c = rw c.remove.ensures.numbers (without-rises c.args.number 0 c.reserve.new.self.numbers (rw (c.reserve.ensures.numbers, c.self.invariant.stands.ready) (numbers-rise row_ready c.self.inside.rows.items)))
 
 pub invariant_of-self-2 : goal.invariant_of-self-2
 invariant_of-self-2 c =

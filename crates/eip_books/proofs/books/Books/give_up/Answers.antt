@@ -6,6 +6,8 @@ use Rattle.eip_tables.specs.declared.row.Stage.TheVariants as stage
 use Rattle.eip_table_laws.proofs.OwnCalls.{row-within}
 use Rattle.eip_table_laws.proofs.RowNumbers.{numbers-stay}
 use Rattle.eip_table_laws.proofs.HandCalls.{stands-give-up, give-up-leaves, give-up-tells, give-up-wakes, taken-above, held-live, held-not-outside}
+use Rattle.eip_tables.specs.Rows.{row_ready}
+use Rattle.eip_tables.proofs.NumbersRise.{numbers-rise}
 use Rattle.eip_books.specs.Facts.{tables_of}
 use Rattle.eip_table_laws.proofs.Ending.{behind-outside}
 use Rattle.eip_books.proofs.Waking.{if-woken}
@@ -45,6 +47,9 @@ wake-requires-clause-room c =
     let placed = rw (← c.self.view_is) at c.requires.place in
     let n = taken-above (tables_of c.self.inside) c.args.ticket.worker c.args.ticket.number c.self.invariant.stands (rw (← c.self.view_is) at c.requires.worker) c.get-row.result.now c.get-row.ensures placed in
     omega (arith, n, c.self.invariant.room_ready)
+
+pub wake-requires-clause-rising : goal.wake-requires-clause-rising
+wake-requires-clause-rising c = rw c.self.invariant.stands.ready (numbers-rise row_ready c.self.inside.rows.items)
 
 pub append_reserved-requires : goal.append_reserved-requires
 append_reserved-requires c =

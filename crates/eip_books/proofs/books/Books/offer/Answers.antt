@@ -1,13 +1,7 @@
-use Rattle.std.proofs.Common.{arith, ◌≡◌, ◌-◌, ◌+◌, ◌<◌, [], ◌∷◌, ◌++◌, length, set as put_at, Some, Err, map, refl, ap, sym, ◌∙◌}
-use Rattle.std.specs.List.{slice_get}
+use Rattle.std.proofs.Common.{arith, ◌≡◌, ◌-◌, ◌+◌, [], ◌∷◌, ◌++◌, length, set as put_at, Some, Err, map, refl, ap, sym, ◌∙◌}
 use Rattle.std.proofs.lemmas.List.{length-reverse}
-use Rattle.eip_exchange.specs.declared.birth.Birth.{Birth}
-use Rattle.eip_exchange.specs.declared.message.Message.{Message}
-use Rattle.eip_history.specs.Place.{waiting}
 use Rattle.eip_ledger.specs.declared.place.Place.TheVariants.{Ready}
-use Rattle.eip_plan.specs.Plan.{plan_of}
 use Rattle.eip_books.specs.Facts.{tables_of}
-use Rattle.eip_tables.specs.declared.row.Row.{Row}
 use Rattle.eip_tables.specs.State.{row_outside, known_of}
 use Rattle.eip_tables.specs.Moves.{answered, copy_row}
 use Rattle.eip_tables.specs.Offers.{AsksOffer, offer_asked, offered_message, copy_birth, hops_by}

@@ -4,6 +4,8 @@ use Rattle.eip_ledger.specs.declared.place.Place.TheVariants.{InHand}
 use Rattle.eip_books.specs.Facts.{tables_of}
 use Rattle.eip_tables.specs.State.{row_outside}
 use Rattle.eip_tables.specs.Moves.{answered}
+use Rattle.eip_tables.specs.Rows.{row_ready}
+use Rattle.eip_tables.proofs.NumbersRise.{numbers-rise}
 use Rattle.eip_table_laws.proofs.Bounds.{within-limit}
 use Rattle.eip_table_laws.proofs.OwnCalls.{row-within, placed-some}
 use Rattle.eip_table_laws.proofs.RowNumbers.{numbers-stay}
@@ -33,8 +35,11 @@ answer-requires-clause-above c = (row-within (tables_of c.self.inside) c.args.nu
 pub answer-requires-clause-within : goal.answer-requires-clause-within
 answer-requires-clause-within c = (row-within (tables_of c.self.inside) c.args.number (InHand c.args.worker) c.self.invariant.stands (rw (← c.self.view_is) at c.requires.hand)).1
 
-pub put_in-requires : goal.put_in-requires
-put_in-requires c =
+pub put_in-requires-clause-rising : goal.put_in-requires-clause-rising
+put_in-requires-clause-rising c = rw c.self.invariant.stands.ready (numbers-rise row_ready c.self.inside.rows.items)
+
+pub put_in-requires-clause-room : goal.put_in-requires-clause-room
+put_in-requires-clause-room c =
     let placed = rw (← c.self.view_is) at c.requires.hand in
     let r = placed-some (tables_of c.self.inside) c.args.number (InHand c.args.worker) c.self.invariant.stands placed in
     omega (arith, c.self.invariant.room_ready, taken-above (tables_of c.self.inside) c.args.worker c.args.number c.self.invariant.stands (rw (← c.self.view_is) at c.requires.worker) r.0 r.1 placed)

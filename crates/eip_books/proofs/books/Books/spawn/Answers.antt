@@ -1,4 +1,4 @@
-use Rattle.std.proofs.Common.{arith, ◌≡◌, ◌-◌, ◌+◌, ◌≤◌, ◌<◌, [], ◌∷◌, ◌++◌, length, set as put_at, Some, refl, sym, ap, ◌∙◌, length-append}
+use Rattle.std.proofs.Common.{arith, ◌≡◌, ◌-◌, ◌+◌, ◌++◌, length, set as put_at, refl, ap, ◌∙◌, length-append}
 use Rattle.std.proofs.lemmas.List.{length-reverse}
 use Rattle.std.proofs.Math.ListN.{length-set}
 use Rattle.eip_ledger.specs.declared.place.Place.TheVariants.{Ready}
@@ -7,7 +7,7 @@ use Rattle.eip_tables.specs.declared.parts.Parent.{Parent}
 use Rattle.eip_tables.specs.Numbers.{row_numbers}
 use Rattle.eip_tables.specs.State.{row_outside}
 use Rattle.eip_tables.specs.Moves.{joining}
-use Rattle.eip_tables.specs.Parts.{parent_of, seed_rows, seeds_asked, count_asked, at_by, starving_faults}
+use Rattle.eip_tables.specs.Parts.{parent_of, seed_rows, seeds_asked, count_asked, at_by}
 use Rattle.eip_table_laws.proofs.Bounds.{within-limit, live-within, rows-are}
 use Rattle.eip_table_laws.proofs.OwnCalls.{row-within}
 use Rattle.eip_table_laws.proofs.OfferCalls.{births-few}

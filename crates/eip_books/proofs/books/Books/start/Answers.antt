@@ -1,6 +1,8 @@
-use Rattle.std.proofs.Common.{arith, ◌≡◌, ◌-◌, ◌<◌, ◌∙◌, Some, true, false, sym, refl}
+use Rattle.std.proofs.Common.{arith, ◌-◌, ◌∙◌, sym, refl}
 use Rattle.eip_tables.specs.State.{row_outside}
 use Rattle.eip_tables.specs.Moves.{started}
+use Rattle.eip_tables.specs.Rows.{row_ready}
+use Rattle.eip_tables.proofs.NumbersRise.{numbers-rise}
 use Rattle.eip_books.specs.Facts.{tables_of}
 use Rattle.eip_table_laws.proofs.RowNumbers.{numbers-stay}
 use Rattle.eip_table_laws.proofs.QueueCalls.{queues-many}
@@ -41,6 +43,9 @@ start-requires-2-clause-within c =
     let f = queue-found c.self.inside.set c.self.inside.journal.past c.self.inside.queues c.self.invariant.stands.queues c.in_ok-queue.field-0 (sym c.first_startable.ensures ∙ c.in_ok-queue.was) in
     let one = started-first c.self.inside.set c.self.inside.journal.past c.in_ok-queue.field-0 c.self.inside.queues c.start.result c.self.invariant.stands.queues f.within c.start.ensures.number c.in-Some.number c.in-Some.is in
     (start-within (tables_of c.self.inside) c.args.worker c.in_ok-queue.field-0 c.in-Some.number c.self.invariant.stands (rw (← c.self.view_is) at c.requires.worker) (one.0, one.1, rw (← c.self.view_is) at c.requires.below)).1
+
+pub put_in-requires-clause-rising : goal.put_in-requires-clause-rising
+put_in-requires-clause-rising c = rw c.self.invariant.stands.ready (numbers-rise row_ready c.self.inside.rows.items)
 
 pub invariant_of-self : goal.invariant_of-self
 invariant_of-self c =

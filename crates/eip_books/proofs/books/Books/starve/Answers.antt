@@ -6,7 +6,7 @@ use Rattle.eip_tables.specs.declared.row.Stage.TheVariants as stage
 use Rattle.eip_table_laws.proofs.OwnCalls.{row-within, stands-starve, starve-leaves, starve-tells, starve-wakes, live-above}
 use Rattle.eip_table_laws.proofs.ListedNumbers.{leave-at}
 use Rattle.eip_tables.specs.Rows.{row_ready}
-use Rattle.eip_tables.proofs.NumbersRise.{numbers-rise}
+use Rattle.eip_tables.proofs.NumbersRise.{numbers-rise, without-rises}
 use Rattle.eip_books.specs.Facts.{tables_of}
 use Rattle.eip_table_laws.proofs.Ending.{behind-outside}
 use Rattle.eip_books.proofs.Waking.{if-woken}
@@ -52,6 +52,9 @@ overflow_sub-self c =
 
 pub remove-requires : goal.remove-requires
 remove-requires c = rw c.self.invariant.stands.ready (numbers-rise row_ready c.self.inside.rows.items)
+
+pub wake-requires-clause-rising : goal.wake-requires-clause-rising
+wake-requires-clause-rising c = rw c.remove.ensures.numbers (without-rises c.args.number 0 c.self.inside.ready.numbers (rw c.self.invariant.stands.ready (numbers-rise row_ready c.self.inside.rows.items)))
 
 pub invariant_of-self : goal.invariant_of-self
 invariant_of-self c =

@@ -1,4 +1,4 @@
-use Rattle.std.proofs.Common.{false, ◌∙◌, ap}
+use Rattle.std.proofs.Common.{◌∙◌, ap}
 use Rattle.eip_history.specs.Rules.{first}
 use Rattle.eip_books.specs.Facts.{tables_of}
 use Rattle.eip_tables.specs.State.{row_outside}

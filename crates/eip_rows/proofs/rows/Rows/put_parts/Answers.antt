@@ -1,4 +1,4 @@
-use Rattle.std.proofs.Common.{◌≡◌, ℕ, suc, ◌+◌, ◌≤◌, List, [], ◌∷◌, ◌++◌, length, refl, ap, ◌∙◌, arith, length-append}
+use Rattle.std.proofs.Common.{◌≡◌, ℕ, suc, ◌+◌, List, [], ◌∷◌, length, refl, ap, ◌∙◌, arith, length-append}
 use Rattle.eip_frames.specs.declared.request.Seed.{Seed}
 use Rattle.eip_tables.specs.declared.parts.Parent.{Parent}
 use Rattle.eip_tables.specs.Parts.{seed_rows}

@@ -1,4 +1,4 @@
-use Rattle.std.proofs.Common.{◌≡◌, ℕ, ◌<◌, ◌≤◌, Option, OnSome, inl, inr, subst, sym, ◌∙◌, arith, get_or, length}
+use Rattle.std.proofs.Common.{◌≡◌, ℕ, Option, OnSome, inl, inr, subst, sym, ◌∙◌, arith}
 use Rattle.std.proofs.lemmas.Bool.{cases_lt}
 use Rattle.std.proofs.lemmas.List.Sorted.{searched}
 use Rattle.std.specs.List.{remove}

@@ -1,0 +1,60 @@
+use eip_core::Registry;
+use eip_endpoint::{Inlets, Lanes, MemoryFiles, MemorySink};
+use eip_run::run;
+use eip_simple_read::CratePatterns;
+use eip_test_support::texts;
+use eip_text::{NoMemory, Series, Text};
+use std::alloc::Global;
+
+/// A file in memory: its folder, its name and its bytes.
+pub type Held = (&'static str, &'static str, &'static [u8]);
+
+/// These files, of whose calls those of these numbers, from 1, fail.
+pub fn files_of(alloc: Global, held: &[Held], failing: Vec<u64>) -> Result<MemoryFiles, NoMemory> {
+    let mut content = Vec::new(alloc);
+    for (folder, name, bytes) in held {
+        let mut copy = Vec::new(alloc);
+        copy.extend_from_slice(bytes)?;
+        let folder = Text::of_str(alloc, folder)?;
+        let name = Text::of_str(alloc, name)?;
+        content.push((folder, name, Series::of(copy)))?;
+    }
+    Ok(MemoryFiles::new(alloc, content, failing))
+}
+
+/// Whether a file of this folder and name has these bytes.
+pub fn holds(files: &MemoryFiles, wanted: &Held) -> bool {
+    let (folder, name, bytes) = wanted;
+    files.content().iter().any(|file| file.0.as_str() == *folder
+        && file.1.as_str() == *name
+        && file.2.items() == *bytes)
+}
+
+/// Whether a drain of these routes over these lanes and inlets is drained with this text.
+pub fn is_drained<L: Lanes, I: Inlets>(
+    alloc: Global,
+    routes: &'static str,
+    lanes: &mut L,
+    inlets: &mut I,
+    text: &str,
+) -> Result<bool, NoMemory> {
+    let words = texts(alloc, &["drain", "r.json"])?;
+    let mut files = files_of(
+        alloc,
+        &[(".", "r.json", routes.as_bytes())],
+        Vec::new(alloc),
+    )?;
+    let mut patterns = CratePatterns::new(Vec::new(alloc));
+    let mut out = MemorySink::new(alloc, Vec::new(alloc));
+    let report = run(
+        alloc,
+        &words,
+        &mut files,
+        &mut patterns,
+        lanes,
+        inlets,
+        &Registry::new(),
+        &mut out,
+    );
+    Ok(report.status == 0 && out.bytes() == text.as_bytes())
+}

@@ -1,0 +1,9 @@
+// Tests of the command over files and lines: what the top call leaves of them, told by objects in memory.
+#![tactic(auto)]
+
+#[cfg(test)]
+mod files;
+#[cfg(test)]
+mod given;
+#[cfg(test)]
+mod lines;

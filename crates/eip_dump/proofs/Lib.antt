@@ -1,0 +1,11 @@
+pub mod Growing
+pub mod Keeping
+pub mod Words
+pub mod Steps
+pub mod AgainNumbers
+pub mod AgainTexts
+pub mod AgainMessages
+pub mod AgainEntries
+pub mod AgainDumps
+pub mod ReadLines
+pub mod Unique

@@ -1,0 +1,5 @@
+pub mod Lines
+pub mod Kept
+pub mod Reading
+pub mod Dump
+pub mod Rows

@@ -1,0 +1,4 @@
+pub mod Items
+pub mod Listings
+pub mod Commits
+pub mod Sends

@@ -1,0 +1,4 @@
+pub mod LineLaws
+pub mod ReaderLaws
+pub mod SourceLaws
+pub mod MemoryLaws

@@ -1,0 +1,4 @@
+mod Asked
+mod InTurn
+mod Gathering
+pub mod Resequenced

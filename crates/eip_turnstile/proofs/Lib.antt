@@ -1,0 +1,4 @@
+pub mod Lists
+pub mod Keeps
+pub mod SameHeld
+pub mod OneMore

@@ -1,0 +1,6 @@
+use Rattle.std.proofs.Common.{◌≡◌}
+use Rattle.eip_turnstile.proofs.seat.Turnstile.enter.Given as goal
+
+abbrev pub invariant-loop : goal.invariant-loop
+invariant-loop g l =
+    (goal.iterator-loop g).can_next l.iterator' × (goal.iterator-loop g).is_finite l.iterator' × (l.place.table_id ≡ l.fn.seat.place.table_id) × (l.place.me ≡ l.fn.seat.place.me)
