@@ -4,7 +4,7 @@ use Rattle.eip_books.specs.declared.books.Books.TheInside.{Inside}
 use Rattle.eip_tables.specs.Stands.{Tables, Stands}
 
 abbrev pub tables_of : Inside → Tables
-tables_of a = record { rows = a.rows.items; ready = a.ready.numbers; sources = a.sources; turns = a.turns; fault = a.fault; notes = a.notes.items; taken = a.taken; pulled = a.pulled; live = a.live; queues = a.queues; joins = a.joins; clock = a.clock; sleepers = a.sleepers; groups = a.groups }
+tables_of a = record { rows = a.rows.items; ready = a.ready.numbers; sources = a.sources; turns = a.turns; fault = a.fault; notes = a.notes.items; taken = a.taken; pulled = a.pulled; live = a.live; queues = a.queues; joins = a.joins; clock = a.clock; sleepers = a.sleepers; groups = a.groups; keys = a.keys }
 
 pub record BooksFacts (a : Inside) : Type 0 where
   pub stands : Stands a.set a.journal.workers a.journal.turns a.journal.past (tables_of a)

@@ -29,6 +29,7 @@ use crate::ticket::Ticket;
 use eip_aggregator::Groups;
 use eip_exchange::{End, Ending, Message};
 use eip_frames::Answer;
+use eip_idempotent::Repo;
 use eip_join::Joins;
 use eip_ledger::{Entry, Journal, Kind, Note, Place, Refused, Stop};
 use eip_redelivery::Retries;
@@ -37,6 +38,7 @@ use eip_rows::look::{first_look, offered_birth};
 use eip_rows::rows::Rows;
 use eip_seda::{OfferFault, Queues};
 use eip_tables::asking::{Asked, Inner, asked_of};
+use eip_tables::keys::ending_by;
 use eip_tables::notes::{append_answer, keep_line, make_room, refusal};
 use eip_tables::origin::{OriginView, ending_of, origin_born};
 use eip_tables::places::place_of;
@@ -70,6 +72,7 @@ pub struct Books {
     pub(crate) clock: u64,
     pub(crate) sleepers: Retries,
     pub(crate) groups: Groups,
+    pub(crate) keys: Repo,
     pub(crate) room: u64,
 }
 
@@ -124,6 +127,7 @@ impl Books {
             clock: 0,
             sleepers: Retries::new(alloc),
             groups: Groups::new(alloc),
+            keys: Repo::new(alloc),
             room: 0,
         })
     }
@@ -450,6 +454,10 @@ impl Books {
                 self.arrive(worker, number)?;
                 Ok(Inner::Did)
             }
+            Asked::Key => {
+                self.claim(worker, number)?;
+                Ok(Inner::Did)
+            }
             Asked::Moment => {
                 self.wait(worker, number)?;
                 Ok(Inner::Did)
@@ -459,7 +467,6 @@ impl Books {
                 Ok(Inner::Did)
             }
             Asked::Outside => Ok(Inner::Outside),
-            Asked::Other => Err(NoMemory),
             Asked::Unknown => unreachable!(),
         }
     }
@@ -571,6 +578,7 @@ impl Books {
         ensures outside { self.new.outside ≡ self.old.outside }
     {
         leave(&mut self.queues, self.rows.get(number).born);
+        self.keys.settle(number, ending_by(&end, &answer));
         self.rows.end_by(number, end, &answer);
         append_answer(&mut self.journal, worker, number, answer);
         self.turns += 1;

@@ -10,17 +10,19 @@ ghost use Rattle.eip_books.specs.View.{plan, IsLegalRun, Adds, IsSame};
 
 use crate::books::Books;
 use crate::ticket::Ticket;
+use eip_exchange::Ending;
 use eip_frames::Answer;
 use eip_ledger::{Entry, Kind};
 use eip_rows::waking::wake;
 use eip_tables::joins::{close, tell};
+use eip_tables::keys::ending_asked;
 use eip_tables::notes::{append_answer, make_room};
 use eip_tables::queues::leave;
 use eip_tables::row::part_end;
 use eip_text::NoMemory;
 
 // How exchanges end: as they ask, or for want of memory. The parent of a part is told of its end, and may act again behind that
-// of the last one.
+// of the last one. Its claims on keys hold from then on, or are given up.
 
 impl Books {
     /// The exchange ends as it asks.
@@ -42,6 +44,10 @@ impl Books {
         let row = self.rows.get(number);
         let born = row.born;
         let told = part_end(row)?;
+        let Some(ending) = ending_asked(&row.request) else {
+            unreachable!()
+        };
+        self.keys.settle(number, ending);
         leave(&mut self.queues, born);
         let ended = self.rows.finish_asked(number, told);
         let woken = tell(&mut self.joins, born, number, ended);
@@ -67,6 +73,7 @@ impl Books {
         let born = row.born;
         leave(&mut self.queues, born);
         close(&mut self.joins, number);
+        self.keys.settle(number, Ending::Failed);
         let ended = self.rows.starve(number);
         let woken = tell(&mut self.joins, born, number, ended);
         self.ready.remove(number);
@@ -97,6 +104,7 @@ impl Books {
         let row = self.rows.get(number);
         let born = row.born;
         leave(&mut self.queues, born);
+        self.keys.settle(number, Ending::Failed);
         let ended = self.rows.starve(number);
         let woken = tell(&mut self.joins, born, number, ended);
         wake(&mut self.rows, &mut self.ready, woken);

@@ -4,6 +4,7 @@
 pub mod books;
 mod ends;
 mod groups;
+mod keys;
 mod parts;
 mod sleep;
 pub mod ticket;

@@ -14,3 +14,4 @@ abbrev pub inlet_faults_of : {A F K : Type 0} → (A → ℕ) → (F → ℕ) �
 inlet_faults_of input files link (inlet.Stream s) = faults_with (input s.link) s.endless
 inlet_faults_of input files link (inlet.Files s) = files s.files
 inlet_faults_of input files link (inlet.Lines s) = faults_with (link s.link) s.endless
+inlet_faults_of input files link (inlet.Loads s) = 0

@@ -6,9 +6,9 @@ ghost use Rattle.eip_host.specs.Words.{question_in, text_of};
 ghost use Rattle.eip_run.specs.Given.{outside};
 ghost use Rattle.eip_cli.specs.Answers.{WasRun, Commanded, TellsFault};
 
-use eip_core::Registry;
 use eip_endpoint::{Files, Inlets, Lanes, Sink};
 use eip_host::{question_of, say};
+use eip_processor::Registered;
 use eip_run::run;
 use eip_simple_read::Patterns;
 use eip_text::{NoMemory, Text, TextFault};
@@ -21,11 +21,19 @@ const REFUSED: u8 = 1;
 /// The status where memory was wanting.
 const NO_MEMORY: u8 = 5;
 
-/// Runs a command over lanes and inlets, and answers the status of its outcome. Where memory was wanting for these, nothing is done.
-fn carry_out<F: Files, P: Patterns, L: Lanes + Drop, I: Inlets + Drop, O: Sink>(
+/// Runs a command over lanes, inlets and a registry, and answers the status of its outcome. Where memory was wanting for these, nothing is
+/// done.
+fn carry_out<
+    F: Files,
+    P: Patterns,
+    L: Lanes + Drop,
+    I: Inlets + Drop,
+    R: Registered + Drop,
+    O: Sink,
+>(
     alloc: Global,
     words: &[Text],
-    handed: Result<(L, I), NoMemory>,
+    handed: Result<(L, I, R), NoMemory>,
     files: &mut F,
     patterns: &mut P,
     out: &mut O,
@@ -33,13 +41,12 @@ fn carry_out<F: Files, P: Patterns, L: Lanes + Drop, I: Inlets + Drop, O: Sink>(
     ensures ran { IfOk result (λ status. IsOkAnd handed (λ h. WasRun words.now
         (outside F.Files O.Sink files.old (P.pattern_faults patterns.old) [] [] out.old)
         (outside F.Files O.Sink files.new (P.pattern_faults patterns.new) [] [] out.new)
-        (L.views h.0) (I.views h.1) status)) }
+        (L.views h.0) (I.views h.1) (R.view h.2) status)) }
     ensures files { OnErr result (F.files_faults files.new ≡ F.files_faults files.old) }
     ensures patterns { OnErr result (P.pattern_faults patterns.new ≡ P.pattern_faults patterns.old) }
     ensures out { OnErr result (out.new ≡ out.old) }
 {
-    let (mut lanes, mut inlets) = handed?;
-    let registry = Registry::new();
+    let (mut lanes, mut inlets, registry) = handed?;
     let report = run(
         alloc,
         words,
@@ -54,16 +61,23 @@ fn carry_out<F: Files, P: Patterns, L: Lanes + Drop, I: Inlets + Drop, O: Sink>(
 }
 
 /// Answers words: what they ask of the program itself is told, and others are run as a command.
-fn answer_words<F: Files, P: Patterns, L: Lanes + Drop, I: Inlets + Drop, O: Sink>(
+fn answer_words<
+    F: Files,
+    P: Patterns,
+    L: Lanes + Drop,
+    I: Inlets + Drop,
+    R: Registered + Drop,
+    O: Sink,
+>(
     alloc: Global,
     words: &[Text],
-    handed: Result<(L, I), NoMemory>,
+    handed: Result<(L, I, R), NoMemory>,
     files: &mut F,
     patterns: &mut P,
     out: &mut O,
 ) -> u8
     ensures question { IfSome (question_in words.now) (λ q. Said (text_of q) 0 (O.bytes out.old) (O.bytes out.new) (O.sink_faults out.old) (O.sink_faults out.new) result) }
-    ensures command { question_in words.now ≡ None → Commanded (λ h. L.views h.0) (λ h. I.views h.1) words.now handed
+    ensures command { question_in words.now ≡ None → Commanded (λ h. L.views h.0) (λ h. I.views h.1) (λ h. R.view h.2) words.now handed
         (outside F.Files O.Sink files.old (P.pattern_faults patterns.old) [] [] out.old)
         (outside F.Files O.Sink files.new (P.pattern_faults patterns.new) [] [] out.new)
         result }
@@ -88,12 +102,20 @@ fn tell_fault<O: Sink>(fault: TextFault, out: &mut O) -> u8
 }
 
 /// What the program does: it answers the words that the host gave, and ends with the status. `--help` and `--version`
-/// are told. Other words are run as a command, with the files, the patterns, the lanes and the inlets that are handed in. Where the host gave no words since one of them is not UTF-8, that is told as words that are
+/// are told. Other words are run as a command, with the files, the patterns, the lanes, the inlets and the registry that are
+/// handed in. Where the host gave no words since one of them is not UTF-8, that is told as words that are
 /// refused; where memory was wanting, that is told.
-pub fn answer<F: Files, P: Patterns, L: Lanes + Drop, I: Inlets + Drop, O: Sink>(
+pub fn answer<
+    F: Files,
+    P: Patterns,
+    L: Lanes + Drop,
+    I: Inlets + Drop,
+    R: Registered + Drop,
+    O: Sink,
+>(
     alloc: Global,
     words: Result<Vec<Text>, TextFault>,
-    handed: Result<(L, I), NoMemory>,
+    handed: Result<(L, I, R), NoMemory>,
     files: &mut F,
     patterns: &mut P,
     out: &mut O,
@@ -102,7 +124,7 @@ pub fn answer<F: Files, P: Patterns, L: Lanes + Drop, I: Inlets + Drop, O: Sink>
         (O.bytes out.old) (O.bytes out.new) (O.sink_faults out.old) (O.sink_faults out.new) (exit_status result)) }
     ensures question { IfOk words (λ w. IfSome (question_in w.items) (λ q. Said (text_of q) 0
         (O.bytes out.old) (O.bytes out.new) (O.sink_faults out.old) (O.sink_faults out.new) (exit_status result))) }
-    ensures command { IfOk words (λ w. question_in w.items ≡ None → Commanded (λ h. L.views h.0) (λ h. I.views h.1) w.items handed
+    ensures command { IfOk words (λ w. question_in w.items ≡ None → Commanded (λ h. L.views h.0) (λ h. I.views h.1) (λ h. R.view h.2) w.items handed
         (outside F.Files O.Sink files.old (P.pattern_faults patterns.old) [] [] out.old)
         (outside F.Files O.Sink files.new (P.pattern_faults patterns.new) [] [] out.new)
         (exit_status result)) }

@@ -7,6 +7,7 @@ use eip_exchange::{End, Message};
 use eip_file::{FileLane, FileSource};
 use eip_frames::Target;
 use eip_line::{LineLane, LineSource, Link};
+use eip_load::LoadSource;
 use eip_text::Text;
 use eip_uri::Uri;
 
@@ -43,6 +44,8 @@ pub enum HostInlet<A, F, K> {
     Files(FileSource<F>),
     /// Lines of peers.
     Lines(LineSource<K>),
+    /// Items of a load.
+    Loads(LoadSource),
 }
 
 impl<A: Link + Send + Drop, F: Mover + Send + Drop, K: Link + Send + Drop> Source
@@ -60,6 +63,7 @@ impl<A: Link + Send + Drop, F: Mover + Send + Drop, K: Link + Send + Drop> Sourc
             HostInlet::Stream(source) => source.pull(from),
             HostInlet::Files(source) => source.pull(from),
             HostInlet::Lines(source) => source.pull(from),
+            HostInlet::Loads(source) => source.pull(from),
         }
     }
 
@@ -68,6 +72,7 @@ impl<A: Link + Send + Drop, F: Mover + Send + Drop, K: Link + Send + Drop> Sourc
             HostInlet::Stream(source) => source.commit(from, item, end),
             HostInlet::Files(source) => source.commit(from, item, end),
             HostInlet::Lines(source) => source.commit(from, item, end),
+            HostInlet::Loads(source) => source.commit(from, item, end),
         }
     }
 }

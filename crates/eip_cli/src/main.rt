@@ -6,11 +6,25 @@ mod doors;
 mod objects;
 
 use answer::answer;
-use eip_host::{HostFileSystem, HostFiles, HostNetwork, Output, ReaderLink, words_of};
+use eip_host::{
+    HostFileSystem, HostFiles, HostNetwork, Output, Progress, ReaderLink, SharedProgress, words_of,
+};
 use eip_peers::PeerLink;
 use objects::{handed_in, patterns};
 use std::env;
+use std::io::{IsTerminal, Stderr};
 use std::process::ExitCode;
+use std::sync::{Arc, Mutex};
+
+/// The count of items that are taken, where standard error is a terminal, and there is memory for it.
+fn progress(rt: HostRuntime) -> Option<SharedProgress<HostRuntime, Stderr>> {
+    let alloc = rt.alloc();
+    let error = rt.stderr();
+    if !error.is_terminal() {
+        return None;
+    }
+    Arc::new(alloc, Mutex::new(Progress::new(alloc, rt, error))).ok()
+}
 
 fn main(rt: HostRuntime) -> ExitCode {
     let alloc = rt.alloc();
@@ -22,7 +36,13 @@ fn main(rt: HostRuntime) -> ExitCode {
     answer(
         alloc,
         words_of(alloc, env::args(&rt)),
-        handed_in(alloc, input, (written, taken), (called, heard)),
+        handed_in(
+            alloc,
+            input,
+            (written, taken),
+            (called, heard),
+            &progress(rt),
+        ),
         &mut HostFiles::new(alloc, HostFileSystem { runtime: rt }),
         &mut patterns(alloc),
         &mut Output::new(rt.stdout()),

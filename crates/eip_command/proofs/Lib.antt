@@ -1,3 +1,5 @@
 mod Pairs
-mod Turns
-pub mod Paths
+mod Said
+mod Verbs
+mod Paths
+pub mod Commands

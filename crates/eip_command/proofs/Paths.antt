@@ -1,23 +1,13 @@
 -- The folder and the name of the file that a path names.
 use Rattle.std.proofs.Common.{◌≡◌, ℕ, ◌<◌, Bool, true, false, cond, eqb, List, [], ◌∷◌, ◌++◌, length, get_or, inl, inr, Option, Some, None, MatchOption, refl, sym, ap, ◌∙◌, arith, codes, suc, take, drop, ◌+◌, ◌≤◌, subst, take-append-drop}
 use denote.Ref.{Bor}
-use Rattle.std.proofs.lemmas.Bool.{ne_eqb, eqb-true, cond-true, cond-false, and_parts}
+use Rattle.std.proofs.lemmas.Bool.{ne_eqb, eqb-true, cond-true, cond-false}
 use Rattle.std.specs.Str.Pattern.{RFindsChar}
 use Rattle.std.proofs.lemmas.List.{drop_more}
-use Rattle.std.proofs.lemmas.Option.{same_Some}
 use Rattle.std.proofs.lemmas.Str.{len_utf8_ascii}
 use Rattle.std.proofs.lemmas.Str.Pattern.{NoCharPasses-char}
-use Rattle.std.specs.Str.{bytes_eq}
-use Rattle.std.proofs.lemmas.Slice.Eq.{bytes_eq-Decides}
 use Rattle.eip_text.specs.Cuts.{holds_byte}
-use Rattle.eip_text.proofs.Cutting.{guarded}
-use Rattle.eip_command.specs.declared.words.Command.{Command}
-use Rattle.eip_command.specs.declared.words.Command.TheVariants as command
-use Rattle.eip_command.specs.declared.words.Verb.TheVariants as verb
-use Rattle.eip_command.specs.Forms.{Options, is_path, are_pairs, follow}
-use Rattle.eip_command.specs.declared.forms.Rule.TheVariants as rule
-use Rattle.eip_command.specs.Words.{drain_options, turns_in, command_by, first_file, command_of, IsOn, SaysTurns, IsDrain, IsCommand, name_of, front_of, or_root, folder_of, file_at, IsAt, IsFile}
-use Rattle.eip_command.proofs.Turns.{turns-said}
+use Rattle.eip_command.specs.Words.{name_of, front_of, or_root, folder_of, file_at, IsAt, IsFile}
 
 -- ---- where the last `/` stands
 
@@ -117,66 +107,3 @@ at_by true bs (x ∷ xs) e h = inr (inr (h e, λ n. cc))
 
 pub file_is : (bs : List ℕ) → IsFile bs (file_at bs)
 file_is bs = record { at = at_by (holds_byte 47 bs) bs (front_of bs) refl (whole bs); plain = name_plain bs }
-
--- ---- the words are those of the command
-
--- a path, and these words behind it
-pub record IsPath (behind words : List (List ℕ)) : Type 0 where
-  pub path : List ℕ
-  pub said : words ≡ path ∷ behind
-  pub fit : is_path path ≡ true
-
-one-path : (os : Options) (words : List (List ℕ)) → follow (rule.Path ∷ []) os words ≡ true → (behind : List (List ℕ)) × IsPath behind words × (are_pairs os behind ≡ true)
-one-path os [] h = absurd cc
-one-path os (path ∷ behind) h =
-    let both = and_parts (is_path path) (are_pairs os behind) h in
-    (behind, record { path = path; said = refl; fit = both.0 }, both.1)
-
-no-pairs : (words : List (List ℕ)) → are_pairs [] words ≡ true → words ≡ []
-no-pairs [] h = refl
-no-pairs (w ∷ []) h = absurd (cc h)
-no-pairs (w ∷ (v ∷ words)) h = absurd (cc h)
-
-is-on : (first word : List ℕ) (behind words : List (List ℕ)) → bytes_eq first word ≡ true → IsPath behind words → IsOn first behind (word ∷ words) (first_file words)
-is-on first word behind words e is = record {
-  path = is.path;
-  said = ap (λ (w : List ℕ). w ∷ words) (sym ((bytes_eq-Decides first word).0 e)) ∙ ap (λ (ws : List (List ℕ)). first ∷ ws) is.said;
-  fit = is.fit;
-  file = subst (IsFile is.path) (sym (ap first_file is.said)) (file_is is.path);
-}
-
-is-drain : (word : List ℕ) (words : List (List ℕ)) → bytes_eq (codes "drain") word ≡ true → follow (rule.Path ∷ []) drain_options words ≡ true
-    → IsDrain (word ∷ words) (first_file words) (turns_in (drop 1 words))
-is-drain word words e h =
-    let p = one-path drain_options words h in
-    let said : turns_in (drop 1 words) ≡ turns_in p.0 = ap (λ (ws : List (List ℕ)). turns_in (drop 1 ws)) p.1.said in
-    let t = turns-said p.0 p.2 in
-    record {
-      behind = p.0;
-      on = is-on (codes "drain") word p.0 words e p.1;
-      says = subst (SaysTurns p.0) (sym said) t.says;
-      some = subst (λ n. 1 ≤ n) (sym said) t.some;
-      most = subst (λ n. n ≤ 1000000) (sym said) t.most;
-    }
-
-is-check : (word : List ℕ) (words : List (List ℕ)) → bytes_eq (codes "check") word ≡ true → follow (rule.Path ∷ []) [] words ≡ true
-    → IsOn (codes "check") [] (word ∷ words) (first_file words)
-is-check word words e h =
-    let p = one-path [] words h in
-    subst (λ (ws : List (List ℕ)). IsOn (codes "check") ws (word ∷ words) (first_file words)) (no-pairs p.0 p.2) (is-on (codes "check") word p.0 words e p.1)
-
-asked-by : (b d : Bool) (word : List ℕ) (words : List (List ℕ)) (c : Command) → bytes_eq (codes "drain") word ≡ b → bytes_eq (codes "check") word ≡ d
-    → command_by (cond b (Some verb.Drain) (cond d (Some verb.Check) None)) words ≡ Some c → IsCommand (word ∷ words) c
-asked-by true d word words c is_drain is_check e =
-    let made : Command = command.Drain (first_file words) (turns_in (drop 1 words)) in
-    let g = guarded (follow (rule.Path ∷ []) drain_options words) (Some made) c e in
-    subst (IsCommand (word ∷ words)) (same_Some made c g.1) (is-drain word words is_drain g.0)
-asked-by false true word words c is_drain is_check e =
-    let made : Command = command.Check (first_file words) in
-    let g = guarded (follow (rule.Path ∷ []) [] words) (Some made) c e in
-    subst (IsCommand (word ∷ words)) (same_Some made c g.1) (is-check word words is_check g.0)
-asked-by false false word words c is_drain is_check e = absurd (cc e)
-
-pub command_is : (words : List (List ℕ)) (c : Command) → command_of words ≡ Some c → IsCommand words c
-command_is [] c e = absurd cc
-command_is (word ∷ words) c e = asked-by (bytes_eq (codes "drain") word) (bytes_eq (codes "check") word) word words c refl refl e

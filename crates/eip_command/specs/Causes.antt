@@ -9,7 +9,7 @@ fault_line f = codes "error routes " ++ (f.path ++ (32 ∷ (cause_text f.cause +
 
 -- ---- worked rows
 
-pub row-plain : fault_line (record { path = codes "$"; cause = cause.NotBuilt }) ≡ codes "error routes $ NotBuilt\n"
+pub row-plain : fault_line (record { path = codes "$"; cause = cause.NoFile }) ≡ codes "error routes $ NoFile\n"
 unfolding fault_line cause_text
 row-plain = refl
 

@@ -1,5 +1,5 @@
 -- Which lists of words are a command, and which file a path names.
-use Rattle.std.specs.Prelude.{◌≡◌, ◌≢◌, ◌≤◌, ℕ, true, false, ◌⊎◌, List, [], ◌∷◌, ◌++◌, drop, bytes_eq, codes, Option, Some, None, unwrap_or, if◌then◌else◌, refl}
+use Rattle.std.specs.Prelude.{◌≡◌, ◌≢◌, ◌≤◌, ℕ, true, false, ◌⊎◌, List, [], ◌∷◌, ◌++◌, drop, bytes_eq, codes, decimal, Option, Some, None, option_map, unwrap_or, if◌then◌else◌, refl}
 use Rattle.std.specs.Fmt.{digits}
 use Rattle.eip_text.specs.Counts.{count_of}
 use Rattle.eip_text.specs.Cuts.{holds_byte}
@@ -37,15 +37,16 @@ file_at bs = record { folder = folder_of bs; name = name_of bs }
 
 -- the options of a drain
 abbrev pub drain_options : Options
-drain_options = (codes "--turns", rule.Count 1 1000000) ∷ []
+drain_options = (codes "--turns", rule.Count 1 1000000) ∷ (codes "--journal", rule.Path) ∷ []
 
 -- the form of each
 abbrev pub form : Verb → CommandForm
 form verb.Drain = record { word = codes "drain"; operands = rule.Path ∷ []; options = drain_options }
 form verb.Check = record { word = codes "check"; operands = rule.Path ∷ []; options = [] }
+form verb.Load = record { word = codes "load"; operands = rule.Count 1 20000 ∷ rule.Count 0 0 ∷ []; options = [] }
 
 abbrev pub verbs : List Verb
-verbs = verb.Drain ∷ verb.Check ∷ []
+verbs = verb.Drain ∷ verb.Check ∷ verb.Load ∷ []
 
 -- the first of these verbs whose word this is
 abbrev pub verb_among : List Verb → List ℕ → Option Verb
@@ -72,10 +73,20 @@ turns_or (Some value) = unwrap_or (count_of value) default_turns
 abbrev pub turns_in : List (List ℕ) → ℕ
 turns_in options = turns_or (value_of (codes "--turns") options)
 
+-- the file that the options of a drain name for its journal
+abbrev pub journal_in : List (List ℕ) → Option Path
+journal_in options = option_map file_at (value_of (codes "--journal") options)
+
+-- how many items the first of the words behind `load` names
+abbrev pub items_in : List (List ℕ) → ℕ
+items_in [] = 0
+items_in (word ∷ words) = unwrap_or (count_of word) 0
+
 -- what a verb asks for, with these words behind it
 abbrev pub asked : Verb → List (List ℕ) → Command
-asked verb.Drain words = command.Drain (first_file words) (turns_in (drop 1 words))
+asked verb.Drain words = command.Drain (first_file words) (turns_in (drop 1 words)) (journal_in (drop 1 words))
 asked verb.Check words = command.Check (first_file words)
+asked verb.Load words = command.Load (items_in words)
 
 abbrev pub command_by : Option Verb → List (List ℕ) → Option Command
 command_by None words = None
@@ -86,10 +97,17 @@ abbrev pub command_of : List (List ℕ) → Option Command
 command_of [] = None
 command_of (word ∷ words) = command_by (verb_of word) words
 
--- the path of the route file that a command names
-abbrev pub path_in : Command → Path
-path_in (command.Drain routes turns) = routes
-path_in (command.Check routes) = routes
+-- the path of the route file that a command names; a load names none
+abbrev pub path_in : Command → Option Path
+path_in (command.Drain routes turns journal) = Some routes
+path_in (command.Check routes) = Some routes
+path_in (command.Load items) = None
+
+-- the file that a command names for the journal of its run
+abbrev pub journal_of : Command → Option Path
+journal_of (command.Drain routes turns journal) = journal
+journal_of (command.Check routes) = None
+journal_of (command.Load items) = None
 
 -- ---- the same said without cutting
 
@@ -110,29 +128,56 @@ pub record IsOn (first : List ℕ) (behind words : List (List ℕ)) (routes : Pa
   pub fit : is_path path ≡ true
   pub file : IsFile path routes
 
--- the words say the limit on turns, or nothing, which is 100,000
-abbrev pub SaysTurns : List (List ℕ) → ℕ → Type 0
-SaysTurns [] turns = turns ≡ 100000
-SaysTurns (word ∷ (value ∷ [])) turns = (word ≡ codes "--turns") × (count_of value ≡ Some turns)
-SaysTurns _ turns = ⊥
+-- an option and its value say the limit on turns
+pub record SaysTurns (word value : List ℕ) (turns : ℕ) : Type 0 where
+  pub is : word ≡ codes "--turns"
+  pub count : count_of value ≡ Some turns
+
+-- an option and its value say the file of the journal
+pub record SaysJournal (word value : List ℕ) (journal : Option Path) : Type 0 where
+  pub is : word ≡ codes "--journal"
+  pub fit : is_path value ≡ true
+  pub file : Path
+  pub named : journal ≡ Some file
+  pub at : IsFile value file
+
+-- the words are no option, one, or both in one of two orders; where none says the limit on turns it is 100,000
+abbrev pub SaysOptions : List (List ℕ) → ℕ → Option Path → Type 0
+SaysOptions [] turns journal = (turns ≡ 100000) × (journal ≡ None)
+SaysOptions (word ∷ (value ∷ [])) turns journal =
+    (SaysTurns word value turns × (journal ≡ None)) ⊎ ((turns ≡ 100000) × SaysJournal word value journal)
+SaysOptions (word ∷ (value ∷ (other ∷ (behind ∷ [])))) turns journal =
+    (SaysTurns word value turns × SaysJournal other behind journal) ⊎ (SaysJournal word value journal × SaysTurns other behind turns)
+SaysOptions _ turns journal = ⊥
 
 -- the words are those of a drain
-pub record IsDrain (words : List (List ℕ)) (routes : Path) (turns : ℕ) : Type 0 where
+pub record IsDrain (words : List (List ℕ)) (routes : Path) (turns : ℕ) (journal : Option Path) : Type 0 where
   pub behind : List (List ℕ)
   pub on : IsOn (codes "drain") behind words routes
-  pub says : SaysTurns behind turns
+  pub says : SaysOptions behind turns journal
   pub some : 1 ≤ turns
   pub most : turns ≤ 1000000
 
+-- the words are those of a load of so many items, without workers
+pub record IsLoad (words : List (List ℕ)) (items : ℕ) : Type 0 where
+  pub said : words ≡ codes "load" ∷ (decimal items ∷ (codes "0" ∷ []))
+  pub some : 1 ≤ items
+  pub most : items ≤ 20000
+
 -- the words are those of the command
 abbrev pub IsCommand : List (List ℕ) → Command → Type 0
-IsCommand words (command.Drain routes turns) = IsDrain words routes turns
+IsCommand words (command.Drain routes turns journal) = IsDrain words routes turns journal
 IsCommand words (command.Check routes) = IsOn (codes "check") [] words routes
+IsCommand words (command.Load items) = IsLoad words items
 
 -- ---- worked rows
 
 abbrev pub drained : List ℕ → List ℕ → Option Command
-drained folder name = Some (command.Drain (record { folder = folder; name = name }) 100000)
+drained folder name = Some (command.Drain (record { folder = folder; name = name }) 100000 None)
+
+-- the routes are those of `r.json`
+abbrev pub drained_here : ℕ → Option Path → Option Command
+drained_here turns journal = Some (command.Drain (record { folder = codes "."; name = codes "r.json" }) turns journal)
 
 -- the words behind `drain r.json`
 abbrev pub drained_with : List (List ℕ) → Option Command
@@ -156,11 +201,11 @@ row-check = refl
 pub row-option : command_of (codes "drain" ∷ codes "-x" ∷ []) ≡ None
 row-option = refl
 
-pub row-turns : drained_with (codes "--turns" ∷ codes "5" ∷ []) ≡ Some (command.Drain (record { folder = codes "."; name = codes "r.json" }) 5)
+pub row-turns : drained_with (codes "--turns" ∷ codes "5" ∷ []) ≡ drained_here 5 None
 unfolding count_of digits
 row-turns = refl
 
-pub row-most_turns : drained_with (codes "--turns" ∷ codes "1000000" ∷ []) ≡ Some (command.Drain (record { folder = codes "."; name = codes "r.json" }) 1000000)
+pub row-most_turns : drained_with (codes "--turns" ∷ codes "1000000" ∷ []) ≡ drained_here 1000000 None
 unfolding count_of digits
 row-most_turns = refl
 
@@ -186,5 +231,52 @@ row-no_number = refl
 pub row-one_word : drained_with (codes "--turns=5" ∷ []) ≡ None
 row-one_word = refl
 
+pub row-journal : drained_with (codes "--journal" ∷ codes "j/one" ∷ []) ≡ drained_here 100000 (Some (record { folder = codes "j"; name = codes "one" }))
+row-journal = refl
+
+pub row-journal_behind : drained_with (codes "--turns" ∷ codes "5" ∷ codes "--journal" ∷ codes "j" ∷ []) ≡ drained_here 5 (Some (record { folder = codes "."; name = codes "j" }))
+unfolding count_of digits
+row-journal_behind = refl
+
+pub row-journal_in_front : drained_with (codes "--journal" ∷ codes "j" ∷ codes "--turns" ∷ codes "5" ∷ []) ≡ drained_here 5 (Some (record { folder = codes "."; name = codes "j" }))
+unfolding count_of digits
+row-journal_in_front = refl
+
+pub row-journal_twice : drained_with (codes "--journal" ∷ codes "j" ∷ codes "--journal" ∷ codes "k" ∷ []) ≡ None
+row-journal_twice = refl
+
+pub row-no_journal : drained_with (codes "--journal" ∷ []) ≡ None
+row-no_journal = refl
+
+pub row-journal_folder : drained_with (codes "--journal" ∷ codes "j/" ∷ []) ≡ None
+row-journal_folder = refl
+
+pub row-check_with_journal : command_of (codes "check" ∷ codes "r.json" ∷ codes "--journal" ∷ codes "j" ∷ []) ≡ None
+row-check_with_journal = refl
+
+pub row-load_with_journal : command_of (codes "load" ∷ codes "10" ∷ codes "0" ∷ codes "--journal" ∷ codes "j" ∷ []) ≡ None
+unfolding count_of digits
+row-load_with_journal = refl
+
 pub row-check_with_turns : command_of (codes "check" ∷ codes "r.json" ∷ codes "--turns" ∷ codes "5" ∷ []) ≡ None
 row-check_with_turns = refl
+
+pub row-load : command_of (codes "load" ∷ codes "10" ∷ codes "0" ∷ []) ≡ Some (command.Load 10)
+unfolding count_of digits
+row-load = refl
+
+pub row-no_item : command_of (codes "load" ∷ codes "0" ∷ codes "0" ∷ []) ≡ None
+unfolding count_of digits
+row-no_item = refl
+
+pub row-too_many_items : command_of (codes "load" ∷ codes "20001" ∷ codes "0" ∷ []) ≡ None
+unfolding count_of digits
+row-too_many_items = refl
+
+pub row-a_worker : command_of (codes "load" ∷ codes "10" ∷ codes "1" ∷ []) ≡ None
+unfolding count_of digits
+row-a_worker = refl
+
+pub row-no_workers : command_of (codes "load" ∷ codes "10" ∷ []) ≡ None
+unfolding count_of digits
+row-no_workers = refl

@@ -1,6 +1,7 @@
-ghost use Rattle.std.specs.Prelude.{◌≡◌, ◌↔◌, true, Some, None, IfOk, IsErrOf};
+ghost use Rattle.std.specs.Prelude.{◌≡◌, ◌↔◌, true, Some, None, IfOk, IsErrOf, option_map};
 ghost use Rattle.eip_command.specs.Forms.{admits, form_seen};
 ghost use Rattle.eip_command.specs.Words as spec;
+ghost use Rattle.eip_command.specs.declared.words.Verb.TheVariants as verb;
 
 use crate::forms::{Form, OptionRule, Rule};
 use crate::options::value_of;
@@ -18,22 +19,40 @@ pub struct Path {
 /// The limit on turns of a drain whose words name none.
 pub const TURN_LIMIT: u32 = 100_000;
 
+/// The most items of a load.
+const MOST_ITEMS: u32 = 20_000;
+
+/// The most workers of a load: its routes run on the caller's own thread.
+const MOST_WORKERS: u32 = 0;
+
 /// What the words behind the program's name ask for.
 #[derive(Debug, Drop)]
 pub enum Command {
-    /// `drain ROUTES [--turns N]`: the routes of this file run until nothing is left to do, for at most so many turns.
-    Drain { routes: Path, turns: u32 },
+    /// `drain ROUTES [--turns N] [--journal FILE]`: the routes of this file run until nothing is left to do, for at most so
+    /// many turns, and the journal of the run is written to the file that the words name for it.
+    Drain {
+        routes: Path,
+        turns: u32,
+        journal: Option<Path>,
+    },
     /// `check ROUTES`: the routes of this file are printed in their canonical form.
-    Check { routes: Path },
+    Check {
+        routes: Path,
+    },
+    /// `load N 0`: the built-in routes of the load test run with so many items, without workers.
+    Load {
+        items: u32,
+    },
 }
 
 impl Command {
-    /// The route file that the command names.
-    pub fn routes(&self) -> &Path
-        ensures { result.now ≡ spec.path_in self.now }
+    /// The route file that the command names. A load names none: its routes are built in.
+    pub fn routes(&self) -> Option<&Path>
+        ensures { option_map (λ p. p.now) result ≡ spec.path_in self.now }
     {
         match self {
-            Command::Drain { routes, .. } | Command::Check { routes } => routes,
+            Command::Drain { routes, .. } | Command::Check { routes } => Some(routes),
+            Command::Load { .. } => None,
         }
     }
 }
@@ -64,9 +83,10 @@ impl From<NoMemory> for WordsFault {
 enum Verb {
     Drain,
     Check,
+    Load,
 }
 
-const VERBS: [Verb; 2] = [Verb::Drain, Verb::Check];
+const VERBS: [Verb; 3] = [Verb::Drain, Verb::Check, Verb::Load];
 
 impl Verb {
     /// The form of the verb's words.
@@ -77,14 +97,25 @@ impl Verb {
             Verb::Drain => Form {
                 word: "drain",
                 operands: &[Rule::Path],
-                options: &[OptionRule {
-                    word: "--turns",
-                    value: Rule::Count(1, 1_000_000),
-                }],
+                options: &[
+                    OptionRule {
+                        word: "--turns",
+                        value: Rule::Count(1, 1_000_000),
+                    },
+                    OptionRule {
+                        word: "--journal",
+                        value: Rule::Path,
+                    },
+                ],
             },
             Verb::Check => Form {
                 word: "check",
                 operands: &[Rule::Path],
+                options: &[],
+            },
+            Verb::Load => Form {
+                word: "load",
+                operands: &[Rule::Count(1, MOST_ITEMS), Rule::Count(0, MOST_WORKERS)],
                 options: &[],
             },
         }
@@ -107,14 +138,37 @@ impl Verb {
         requires form { admits (spec.form self) words.now ≡ true }
         ensures { IfOk result (λ c. c ≡ spec.asked self words.now) }
     {
-        let routes = Path::read(alloc, words[0].as_str())?;
-        Ok(match self {
+        match self {
             Verb::Drain => {
+                let routes = Path::read(alloc, words[0].as_str())?;
                 let turns = turns_in(&words[1..]);
-                Command::Drain { routes, turns }
+                let journal = journal_in(alloc, &words[1..])?;
+                Ok(Command::Drain {
+                    routes,
+                    turns,
+                    journal,
+                })
             }
-            Verb::Check => Command::Check { routes },
-        })
+            Verb::Check => {
+                let routes = Path::read(alloc, words[0].as_str())?;
+                Ok(Command::Check { routes })
+            }
+            Verb::Load => {
+                let items = items_in(words);
+                Ok(Command::Load { items })
+            }
+        }
+    }
+}
+
+/// How many items the words behind `load` name.
+fn items_in(words: &[Text]) -> u32
+    requires form { admits (spec.form verb.Load) words.now ≡ true }
+    ensures { result ≡ spec.items_in words.now }
+{
+    match read_count(words[0].as_str()) {
+        Some(items) => items,
+        None => unreachable!(),
     }
 }
 
@@ -128,10 +182,21 @@ fn turns_in(options: &[Text]) -> u32
     }
 }
 
-/// The command that words give, by the form of each: `drain ROUTES [--turns N]` or `check ROUTES`, where ROUTES is a path
-/// and N a number from 1 to 1,000,000. A path isn't empty, doesn't begin with `-` and doesn't end with `/`. Its folder is
-/// what stands before its last `/`, or `.` without one, or `/` where nothing stands before it; the name is what stands
-/// behind. A drain without `--turns` has 100,000 turns.
+/// The file that the options of a drain name for its journal, if any.
+fn journal_in(alloc: Global, options: &[Text]) -> Result<Option<Path>, NoMemory>
+    ensures { IfOk result (λ j. j ≡ spec.journal_in options.now) }
+{
+    match value_of(options, "--journal") {
+        Some(value) => Ok(Some(Path::read(alloc, value.as_str())?)),
+        None => Ok(None),
+    }
+}
+
+/// The command that words give, by the form of each: `drain ROUTES [--turns N] [--journal FILE]` or `check ROUTES`, where
+/// ROUTES and FILE are paths and N a number from 1 to 1,000,000, or `load N 0`, where N is a number from 1 to 20,000. The
+/// options stand in any order, each once at most. A path isn't empty, doesn't begin with `-` and doesn't end with `/`. Its
+/// folder is what stands before its last `/`, or `.` without one, or `/` where nothing stands before it; the name is what
+/// stands behind. A drain without `--turns` has 100,000 turns; one without `--journal` writes no file.
 /// `Refused` exactly for every other list of words.
 pub fn read_words(alloc: Global, words: &[Text]) -> Result<Command, WordsFault>
     ensures command { IfOk result (λ c. spec.command_of words.now ≡ Some c) }

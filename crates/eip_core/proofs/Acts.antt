@@ -34,8 +34,9 @@ use Rattle.eip_plan.proofs.Laws.{plan-laws}
 use Rattle.eip_books.specs.View.{BooksView, plan, IsLegalRun, Adds, AddsNone, StartsFirst}
 use Rattle.eip_tables.specs.declared.asking.Inner.TheVariants.{Did}
 use Rattle.eip_tables.specs.Places.{inner_of}
+use Rattle.eip_processor.specs.Registered.{RegistryView}
 use Rattle.eip_core.specs.Doors.{inlet_at, uri_at}
-use Rattle.eip_core.specs.Outside.{seen_answers, refusal_of, pulls_in}
+use Rattle.eip_core.specs.Outside.{AreTheirs, IsTheirs, seen_answers, refusal_of, pulls_in}
 use Rattle.eip_core.specs.Drain.{Acts, Chosen, Drains, Progresses, Rests, doors}
 use Rattle.eip_core.proofs.Actors.{actor-ready, actor-queue, actor-source, actor-clock, actor-force, actor-out, unfinished-first, first-pullable}
 use Rattle.eip_core.proofs.Progress.{progress-one, progress-trans}
@@ -118,10 +119,10 @@ second-actor {u} {v} {t} p =
     (actor-out (plan u) (plan-laws u.set) u.journal.workers u.journal.turns 0 u.journal.past t (pulled-legal p) p.rests.home p.may.0)
 
 -- the drain behind a Pull
-pub drains-pull : {u v : BooksView} {t : ℕ} (l : List LaneView) (i : List InletView) → Pulled u v t → Drains u v l l i i
+pub drains-pull : {u v : BooksView} {t : ℕ} {r : RegistryView} (l : List LaneView) (i : List InletView) → Pulled u v t → Drains u v l l i i r
 drains-pull {u} {v} {t} l i p =
     drains-add (drains-refl u l i) p.adds (LanesGrew-none 0 l) (InletsGrew-none 0 i)
-    (subst (λ (a : Actor). IsTrue (is_of a (Pull t))) (sym (first-actor p)) (eq-eqb t t refl))
+    (subst (λ (a : Actor). IsTrue (is_of a (Pull t))) (sym (first-actor p)) (eq-eqb t t refl)) tt
 
 -- an entry that says what came of a pull of source t
 pub record EndsPull (t : ℕ) (k : Kind) (acts : List Act) : Type 0 where
@@ -134,10 +135,10 @@ pub record EndsPull (t : ℕ) (k : Kind) (acts : List Act) : Type 0 where
   pub stays : (x : ℕ) → k ≢ Return x
 
 -- the drain behind a pull and what came of it
-pub drains-pulled : {u v w : BooksView} {t : ℕ} (k : Kind) (acts : List Act) (l : List LaneView) (i j : List InletView) → Pulled u v t → Adds v w 0 k
+pub drains-pulled : {u v w : BooksView} {t : ℕ} {r : RegistryView} (k : Kind) (acts : List Act) (l : List LaneView) (i j : List InletView) → Pulled u v t → Adds v w 0 k
     → EndsPull t k acts
-    → InletsGrew 0 (acts_by (inlet_at (inlet_names i) (slice_get v.set.routes t)) (uri_at (slice_get v.set.routes t)) acts) i j → Drains u w l l i j
-drains-pulled {u} {v} {w} {t} k acts l i j p a ends grew =
+    → InletsGrew 0 (acts_by (inlet_at (inlet_names i) (slice_get v.set.routes t)) (uri_at (slice_get v.set.routes t)) acts) i j → Drains u w l l i j r
+drains-pulled {u} {v} {w} {t} {r} k acts l i j p a ends grew =
     let none = ends.answers (plan v) v.journal.past in
     let d = doors v l i in
     let are : pulls_in d k ++ commits d (seen_answers (served_in (plan v) v.journal.past 0 k)) ≡ acts_of d t acts =
@@ -146,6 +147,7 @@ drains-pulled {u} {v} {w} {t} k acts l i j p a ends grew =
     (subst (λ vs. LanesGrew 0 (calls d (seen_answers vs)) l l) (sym none) (LanesGrew-none 0 l))
     (subst (λ js. InletsGrew 0 js i j) (sym are) grew)
     (subst (λ (b : Actor). IsTrue (is_of b k)) (sym (second-actor p)) ends.of_source)
+    (subst (λ vs. AreTheirs r vs) (sym none) tt)
 
 -- a pull and what came of it is an act
 pub acts-pulled : {u v w : BooksView} {t : ℕ} (k : Kind) (acts : List Act) → Pulled u v t → Adds v w 0 k → IsLegalRun w → EndsPull t k acts → Acts u w
@@ -232,10 +234,10 @@ pub record Ticked (u v : BooksView) : Type 0 where
 pub ticked : {u v : BooksView} → Rests u → ((t : ℕ) × May (plan u) u.journal.turns u.journal.past 0 (Tick t) × Adds u v 0 (Tick t)) → IsLegalRun v → Ticked u v
 ticked rests came legal = record { home = rests.home; moment = came.0; may = came.1; adds = came.2; legal = legal }
 
-pub drains-ticked : {u v : BooksView} (l : List LaneView) (i : List InletView) → Ticked u v → Drains u v l l i i
+pub drains-ticked : {u v : BooksView} {r : RegistryView} (l : List LaneView) (i : List InletView) → Ticked u v → Drains u v l l i i r
 drains-ticked {u} {v} l i t =
     drains-add (drains-refl u l i) t.adds (LanesGrew-none 0 l) (InletsGrew-none 0 i)
-    (subst (λ (b : Actor). IsTrue (is_of b (Tick t.moment))) (sym (actor-clock (plan u) u.journal.past t.moment t.may.0 t.may.2)) refl)
+    (subst (λ (b : Actor). IsTrue (is_of b (Tick t.moment))) (sym (actor-clock (plan u) u.journal.past t.moment t.may.0 t.may.2)) refl) tt
 
 -- with nobody Ready, no queue startable, no source to be pulled and nobody due groups may be closed by force
 pub forceable : (v : BooksView) → Rests v → first (ready_numbers (plan v) v.journal.past) ≡ None → first (startable (plan v) v.journal.past) ≡ None
@@ -257,10 +259,10 @@ pub record Forced (u v : BooksView) : Type 0 where
 pub forced : {u v : BooksView} → Rests u → May (plan u) u.journal.turns u.journal.past 0 Force × Adds u v 0 Force → IsLegalRun v → Forced u v
 forced rests came legal = record { home = rests.home; may = came.0; adds = came.1; legal = legal }
 
-pub drains-forced : {u v : BooksView} (l : List LaneView) (i : List InletView) → Forced u v → Drains u v l l i i
+pub drains-forced : {u v : BooksView} {r : RegistryView} (l : List LaneView) (i : List InletView) → Forced u v → Drains u v l l i i r
 drains-forced {u} {v} l i f =
     drains-add (drains-refl u l i) f.adds (LanesGrew-none 0 l) (InletsGrew-none 0 i)
-    (subst (λ (b : Actor). IsTrue (is_of b Force)) (sym (actor-force (plan u) u.journal.past f.may.0 f.may.2 f.may.3)) refl)
+    (subst (λ (b : Actor). IsTrue (is_of b Force)) (sym (actor-force (plan u) u.journal.past f.may.0 f.may.2 f.may.3)) refl) tt
 
 -- ---- an exchange that is answered by the hub, or starved
 
@@ -312,11 +314,11 @@ pub record Started (u v : BooksView) (x : ℕ) : Type 0 where
 pub started : {u v w : BooksView} {x : ℕ} → Rests u → AddsNone u v → first (ready_numbers (plan v) v.journal.past) ≡ None → StartsFirst v w 0 x → IsLegalRun w → Started v w x
 started rests none nobody starts legal = record { rests = rests-none none rests; nobody = nobody; starts = starts; legal = legal }
 
-pub drains-started : {u v w : BooksView} {x : ℕ} (l : List LaneView) (i : List InletView) → AddsNone u v → Started v w x → Drains u w l l i i
+pub drains-started : {u v w : BooksView} {x : ℕ} {r : RegistryView} (l : List LaneView) (i : List InletView) → AddsNone u v → Started v w x → Drains u w l l i i r
 drains-started {u} {v} {w} {x} l i none s =
     let acts = actor-queue (plan v) v.journal.past s.starts.queue s.rests.home s.nobody s.starts.is_first in
     drains-add (drains-none (drains-refl u l i) none) s.starts.adds (LanesGrew-none 0 l) (InletsGrew-none 0 i)
-    (subst (λ (b : Actor). IsTrue (is_of b (Start s.starts.queue x))) (sym acts) (eq-eqb s.starts.queue s.starts.queue refl))
+    (subst (λ (b : Actor). IsTrue (is_of b (Start s.starts.queue x))) (sym acts) (eq-eqb s.starts.queue s.starts.queue refl)) tt
 
 pub acts-started : {v w : BooksView} {x : ℕ} → Started v w x → Acts v w
 acts-started {v} {w} {x} s =
@@ -349,15 +351,26 @@ no-commits d w (Some k) a h = by_request k.birth.origin k.request h
     by_request (from.Source r item) (request.Finish e m true) g = absurd (cc g)
     by_request _ _ g = refl
 
+-- an answer of the books themselves is nobody else's
+inner-theirs : (r : RegistryView) (w : ℕ) (o : Option Asked) (a : Reply) → outside_asked o ≡ false → AreTheirs r (served_by w o a)
+inner-theirs r w None a h = tt
+inner-theirs r w (Some k) a h = (by_request k.request a h, tt)
+  where
+    by_request : (q : Request) (b : Reply) → is_outside q ≡ false → IsTheirs r q b
+    by_request (request.Process name m) b g = absurd (cc g)
+    by_request (request.Test name m) b g = absurd (cc g)
+    by_request _ b g = tt
+
 pub not-outside : (b : Bool) → Did ≡ inner_of b → b ≡ false
 not-outside true h = absurd (cc h)
 not-outside false h = refl
 
-pub drains-inner : {u v : BooksView} {x : ℕ} (a : Reply) (l : List LaneView) (i : List InletView) → Chosen u x → Adds u v 0 (Answer x a) → outside_asked (asked (plan u) u.journal.past x) ≡ false → Drains u v l l i i
-drains-inner {u} {v} {x} a l i c adds inner =
+pub drains-inner : {u v : BooksView} {x : ℕ} {r : RegistryView} (a : Reply) (l : List LaneView) (i : List InletView) → Chosen u x → Adds u v 0 (Answer x a) → outside_asked (asked (plan u) u.journal.past x) ≡ false → Drains u v l l i i r
+drains-inner {u} {v} {x} {r} a l i c adds inner =
     drains-add (drains-refl u l i) adds
     (subst (λ js. LanesGrew 0 js l l) (sym (no-calls (doors u l i) 0 (asked (plan u) u.journal.past x) a inner)) (LanesGrew-none 0 l))
     (subst (λ js. InletsGrew 0 js i i) (sym (no-commits (doors u l i) 0 (asked (plan u) u.journal.past x) a inner)) (InletsGrew-none 0 i)) (chosen-acts (Answer x a) c (eq-eqb x x refl))
+    (inner-theirs r 0 (asked (plan u) u.journal.past x) a inner)
 
 pub acts-inner : {u v : BooksView} {x : ℕ} (a : Reply) → Chosen u x → Adds u v 0 (Answer x a) → IsLegalRun v → Acts u v
 acts-inner {u} {v} {x} a c adds legal =
@@ -368,10 +381,10 @@ acts-inner {u} {v} {x} a c adds legal =
           (progress-one (plan u) (plan-laws u.set) u.journal.workers u.journal.turns 0 (Answer x a) u.journal.past here (λ y h. cc h));
     }
 
-pub drains-starved : {u v w : BooksView} {x : ℕ} (l : List LaneView) (i : List InletView) → Chosen u x → AddsNone u v → Adds v w 0 (Starve x) → Drains u w l l i i
+pub drains-starved : {u v w : BooksView} {x : ℕ} {r : RegistryView} (l : List LaneView) (i : List InletView) → Chosen u x → AddsNone u v → Adds v w 0 (Starve x) → Drains u w l l i i r
 drains-starved {u} {v} {w} {x} l i c none adds =
     drains-add (drains-none (drains-refl u l i) none) adds (LanesGrew-none 0 l) (InletsGrew-none 0 i)
-    (chosen-acts (Starve x) (chosen-none none c) (eq-eqb x x refl))
+    (chosen-acts (Starve x) (chosen-none none c) (eq-eqb x x refl)) tt
 
 pub acts-starved : {u v w : BooksView} {x : ℕ} → Chosen u x → AddsNone u v → Adds v w 0 (Starve x) → IsLegalRun w → Acts u w
 acts-starved {u} {v} {w} {x} c none adds legal =

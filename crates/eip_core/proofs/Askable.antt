@@ -11,6 +11,8 @@ use Rattle.eip_uri.specs.Inlets.{inlet_of}
 use Rattle.eip_uri.specs.declared.uri.Uri.{Uri}
 use Rattle.eip_uri.specs.declared.uri.Uri.TheVariants as uri
 use Rattle.eip_route.specs.declared.route.Route.{Route}
+use Rattle.eip_route.specs.Goals.{is_among}
+use Rattle.eip_route.specs.declared.route.Names.{Names}
 use Rattle.eip_route.specs.declared.route.RouteSet.{RouteSet}
 use Rattle.eip_frames.specs.Fate.{Fate, AsksNext, Ends, Strays}
 use Rattle.eip_frames.specs.Fits.{is_outside}
@@ -29,6 +31,9 @@ use Rattle.eip_history.specs.BookText.{origin_at, origin_of}
 use Rattle.eip_history.proofs.Unborn.{asked-born}
 use Rattle.eip_endpoint.specs.Outside.{lane_of}
 use Rattle.eip_plan.specs.Plan.{plan_of, is_source_route}
+use Rattle.eip_asked_laws.proofs.Outcomes.{IsNamed}
+use Rattle.eip_asked_laws.proofs.Laws.{asked-named}
+use Rattle.eip_core.proofs.Handed.{runs-inlets, runs-lanes}
 use Rattle.eip_core.specs.Doors.{HasInlet, HasInlets, CanRun}
 use Rattle.eip_core.specs.Outside.{HasSource, IsAskable}
 
@@ -84,19 +89,19 @@ asked-origin s past x k h =
     let r = asked-born s past x k h in
     ap (option_map origin_of) r.1 ∙ ap (λ (b : Birth). Some (origin_of b)) (fate-request r.0 (fate s past r.0) k r.2).0
 
-exchange-askable : (lanes inlets : List (List ℕ)) (set : RouteSet) → CanRun set lanes inlets → (o : Origin) (commit : Bool) → commit ≡ is_told_origin set o
-    → (place : At) (last : Option Reply) (q : Request) (p : At) → IsOfExchange set commit place last q p → is_outside q ≡ true → IsAskable set lanes inlets o q
-exchange-askable lanes inlets set can o commit same place last (request.Send t m) p of outside = can.has_lanes (lane_of t) of
-exchange-askable lanes inlets set can o commit same place last (request.Process name m) p of outside = tt
-exchange-askable lanes inlets set can o commit same place last (request.Test name m) p of outside = tt
-exchange-askable lanes inlets set can o commit same place last (request.Finish e m told) p of outside =
-    (told-source set inlets can.has_inlets o (sym same ∙ (sym of.0 ∙ outside)), outside)
-exchange-askable lanes inlets set can o commit same place last _ p of outside = absurd (cc outside)
+exchange-askable : (names : Names) (set : RouteSet) → CanRun set names → (o : Origin) (commit : Bool) → commit ≡ is_told_origin set o
+    → (place : At) (last : Option Reply) (q : Request) (p : At) → IsOfExchange set commit place last q p → IsNamed set.names q → is_outside q ≡ true → IsAskable set names o q
+exchange-askable names set can o commit same place last (request.Send t m) p of named outside = runs-lanes can (lane_of t) of
+exchange-askable names set can o commit same place last (request.Process name m) p of named outside = ap (λ (n : Names). is_among name n.processors) (sym can.named) ∙ named
+exchange-askable names set can o commit same place last (request.Test name m) p of named outside = ap (λ (n : Names). is_among name n.predicates) (sym can.named) ∙ named
+exchange-askable names set can o commit same place last (request.Finish e m told) p of named outside =
+    (told-source set names.inlets (runs-inlets can) o (sym same ∙ (sym of.0 ∙ outside)), outside)
+exchange-askable names set can o commit same place last _ p of named outside = absurd (cc outside)
 
 -- what is asked of the outside can be asked there
-pub asked-askable : (lanes inlets : List (List ℕ)) (set : RouteSet) → CanRun set lanes inlets → (past : Past) (x : ℕ) (k : Asked) → asked (plan_of set) past x ≡ Some k
-    → is_outside k.request ≡ true → IsAskable set lanes inlets k.birth.origin k.request
-asked-askable lanes inlets set can past x k h outside =
+pub asked-askable : (names : Names) (set : RouteSet) → CanRun set names → (past : Past) (x : ℕ) (k : Asked) → asked (plan_of set) past x ≡ Some k
+    → is_outside k.request ≡ true → IsAskable set names k.birth.origin k.request
+asked-askable names set can past x k h outside =
     let r = asked-mean set past x k h in
-    exchange-askable lanes inlets set can k.birth.origin (is_committed set k.birth) refl (place_of k.birth) (last_answer None r.0) k.request k.at
-    (asked-of-set set k.birth r.0 k.request k.at r.1) outside
+    exchange-askable names set can k.birth.origin (is_committed set k.birth) refl (place_of k.birth) (last_answer None r.0) k.request k.at
+    (asked-of-set set k.birth r.0 k.request k.at r.1) (asked-named set can.valid.blocks k.birth r.0 k.request k.at r.1) outside

@@ -21,8 +21,9 @@ use Rattle.eip_history.proofs.ServedSteps.{served-more}
 use Rattle.eip_history.proofs.Steps.{plain-add}
 use Rattle.eip_plan.specs.Plan.{plan_of}
 use Rattle.eip_books.specs.View.{BooksView, plan, IsSameRun, Adds, AddsNone}
+use Rattle.eip_processor.specs.Registered.{RegistryView}
 use Rattle.eip_core.specs.Doors.{doors_of}
-use Rattle.eip_core.specs.Outside.{answered_by, seen_answers, refusal_of, pulls, pulls_in, inlet_acts}
+use Rattle.eip_core.specs.Outside.{AreTheirs, answered_by, seen_answers, refusal_of, pulls, pulls_in, inlet_acts}
 use Rattle.eip_core.specs.Drain.{Drains, IsPlainBehind, doors}
 
 pub same-refl : (v : BooksView) → IsSameRun v v
@@ -93,6 +94,11 @@ plain-append s past [] q before after = before
 plain-append s past (e ∷ p) q before after =
     (plain-append s past p q before after.0, after.1, subst (λ (r : Past). IsTrue (is_of (actor s r) e.kind)) (sym (append_assoc p q past)) after.2)
 
+-- answers behind answers, each of whoever was asked
+theirs-append : (r : RegistryView) (vs ws : List Served) → AreTheirs r vs → AreTheirs r ws → AreTheirs r (vs ++ ws)
+theirs-append r [] ws before after = after
+theirs-append r (v ∷ vs) ws before after = (before.0, theirs-append r vs ws before.1 after)
+
 -- the doors of a run are the same behind any calls and acts
 pub doors-same : {u v : BooksView} (js : List LaneCall) (ks : List InletAct) (l m : List LaneView) (i j : List InletView) → IsSameRun u v → LanesGrew 0 js l m → InletsGrew 0 ks i j → doors v m j ≡ doors u l i
 doors-same {u} {v} js ks l m i j same lanes inlets =
@@ -100,7 +106,7 @@ doors-same {u} {v} js ks l m i j same lanes inlets =
     ∙ (ap (λ ns. doors_of u.set ns (inlet_names j)) (sym (LanesGrew-names 0 js l m lanes))
     ∙ ap (λ ns. doors_of u.set (lane_names l) ns) (sym (InletsGrew-names 0 ks i j inlets)))
 
-pub drains-refl : (v : BooksView) (l : List LaneView) (i : List InletView) → Drains v v l l i i
+pub drains-refl : {r : RegistryView} (v : BooksView) (l : List LaneView) (i : List InletView) → Drains v v l l i i r
 drains-refl v l i = record {
   behind = [];
   past = refl;
@@ -110,10 +116,11 @@ drains-refl v l i = record {
   answers = sym (append-nil (served (plan v) v.journal.past));
   lanes = LanesGrew-none 0 l;
   inlets = rw (pulls-none (doors v l i)) (InletsGrew-none 0 i);
+  theirs = tt;
 }
 
 -- a call that made no entry
-pub drains-none : {u v w : BooksView} {l m : List LaneView} {i j : List InletView} → Drains u v l m i j → AddsNone v w → Drains u w l m i j
+pub drains-none : {u v w : BooksView} {l m : List LaneView} {i j : List InletView} {r : RegistryView} → Drains u v l m i j r → AddsNone v w → Drains u w l m i j r
 drains-none {u} {v} d a = record {
   behind = d.behind;
   past = a.past ∙ d.past;
@@ -123,10 +130,11 @@ drains-none {u} {v} d a = record {
   plain = d.plain;
   lanes = d.lanes;
   inlets = d.inlets;
+  theirs = d.theirs;
 }
 
 -- lanes and inlets that were asked for nothing
-pub drains-still : {u v : BooksView} {l m n : List LaneView} {i j k : List InletView} → Drains u v l m i j → LanesGrew 0 [] m n → InletsGrew 0 [] j k → Drains u v l n i k
+pub drains-still : {u v : BooksView} {l m n : List LaneView} {i j k : List InletView} {r : RegistryView} → Drains u v l m i j r → LanesGrew 0 [] m n → InletsGrew 0 [] j k → Drains u v l n i k r
 drains-still {u} {v} {l} {m} {n} {i} {j} {k} d lanes inlets = record {
   behind = d.behind;
   past = d.past;
@@ -136,14 +144,15 @@ drains-still {u} {v} {l} {m} {n} {i} {j} {k} d lanes inlets = record {
   plain = d.plain;
   lanes = subst (λ js. LanesGrew 0 js l n) (append-nil (calls (doors u l i) (seen_answers d.answered))) (LanesGrew-trans 0 _ [] l m n d.lanes lanes);
   inlets = subst (λ js. InletsGrew 0 js i k) (append-nil (inlet_acts (doors u l i) d.behind d.answered)) (InletsGrew-trans 0 _ [] i j k d.inlets inlets);
+  theirs = d.theirs;
 }
 
 -- one more entry, of the actor whose turn it is; lanes and inlets did what it says
-pub drains-add : {u v w : BooksView} {l m n : List LaneView} {i j k : List InletView} {kind : Kind} → Drains u v l m i j → Adds v w 0 kind
+pub drains-add : {u v w : BooksView} {l m n : List LaneView} {i j k : List InletView} {kind : Kind} {r : RegistryView} → Drains u v l m i j r → Adds v w 0 kind
     → LanesGrew 0 (calls (doors v m j) (seen_answers (served_in (plan v) v.journal.past 0 kind))) m n
     → InletsGrew 0 (pulls_in (doors v m j) kind ++ commits (doors v m j) (seen_answers (served_in (plan v) v.journal.past 0 kind))) j k
-    → IsTrue (is_of (actor (plan v) v.journal.past) kind) → Drains u w l n i k
-drains-add {u} {v} {w} {l} {m} {n} {i} {j} {k} {kind} d a lanes inlets acts =
+    → IsTrue (is_of (actor (plan v) v.journal.past) kind) → AreTheirs r (served_in (plan v) v.journal.past 0 kind) → Drains u w l n i k r
+drains-add {u} {v} {w} {l} {m} {n} {i} {j} {k} {kind} {r} d a lanes inlets acts theirs =
     let s = doors-same _ _ l m i j d.same d.lanes d.inlets in
     let p : plan v ≡ plan u = ap plan_of d.same.set in
     let e : Entry = record { worker = 0; kind = kind } in
@@ -166,10 +175,11 @@ drains-add {u} {v} {w} {l} {m} {n} {i} {j} {k} {kind} d a lanes inlets acts =
           (subst (λ x. InletsGrew 0 (pulls_in (doors u l i) kind ++ commits (doors u l i) (seen_answers (served_in x v.journal.past 0 kind))) j k) p
           (subst (λ x. InletsGrew 0 (pulls_in x kind ++ commits x (seen_answers (served_in (plan v) v.journal.past 0 kind))) j k) s inlets))
           (pulls-more (doors u l i) e d.behind);
+      theirs = theirs-append r d.answered more d.theirs (subst (λ x. AreTheirs r (served_in x v.journal.past 0 kind)) p theirs);
     }
 
-pub drains-trans : {u v w : BooksView} {l m n : List LaneView} {i j k : List InletView} → Drains u v l m i j → Drains v w m n j k → Drains u w l n i k
-drains-trans {u} {v} {w} {l} {m} {n} {i} {j} {k} d e =
+pub drains-trans : {u v w : BooksView} {l m n : List LaneView} {i j k : List InletView} {r : RegistryView} → Drains u v l m i j r → Drains v w m n j k r → Drains u w l n i k r
+drains-trans {u} {v} {w} {l} {m} {n} {i} {j} {k} {r} d e =
     let s = doors-same _ _ l m i j d.same d.lanes d.inlets in
     let p : plan v ≡ plan u = ap plan_of d.same.set in
     let later : served (plan u) w.journal.past ≡ served (plan u) v.journal.past ++ e.answered =
@@ -188,4 +198,5 @@ drains-trans {u} {v} {w} {l} {m} {n} {i} {j} {k} d e =
       inlets = acts-follow (doors u l i) e.behind d.behind d.answered e.answered (pulls (doors u l i) e.behind) i j k
           (pulls-tell (doors u l i) e.behind) d.inlets
           (subst (λ x. InletsGrew 0 (inlet_acts x e.behind e.answered) j k) s e.inlets) (pulls-append (doors u l i) e.behind d.behind);
+      theirs = theirs-append r d.answered e.answered d.theirs e.theirs;
     }

@@ -1,44 +1,59 @@
--- Where a set is served it can be run: its sources have their inlets, and the lanes that it names are handed in.
-use Rattle.std.proofs.Common.{◌≡◌, ℕ, zero, suc, true, false, List, [], ◌∷◌, Option, Some, None, ◌⊎◌, inl, inr, subst}
-use Rattle.std.specs.Option.{IsSome, is_some}
-use Rattle.std.specs.List.{slice_get}
-use Rattle.std.specs.Str.{bytes_eq}
-use Rattle.std.proofs.lemmas.Bool.{cases_Bool, and_parts}
-use Rattle.std.proofs.lemmas.Slice.Eq.{bytes_eq-Decides}
+-- A set that can be run has an inlet for each of its sources, and each lane that it names.
+use Rattle.std.proofs.Common.{◌≡◌, ℕ, zero, suc, ◌+◌, ◌&&◌, ◌||◌, Bool, true, false, cond, List, [], ◌∷◌, Option, Some, None, refl, subst, arith}
+use Rattle.std.specs.Prelude.{All, bytes_eq, is_some}
+use Rattle.std.specs.Option.{IsSome}
+use Rattle.std.specs.List.{slice_get, position_from}
+use Rattle.std.proofs.lemmas.Bool.{and_parts}
+use Rattle.eip_text.specs.Names.{is_name}
 use Rattle.eip_uri.specs.Inlets.{inlet_of}
+use Rattle.eip_uri.specs.Ranges.{is_uri}
+use Rattle.eip_uri.specs.Sides.{is_consumer}
 use Rattle.eip_route.specs.Goals.{is_among}
+use Rattle.eip_route.specs.Valid.{is_given_among, is_source, is_route}
+use Rattle.eip_route.specs.declared.route.Names.{Names}
 use Rattle.eip_route.specs.declared.route.Route.{Route}
 use Rattle.eip_route.specs.declared.route.RouteSet.{RouteSet}
-use Rattle.eip_endpoint.specs.Lanes.{first_named}
-use Rattle.eip_plan.specs.Plan.{plan_of, is_source_route}
-use Rattle.eip_core.specs.Doors.{inlet_named, inlet_at, HasInlets, CanRun}
-use Rattle.eip_core.specs.Served.{is_served_inlet, is_served_route, is_served_lane, are_served_routes, are_served_lanes}
+use Rattle.eip_plan.specs.Plan.{is_source_route, plan_of}
+use Rattle.eip_core.specs.Doors.{inlet_named, inlet_at, HasInlets, HasLanes, CanRun}
 
-lane-handed : (lanes names : List (List ℕ)) → are_served_lanes lanes names ≡ true → (name : List ℕ) → is_among name names ≡ true → IsSome (first_named name lanes)
-lane-handed lanes [] h name a = absurd (cc a)
-lane-handed lanes (n ∷ ns) h name a = by_first (cases_Bool (bytes_eq n name)) (lane-handed lanes ns (and_parts (is_served_lane lanes n) (are_served_lanes lanes ns) h).1 name)
+-- ---- what is handed in is found
+
+among-named : (name : List ℕ) (names : List (List ℕ)) (k : ℕ) → is_among name names ≡ true → IsSome (position_from (λ m. bytes_eq m name) k names)
+among-named name [] k h = absurd (cc h)
+among-named name (x ∷ xs) k h = by_first (bytes_eq x name) h (among-named name xs (k + 1))
   where
-    by_first : (bytes_eq n name ≡ true) ⊎ (bytes_eq n name ≡ false) → (is_among name ns ≡ true → IsSome (first_named name lanes)) → IsSome (first_named name lanes)
-    by_first (inl t) later =
-        subst (λ (m : List ℕ). IsSome (first_named m lanes)) ((bytes_eq-Decides n name).0 t) (and_parts (is_served_lane lanes n) (are_served_lanes lanes ns) h).0
-    by_first (inr f) later = later (rw f at a)
+    by_first : (b : Bool) → (b || is_among name xs) ≡ true → (is_among name xs ≡ true → IsSome (position_from (λ m. bytes_eq m name) (k + 1) xs))
+        → IsSome (cond b (Some k) (position_from (λ m. bytes_eq m name) (k + 1) xs))
+    by_first true h later = refl
+    by_first false h later = later h
 
-inlet-handed : (inlets : List (List ℕ)) (o : Option (List ℕ)) → is_served_inlet inlets o ≡ true → is_some o ≡ true → IsSome (inlet_named inlets o)
-inlet-handed inlets (Some name) h i = h
-inlet-handed inlets None h i = absurd (cc i)
+-- ---- sources
 
-route-handed : (inlets : List (List ℕ)) (rs : List Route) → are_served_routes inlets rs ≡ true → (t : ℕ) → is_source_route (slice_get rs t) ≡ true → IsSome (inlet_at inlets (slice_get rs t))
-route-handed inlets [] h t i = absurd (cc i)
-route-handed inlets (r ∷ rs) h zero i = inlet-handed inlets (inlet_of r.from) (and_parts (is_served_route inlets r) (are_served_routes inlets rs) h).0 i
-route-handed inlets (r ∷ rs) h (suc t) i = route-handed inlets rs (and_parts (is_served_route inlets r) (are_served_routes inlets rs) h).1 t i
+given-named : (inlets : List (List ℕ)) (o : Option (List ℕ)) → is_some o ≡ true → is_given_among o inlets ≡ true → IsSome (inlet_named inlets o)
+given-named inlets None s h = absurd (cc s)
+given-named inlets (Some name) s h = among-named name inlets 0 h
 
-inlets-handed : (inlets : List (List ℕ)) (set : RouteSet) → are_served_routes inlets set.routes ≡ true → HasInlets set inlets
+-- a route that is read by an inlet has it
+inlets-of : (n : Names) (rs : List Route) (t : ℕ) → All (λ (r : Route). is_route n r ≡ true) rs → is_source_route (slice_get rs t) ≡ true → IsSome (inlet_at n.inlets (slice_get rs t))
+inlets-of n [] t valid source = absurd (cc source)
+inlets-of n (r ∷ rs) zero valid source =
+    let begins = (and_parts (is_name r.id) (is_source n r.from) (valid 0 r (omega arith))).1 in
+    given-named n.inlets (inlet_of r.from) source (and_parts (is_uri r.from && is_consumer r.from) (is_given_among (inlet_of r.from) n.inlets) begins).1
+inlets-of n (r ∷ rs) (suc t) valid source = inlets-of n rs t (λ k d inside. valid (suc k) d (omega (arith, inside))) source
+
+has-inlets : (n : Names) (set : RouteSet) → All (λ (r : Route). is_route n r ≡ true) set.routes → HasInlets set n.inlets
 unfolding plan_of
-inlets-handed inlets set h t source = route-handed inlets set.routes h t source.1
+has-inlets n set valid t is = inlets-of n set.routes t valid is.1
 
-pub served-handed : (lanes inlets : List (List ℕ)) (set : RouteSet) (rs : List Route) (names : List (List ℕ)) → rs ≡ set.routes → names ≡ set.names.lanes
-    → are_served_routes inlets rs ≡ true → are_served_lanes lanes names ≡ true → CanRun set lanes inlets
-served-handed lanes inlets set rs names of_routes of_names inlets_in lanes_in = record {
-  has_inlets = inlets-handed inlets set (subst (λ (xs : List Route). are_served_routes inlets xs ≡ true) of_routes inlets_in);
-  has_lanes = λ name a. lane-handed lanes set.names.lanes (subst (λ (ns : List (List ℕ)). are_served_lanes lanes ns ≡ true) of_names lanes_in) name a;
-}
+-- ---- lanes
+
+has-lanes : (set : RouteSet) → HasLanes set set.names.lanes
+has-lanes set name h = among-named name set.names.lanes 0 h
+
+-- ---- the set
+
+pub runs-inlets : {set : RouteSet} {names : Names} → CanRun set names → HasInlets set names.inlets
+runs-inlets {set} can = subst (λ (n : Names). HasInlets set n.inlets) can.named (has-inlets set.names set can.valid.routes)
+
+pub runs-lanes : {set : RouteSet} {names : Names} → CanRun set names → HasLanes set names.lanes
+runs-lanes {set} can = subst (λ (n : Names). HasLanes set n.lanes) can.named (has-lanes set)

@@ -9,3 +9,4 @@ pub mod Askable
 pub mod Asking
 pub mod Serving
 pub mod Turns
+pub mod Naming

@@ -6,6 +6,7 @@ use Rattle.std.proofs.lemmas.List.{append-nil}
 use Rattle.eip_text.specs.declared.memory.NoMemory.{NoMemory}
 use Rattle.eip_exchange.specs.declared.birth.Birth.{Birth}
 use Rattle.eip_exchange.specs.declared.birth.Origin.{Origin}
+use Rattle.eip_route.specs.declared.route.Names.{Names}
 use Rattle.eip_route.specs.declared.route.RouteSet.{RouteSet}
 use Rattle.eip_frames.specs.declared.request.Request.{Request}
 use Rattle.eip_frames.specs.declared.answer.Answer.{Answer as Reply}
@@ -34,8 +35,9 @@ use Rattle.eip_plan.proofs.Laws.{plan-laws}
 use Rattle.eip_books.specs.View.{BooksView, plan, IsLegalRun, Adds}
 use Rattle.eip_tables.specs.Outside.{is_among, with_number, IsAsked}
 use Rattle.eip_history.specs.BookText.{origin_at}
+use Rattle.eip_processor.specs.Registered.{RegistryView}
 use Rattle.eip_core.specs.Doors.{CanRun}
-use Rattle.eip_core.specs.Outside.{Asks, IsAskable, seen_answers}
+use Rattle.eip_core.specs.Outside.{Asks, AreTheirs, IsAskable, IsTheirs, seen_answers}
 use Rattle.eip_core.specs.Drain.{Acts, AsksFor, Chosen, Drains, Progresses, doors}
 use Rattle.eip_core.proofs.Actors.{actor-taken}
 use Rattle.eip_core.proofs.Progress.{progress-one, progress-trans}
@@ -112,9 +114,9 @@ pub record Taken (u v : BooksView) (n : ℕ) (q : Request) : Type 0 where
   pub asks : IsAsked (plan v) v.journal.past n q
   pub legal : IsLegalRun v
 
-pub drains-taken : {u v : BooksView} {n : ℕ} {q : Request} (l : List LaneView) (i : List InletView) → Taken u v n q → Drains u v l l i i
+pub drains-taken : {u v : BooksView} {n : ℕ} {q : Request} {r : RegistryView} (l : List LaneView) (i : List InletView) → Taken u v n q → Drains u v l l i i r
 drains-taken {u} {v} {n} {q} l i t =
-    drains-add (drains-refl u l i) t.adds (LanesGrew-none 0 l) (InletsGrew-none 0 i) (chosen-acts (Take n) t.chosen (eq-eqb n n refl))
+    drains-add (drains-refl u l i) t.adds (LanesGrew-none 0 l) (InletsGrew-none 0 i) (chosen-acts (Take n) t.chosen (eq-eqb n n refl)) tt
 
 behind : {u v : BooksView} {n : ℕ} {q : Request} (P : Plan → Past → Type 0) → Taken u v n q → P (plan u) ((record { worker = 0; kind = Take n }) ∷ u.journal.past) → P (plan v) v.journal.past
 behind {u} {v} P t h = subst (λ (s : RouteSet). P (plan_of s) v.journal.past) (sym t.adds.same.set) (subst (λ (p : Past). P (plan u) p) (sym t.adds.past) h)
@@ -155,18 +157,26 @@ answered-commits d a t =
     ∙ (append-nil (commits_for d t.asks.0.birth.origin t.asks.0.request a) ∙ ap (λ r. commits_for d t.asks.0.birth.origin r a) t.asks.1.1)
 
 -- what somebody outside did for a taken exchange
-taken-asks : {u v : BooksView} {n : ℕ} {q : Request} {r : Result Reply NoMemory} {l m : List LaneView} {i j : List InletView} → (t : Taken u v n q) → AsksFor v n q r l m i j
-    → Asks v.set t.asks.0.birth.origin q r l m i j
+taken-asks : {u v : BooksView} {n : ℕ} {q : Request} {a : Result Reply NoMemory} {l m : List LaneView} {i j : List InletView} {r : RegistryView} → (t : Taken u v n q) → AsksFor v n q a l m i j r
+    → Asks v.set t.asks.0.birth.origin q a l m i j r
 taken-asks {u} {v} {n} t asks = asks t.asks.0.birth.origin (asked-origin (plan v) v.journal.past n t.asks.0 t.asks.1.0)
 
+-- what it answered is that of whoever was asked
+answered-theirs : {u v : BooksView} {n : ℕ} {q : Request} (r : RegistryView) (a : Reply) → Taken u v n q → IsTheirs r q a
+    → AreTheirs r (served_in (plan v) v.journal.past 0 (Answer n a))
+answered-theirs {u} {v} {n} {q} r a t h =
+    subst (λ o. AreTheirs r (served_by 0 o a)) (sym t.asks.1.0)
+    (subst (λ (p : Request). IsTheirs r p a) (sym t.asks.1.1) h, tt)
+
 -- its answer is entered
-pub drains-answered : {u v w : BooksView} {n : ℕ} {q : Request} {l m : List LaneView} {i j : List InletView} (a : Reply) → Taken u v n q → Adds v w 0 (Answer n a)
-    → AsksFor v n q (Ok a) l m i j → Drains u w l m i j
-drains-answered {u} {v} {w} {n} {q} {l} {m} {i} {j} a t adds asks =
+pub drains-answered : {u v w : BooksView} {n : ℕ} {q : Request} {l m : List LaneView} {i j : List InletView} {r : RegistryView} (a : Reply) → Taken u v n q → Adds v w 0 (Answer n a)
+    → AsksFor v n q (Ok a) l m i j r → Drains u w l m i j r
+drains-answered {u} {v} {w} {n} {q} {l} {m} {i} {j} {r} a t adds asks =
     let made = taken-asks t asks in
     drains-add (drains-taken l i t) adds
     (subst (λ js. LanesGrew 0 js l m) (sym (answered-calls (doors v l i) a t)) made.lanes)
     (subst (λ js. InletsGrew 0 js i j) (sym (answered-commits (doors v l i) a t)) made.inlets) (acts-held (Answer n a) t (eq-eqb n n refl))
+    (answered-theirs r a t made.theirs)
 
 pub acts-answered : {u v w : BooksView} {n : ℕ} {q : Request} (a : Reply) → Taken u v n q → Adds v w 0 (Answer n a) → IsLegalRun w → Acts u w
 acts-answered {u} {v} {w} {n} a t adds legal =
@@ -178,18 +188,18 @@ acts-answered {u} {v} {w} {n} a t adds legal =
     }
 
 -- the answer fits what was asked
-pub answered-fits : {u v : BooksView} {n : ℕ} {q : Request} {l m : List LaneView} {i j : List InletView} (a : Reply) → Taken u v n q → AsksFor v n q (Ok a) l m i j → fits q a ≡ true
+pub answered-fits : {u v : BooksView} {n : ℕ} {q : Request} {l m : List LaneView} {i j : List InletView} {r : RegistryView} (a : Reply) → Taken u v n q → AsksFor v n q (Ok a) l m i j r → fits q a ≡ true
 answered-fits a t asks = (taken-asks t asks).fitting
 
 -- ---- given up
 
 -- nobody answered, and nothing was done
-pub drains-given_up : {u v w : BooksView} {n : ℕ} {q : Request} {l m : List LaneView} {i j : List InletView} {none : NoMemory} → Taken u v n q → Adds v w 0 (Starve n)
-    → AsksFor v n q (Err none) l m i j → Drains u w l m i j
+pub drains-given_up : {u v w : BooksView} {n : ℕ} {q : Request} {l m : List LaneView} {i j : List InletView} {none : NoMemory} {r : RegistryView} → Taken u v n q → Adds v w 0 (Starve n)
+    → AsksFor v n q (Err none) l m i j r → Drains u w l m i j r
 drains-given_up {u} {v} {w} {n} {q} {l} {m} {i} {j} t adds asks =
     let made = taken-asks t asks in
     drains-add (drains-still (drains-taken l i t) made.lanes made.inlets) adds
-    (LanesGrew-none 0 m) (InletsGrew-none 0 j) (acts-held (Starve n) t (eq-eqb n n refl))
+    (LanesGrew-none 0 m) (InletsGrew-none 0 j) (acts-held (Starve n) t (eq-eqb n n refl)) tt
 
 pub acts-given_up : {u v w : BooksView} {n : ℕ} {q : Request} → Taken u v n q → Adds v w 0 (Starve n) → IsLegalRun w → Acts u w
 acts-given_up {u} {v} {w} {n} t adds legal =
@@ -211,24 +221,24 @@ taken {u} {v} {x} {n} {q} chosen known ready least adds held asks legal =
 -- ---- the call
 
 -- what an exchange asks of the outside can be asked for it, wherever it came from
-pub askable : (v : BooksView) (x : ℕ) (q : Request) (o : Origin) (lanes inlets : List (List ℕ)) → IsAsked (plan v) v.journal.past x q → is_outside q ≡ true
-    → CanRun v.set lanes inlets → Some o ≡ origin_at (plan v) v.journal.past x → IsAskable v.set lanes inlets o q
-askable v x q o lanes inlets asks outside can from =
+pub askable : (v : BooksView) (x : ℕ) (q : Request) (o : Origin) (names : Names) → IsAsked (plan v) v.journal.past x q → is_outside q ≡ true
+    → CanRun v.set names → Some o ≡ origin_at (plan v) v.journal.past x → IsAskable v.set names o q
+askable v x q o names asks outside can from =
     let k = asks.0 in
     let both : Some o ≡ Some k.birth.origin = from ∙ asked-origin (plan v) v.journal.past x k asks.1.0 in
     let same : o ≡ k.birth.origin = cc in
-    subst (λ (p : Origin). IsAskable v.set lanes inlets p q) (sym same)
-    (subst (λ (r : Request). IsAskable v.set lanes inlets k.birth.origin r) asks.1.1
-    (asked-askable lanes inlets v.set can v.journal.past x k asks.1.0 (ap is_outside asks.1.1 ∙ outside)))
+    subst (λ (p : Origin). IsAskable v.set names p q) (sym same)
+    (subst (λ (r : Request). IsAskable v.set names k.birth.origin r) asks.1.1
+    (asked-askable names v.set can v.journal.past x k asks.1.0 (ap is_outside asks.1.1 ∙ outside)))
 
 -- whoever asks is born
 pub asked-from : (v : BooksView) (x : ℕ) (q : Request) → IsAsked (plan v) v.journal.past x q → None ≡ origin_at (plan v) v.journal.past x → ⊥
 asked-from v x q asks none = let both : None ≡ Some asks.0.birth.origin = none ∙ asked-origin (plan v) v.journal.past x asks.0 asks.1.0 in cc both
 
 -- there is one place that it came from
-pub asks-for : (v : BooksView) (x : ℕ) (q : Request) (r : Result Reply NoMemory) (set : RouteSet) (o : Origin) (l m : List LaneView) (i j : List InletView) → set ≡ v.set
-    → Some o ≡ origin_at (plan v) v.journal.past x → Asks set o q r l m i j → AsksFor v x q r l m i j
-asks-for v x q r set o l m i j of_set from asks p h =
+pub asks-for : {r : RegistryView} (v : BooksView) (x : ℕ) (q : Request) (a : Result Reply NoMemory) (set : RouteSet) (o : Origin) (l m : List LaneView) (i j : List InletView) → set ≡ v.set
+    → Some o ≡ origin_at (plan v) v.journal.past x → Asks set o q a l m i j r → AsksFor v x q a l m i j r
+asks-for {r} v x q a set o l m i j of_set from asks p h =
     let both : Some o ≡ Some p = from ∙ h in
     let same : o ≡ p = cc in
-    subst (λ (s : RouteSet). Asks s p q r l m i j) of_set (subst (λ (y : Origin). Asks set y q r l m i j) same asks)
+    subst (λ (s : RouteSet). Asks s p q a l m i j r) of_set (subst (λ (y : Origin). Asks set y q a l m i j r) same asks)

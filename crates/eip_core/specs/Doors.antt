@@ -3,6 +3,8 @@ use Rattle.std.specs.Prelude.{ℕ, ◌≡◌, true, List, [], Option, Some, None
 use Rattle.eip_uri.specs.Inlets.{inlet_of}
 use Rattle.eip_uri.specs.Printed.{printed}
 use Rattle.eip_route.specs.Goals.{is_among}
+use Rattle.eip_route.specs.Valid.{IsValid}
+use Rattle.eip_route.specs.declared.route.Names.{Names}
 use Rattle.eip_route.specs.declared.route.Route.{Route}
 use Rattle.eip_route.specs.declared.route.RouteSet.{RouteSet}
 use Rattle.eip_endpoint.specs.Inlets.{InletView, inlet_names}
@@ -49,7 +51,7 @@ HasInlets set inlets = (t : ℕ) → IsSource (plan_of set) t → HasInlet set i
 abbrev pub HasLanes : RouteSet → List (List ℕ) → Type 0
 HasLanes set lanes = (name : List ℕ) → is_among name set.names.lanes ≡ true → IsSome (first_named name lanes)
 
--- the set can be run over lanes and inlets of these names
-pub record CanRun (set : RouteSet) (lanes inlets : List (List ℕ)) : Type 0 where
-  pub has_inlets : HasInlets set inlets
-  pub has_lanes : HasLanes set lanes
+-- the set can be run over what is handed in under these names: it is valid, and these are its names
+pub record CanRun (set : RouteSet) (names : Names) : Type 0 where
+  pub valid : IsValid set
+  pub named : set.names ≡ names

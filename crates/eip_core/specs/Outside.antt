@@ -5,8 +5,11 @@ use Rattle.eip_exchange.specs.declared.birth.Origin.{Origin}
 use Rattle.eip_exchange.specs.declared.birth.Origin.TheVariants as from
 use Rattle.eip_exchange.specs.declared.end.End.{End}
 use Rattle.eip_exchange.specs.declared.message.Message.{Message}
+use Rattle.eip_route.specs.Goals.{is_among}
+use Rattle.eip_route.specs.declared.route.Names.{Names}
 use Rattle.eip_route.specs.declared.route.RouteSet.{RouteSet}
 use Rattle.eip_frames.specs.declared.answer.Answer.{Answer as Reply}
+use Rattle.eip_frames.specs.declared.answer.Answer.TheVariants.{Became, Raised, Holds}
 use Rattle.eip_frames.specs.declared.request.Request.{Request}
 use Rattle.eip_frames.specs.declared.request.Request.TheVariants.{Send, Process, Test, Finish}
 use Rattle.eip_frames.specs.declared.request.Target.{Target}
@@ -22,6 +25,8 @@ use Rattle.eip_endpoint.specs.declared.source.Pulled.TheVariants.{Item, Refused,
 use Rattle.eip_endpoint.specs.Lanes.{LaneCall, LaneView, LanesGrew, first_named}
 use Rattle.eip_endpoint.specs.Inlets.{Act, Gave, Failed, InletAct, InletView, InletsGrew}
 use Rattle.eip_endpoint.specs.Outside.{Answered, Doors, lane_of, call_by, calls_for, acts_by, acts_of, told_by, commits_for, commits}
+use Rattle.eip_processor.specs.Registered.{RegistryView}
+use Rattle.eip_processor.specs.declared.processor.ProcessFault.TheVariants as fault
 use Rattle.eip_history.specs.Own.{Past}
 use Rattle.eip_history.specs.Rules.{Served}
 use Rattle.eip_core.specs.Doors.{HasInlet, doors_among, inlet_at, uri_at}
@@ -63,14 +68,14 @@ abbrev pub HasSource : RouteSet → (inlets : List (List ℕ)) → Origin → Ty
 HasSource set inlets (from.Source t item) = HasInlet set inlets t
 HasSource set inlets _ = ⊥
 
--- a request that somebody outside can be asked: a send to a lane that is handed in, what the registry is asked, or the end of an exchange whose source
--- is to be told and has its inlet
-abbrev pub IsAskable : RouteSet → (lanes inlets : List (List ℕ)) → Origin → Request → Type 0
-IsAskable set lanes inlets o (Send t m) = IsSome (first_named (lane_of t) lanes)
-IsAskable set lanes inlets o (Process name m) = Unit {0}
-IsAskable set lanes inlets o (Test name m) = Unit {0}
-IsAskable set lanes inlets o (Finish e m commit) = HasSource set inlets o × (commit ≡ true)
-IsAskable set lanes inlets o _ = ⊥
+-- a request that somebody outside can be asked: a send to a lane that is handed in, a processor or a predicate of the registry, or the end of an
+-- exchange whose source is to be told and has its inlet
+abbrev pub IsAskable : RouteSet → Names → Origin → Request → Type 0
+IsAskable set names o (Send t m) = IsSome (first_named (lane_of t) names.lanes)
+IsAskable set names o (Process name m) = is_among name names.processors ≡ true
+IsAskable set names o (Test name m) = is_among name names.predicates ≡ true
+IsAskable set names o (Finish e m commit) = HasSource set names.inlets o × (commit ≡ true)
+IsAskable set names o _ = ⊥
 
 -- acts of the inlet of a route's source
 abbrev pub acts_from : RouteSet → (inlets : List (List ℕ)) → ℕ → List Act → List InletAct
@@ -101,10 +106,23 @@ abbrev pub commits_told : Doors → Origin → Request → Result Reply NoMemory
 commits_told d o q (Ok a) = commits_for d o q a
 commits_told d o q (Err f) = []
 
--- somebody outside was asked: the answer fits, and lanes and inlets did what it says; where no memory was left, nothing
+-- an answer is one that the processor or the predicate of the name may give; others answer for themselves
+abbrev pub IsTheirs : RegistryView → Request → Reply → Type 0
+IsTheirs registry (Process name m) (Became new) = registry.processes name m (Ok new)
+IsTheirs registry (Process name m) (Raised f) = registry.processes name m (Err (fault.Raised f))
+IsTheirs registry (Test name m) (Holds b) = registry.tests name m b
+IsTheirs registry _ _ = Unit {0}
+
+-- each of these answers is
+abbrev pub AreTheirs : RegistryView → List Served → Type 0
+AreTheirs registry [] = Unit {0}
+AreTheirs registry (v ∷ vs) = IsTheirs registry v.asked.request v.answer × AreTheirs registry vs
+
+-- somebody outside was asked: the answer fits and is that of whoever was asked, and lanes and inlets did what it says; where no memory was left, nothing
 pub record Asks (set : RouteSet) (o : Origin) (q : Request) (r : Result Reply NoMemory) (lanes_old lanes_new : List LaneView)
-    (inlets_old inlets_new : List InletView) : Type 0 where
+    (inlets_old inlets_new : List InletView) (registry : RegistryView) : Type 0 where
   pub fitting : IfOk r (λ a. fits q a ≡ true)
+  pub theirs : IfOk r (λ a. IsTheirs registry q a)
   pub lanes : LanesGrew 0 (calls_told (doors_among set lanes_old inlets_old) q r) lanes_old lanes_new
   pub inlets : InletsGrew 0 (commits_told (doors_among set lanes_old inlets_old) o q r) inlets_old inlets_new
 

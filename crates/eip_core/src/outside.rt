@@ -2,20 +2,23 @@ ghost use Rattle.std.specs.Prelude.{◌≡◌, ◌<◌, IfOk, IfSome, IsSome, So
 ghost use Rattle.eip_uri.specs.Printed.{printed};
 ghost use Rattle.eip_exchange.specs.declared.message.Message.{Message as AMessage};
 ghost use Rattle.eip_frames.specs.Fits.{fits};
-ghost use Rattle.eip_frames.specs.declared.request.Request.TheVariants.{Send, Finish};
+ghost use Rattle.eip_route.specs.Goals.{is_among};
+ghost use Rattle.eip_frames.specs.declared.request.Request.TheVariants.{Send, Process, Finish};
 ghost use Rattle.eip_endpoint.specs.Pulls.{IsFair};
 ghost use Rattle.eip_endpoint.specs.Lanes.{LanesGrew, first_named, lane_names};
 ghost use Rattle.eip_endpoint.specs.Inlets.{InletsGrew, acts_of_pull, inlet_names};
 ghost use Rattle.eip_endpoint.specs.Outside.{calls_by, lane_of};
 ghost use Rattle.eip_tables.specs.Origin.{origin_seen};
 ghost use Rattle.eip_core.specs.Doors.{HasInlet, inlet_at, uri_at};
-ghost use Rattle.eip_core.specs.Outside.{Asks, HasSource, IsAskable, acts_from, is_rest, refusal_of, sent_by, source_told};
+ghost use Rattle.eip_core.specs.Served.{names_of};
+ghost use Rattle.eip_core.specs.Outside.{Asks, HasSource, IsAskable, IsTheirs, acts_from, is_rest, refusal_of, sent_by, source_told};
 
 use eip_endpoint::{CommitFault, Inlets, Lanes, PullFault, Pulled, Refusal, SendFault, find_inlet};
 use eip_exchange::{End, Message};
 use eip_frames::{Answer, Request, Target};
 use eip_hub::OriginView;
 use eip_ledger::Refused;
+use eip_processor::{ProcessFault, Registered};
 use eip_route::RouteSet;
 use eip_text::cuts::behind;
 use eip_text::{NoMemory, Text};
@@ -130,22 +133,38 @@ fn send<L: Lanes>(lanes: &mut L, target: &Target, message: &Message) -> Result<A
     }
 }
 
-/// Asks somebody outside for an exchange that came from there: the lane of a send, or the source that is told of its end. On
-/// `NoMemory` nothing was done. The registry has no processors and predicates yet, so it answers nobody.
-pub fn ask<L: Lanes, I: Inlets>(
+/// Has the processor of this name work on a message.
+fn process<R: Registered>(registry: &R, name: &Text, message: &Message) -> Result<Answer, NoMemory>
+    requires { is_among name.now (R.view registry.now).processors ≡ true }
+    ensures fitting { IfOk result (λ a. fits (Process name.now message.now) a ≡ true) }
+    ensures theirs { IfOk result (λ a. IsTheirs (R.view registry.now) (Process name.now message.now) a) }
+{
+    match registry.process(name.bytes(), message) {
+        Ok(made) => Ok(Answer::Became(made)),
+        Err(ProcessFault::Raised(fault)) => Ok(Answer::Raised(fault)),
+        Err(ProcessFault::NoMemory) => Err(NoMemory),
+    }
+}
+
+/// Asks somebody outside for an exchange that came from there: the lane of a send, the processor or the predicate of a name, or the
+/// source that is told of its end. On `NoMemory` no lane and no source did anything.
+pub fn ask<L: Lanes, I: Inlets, R: Registered>(
     set: &RouteSet,
     lanes: &mut L,
     inlets: &mut I,
+    registry: &R,
     origin: OriginView<'_>,
     request: &Request,
 ) -> Result<Answer, NoMemory>
-    requires { IsAskable set.now (lane_names (L.views lanes.old)) (inlet_names (I.views inlets.old)) (origin_seen origin) request.now }
-    ensures { Asks set.now (origin_seen origin.entry) request.now result (L.views lanes.old) (L.views lanes.new) (I.views inlets.old) (I.views inlets.new) }
+    requires { IsAskable set.now (names_of (L.views lanes.old) (I.views inlets.old) (R.view registry.now)) (origin_seen origin) request.now }
+    ensures { Asks set.now (origin_seen origin.entry) request.now result (L.views lanes.old) (L.views lanes.new) (I.views inlets.old) (I.views inlets.new)
+        (R.view registry.now) }
 {
     match request {
         Request::Send { target, message } => send(lanes, target, message),
+        Request::Process { name, message } => process(registry, name, message),
+        Request::Test { name, message } => Ok(Answer::Holds(registry.test(name.bytes(), message))),
         Request::Finish { end, .. } => tell(set, inlets, origin, end),
-        Request::Process { .. } | Request::Test { .. } => Err(NoMemory),
         _ => unreachable!(),
     }
 }

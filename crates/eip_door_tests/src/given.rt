@@ -1,13 +1,14 @@
-use eip_core::Registry;
 use eip_endpoint::{Inlets, Lanes, MemoryFiles, MemorySink};
+use eip_line::MemoryLink;
 use eip_run::run;
+use eip_samples::registry;
 use eip_simple_read::CratePatterns;
 use eip_test_support::texts;
 use eip_text::{NoMemory, Series, Text};
 use std::alloc::Global;
 
 /// A file in memory: its folder, its name and its bytes.
-pub type Held = (&'static str, &'static str, &'static [u8]);
+pub type Held<'a> = (&'a str, &'a str, &'a [u8]);
 
 /// These files, of whose calls those of these numbers, from 1, fail.
 pub fn files_of(alloc: Global, held: &[Held], failing: Vec<u64>) -> Result<MemoryFiles, NoMemory> {
@@ -30,10 +31,17 @@ pub fn holds(files: &MemoryFiles, wanted: &Held) -> bool {
         && file.2.items() == *bytes)
 }
 
+/// A link from which these bytes come.
+pub fn link(alloc: Global, input: &[u8]) -> Result<MemoryLink, NoMemory> {
+    let mut copy = Vec::new(alloc);
+    copy.extend_from_slice(input)?;
+    Ok(MemoryLink::new(alloc, copy, Vec::new(alloc)))
+}
+
 /// Whether a drain of these routes over these lanes and inlets is drained with this text.
 pub fn is_drained<L: Lanes, I: Inlets>(
     alloc: Global,
-    routes: &'static str,
+    routes: &str,
     lanes: &mut L,
     inlets: &mut I,
     text: &str,
@@ -46,6 +54,7 @@ pub fn is_drained<L: Lanes, I: Inlets>(
     )?;
     let mut patterns = CratePatterns::new(Vec::new(alloc));
     let mut out = MemorySink::new(alloc, Vec::new(alloc));
+    let registry = registry(alloc)?;
     let report = run(
         alloc,
         &words,
@@ -53,7 +62,7 @@ pub fn is_drained<L: Lanes, I: Inlets>(
         &mut patterns,
         lanes,
         inlets,
-        &Registry::new(),
+        &registry,
         &mut out,
     );
     Ok(report.status == 0 && out.bytes() == text.as_bytes())

@@ -1,20 +1,33 @@
 ghost use Rattle.std.specs.Prelude.{false, ◌≡◌, IfOk, [], ◌∷◌, codes};
 ghost use Rattle.eip_core.specs.Doors.{CanRun};
 ghost use Rattle.eip_endpoint.specs.Inlets.{inlet_names, inlet_views};
-ghost use Rattle.eip_engine_tests.specs.Rows.{logging, circling, copying_block};
+ghost use Rattle.eip_engine_tests.specs.Rows.{logging, circling, copying_block, stream_names};
 ghost use Rattle.eip_uri.specs.declared.uri.Uri.TheVariants as uri;
 
-use eip_core::{Registry, drain_alone};
+use eip_core::drain_alone;
 use eip_endpoint::{Inlet, Lane, MemoryLane, MemorySource, Source};
 use eip_exchange::End;
 use eip_hub::Hub;
 use eip_ledger::{Place, Stop};
+use eip_processor::{Processor, Registry, StoredPredicate};
 use eip_route::{Block, Handler, Names, Route, RouteSet, Step};
 use eip_test_support::{item, two_of_stream};
 use eip_text::{NoMemory, Series, Text};
 use eip_uri::Uri;
 use std::alloc::Global;
 use std::test::Fail;
+
+/// The names of standard input alone.
+fn stream_names(alloc: Global) -> Result<Names, NoMemory>
+    ensures { IfOk result (λ n. n ≡ stream_names) }
+{
+    let stream = Text::of_str(alloc, "stream")?;
+    let names = Names::none(alloc);
+    Ok(Names {
+        inlets: Series::of(vec![in alloc; stream]?),
+        ..names
+    })
+}
 
 /// One route from `stream:in`, whose one step is a log.
 fn logging(alloc: Global) -> Result<RouteSet, NoMemory>
@@ -30,7 +43,7 @@ fn logging(alloc: Global) -> Result<RouteSet, NoMemory>
     };
     let routes = Series::of(vec![in alloc; route]?);
     Ok(RouteSet {
-        names: Names::none(alloc),
+        names: stream_names(alloc)?,
         routes,
         blocks,
         handler: Handler::plain(),
@@ -76,7 +89,7 @@ fn circling(alloc: Global) -> Result<RouteSet, NoMemory>
     let routes = Series::of(vec![in alloc; first, second]?);
     let blocks = Series::of(vec![in alloc; copying(alloc)?, copying(alloc)?]?);
     Ok(RouteSet {
-        names: Names::none(alloc),
+        names: stream_names(alloc)?,
         routes,
         blocks,
         handler: Handler::plain(),
@@ -117,12 +130,13 @@ fn is_queued(place: Option<Place>) -> bool {
 
 /// The stop of a drain of the two lines.
 fn drained(alloc: Global, hub: &mut Hub) -> Result<Stop, NoMemory>
-    requires can_run { CanRun hub.old.set [] (codes "stream" ∷ []) }
+    requires can_run { CanRun hub.old.set stream_names }
     requires past { hub.old.journal.past ≡ [] }
 {
     let mut inlets = one_inlet(alloc)?;
     let mut lanes: Vec<Lane<MemoryLane>> = Vec::new(alloc);
-    let stop = drain_alone(hub, &mut lanes, &mut inlets, &Registry::new());
+    let registry: Registry<Box<dyn Processor>, StoredPredicate> = Registry::new(alloc);
+    let stop = drain_alone(hub, &mut lanes, &mut inlets, &registry);
     Ok(stop)
 }
 

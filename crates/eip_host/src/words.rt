@@ -11,24 +11,28 @@ use std::io::{Error, ErrorKind};
 
 /// The page that `--help` prints.
 pub const HELP: &str = "\
-Runs routes of integration patterns over the lines of standard input.
+Runs routes of integration patterns over files, lines of standard input and
+lines of peers.
 
-  eip drain ROUTES [--turns N]
-                     reads the route file ROUTES, takes each line of standard
-                     input as a message, and prints the log and the end book;
+  eip drain ROUTES [--turns N] [--journal FILE]
+                     reads the route file ROUTES, runs its routes until nothing
+                     is left to do, and prints the log and the end book;
                      it stops behind N turns, from 1 to 1000000, or behind
-                     100000 where N is not given (a line that is taken or
-                     refused is a turn, and so is each answer to a message)
+                     100000 where N is not given (an item that is taken or
+                     refused is a turn, and so is each answer to a message);
+                     with FILE it writes the journal of the run to that file
   eip check ROUTES   prints the routes of ROUTES in their canonical form, or the
                      first fault of the file
+  eip load N 0       runs the built-in load test over N items, from 1 to 20000,
+                     and prints the last three lines of its book
   eip --help         prints this page
   eip --version      prints the version
 
 The status tells how a run came out:
   0  every exchange came to its end, or the routes were printed
   1  the words or the route file were refused
-  2  the files, the source or standard output failed
-  3  groups are still open (only with routes that aggregate, once they are run)
+  2  the files, a source or standard output failed
+  3  groups are still open, and nothing will close them
   4  the turns were spent before the end
   5  there was no memory
 

@@ -1,7 +1,7 @@
 -- Look-ups in the tables of keys and of claims.
 use Rattle.std.proofs.Common.{◌≡◌, ℕ, zero, suc, ◌+◌, ◌==◌, Bool, true, false, cond, List, [], ◌∷◌, ◌++◌, take, slice_get, Option, Some, None, option_map, refl, sym, ap, ◌∙◌, arith}
 use Rattle.std.proofs.lemmas.Option.{none-some, same_Some}
-use Rattle.eip_exchange.specs.declared.end.End.{End}
+use Rattle.eip_exchange.specs.declared.end.Ending.{Ending}
 use Rattle.eip_idempotent.proofs.Standing.{same}
 use Rattle.eip_idempotent.specs.Keys.{Key, same_key, ClaimView, is_held, HoldersView, settled, settled_claim, settled_claims, Keys, Claims, row_at, PutsKey, value_at, claims_at, PutsClaims}
 
@@ -9,7 +9,7 @@ take_none : {X : Type 0} (xs : List X) → take zero xs ≡ []
 take_none [] = refl
 take_none (x ∷ xs) = refl
 
-settled_next : (number : ℕ) (end : End) (k : Key) (cs : List ClaimView) (i : ℕ) (c : ClaimView) (h : HoldersView) → slice_get cs i ≡ Some c
+settled_next : (number : ℕ) (end : Ending) (k : Key) (cs : List ClaimView) (i : ℕ) (c : ClaimView) (h : HoldersView) → slice_get cs i ≡ Some c
     → settled_claim number end k c (settled_claims number end k (take i cs) h) ≡ settled_claims number end k (take (suc i) cs) h
 settled_next number end k [] i c h at = absurd (none-some c at)
 settled_next number end k (d ∷ cs) zero c h at =
@@ -21,7 +21,7 @@ next_by f g next None same = refl
 next_by f g next (Some h) same = ap (λ (held : HoldersView). Some held) (same h)
 
 -- one claim more
-pub row_next : (number : ℕ) (end : End) (k : Key) (cs : List ClaimView) (i : ℕ) (c : ClaimView) (o now new : Option HoldersView) → slice_get cs i ≡ Some c
+pub row_next : (number : ℕ) (end : Ending) (k : Key) (cs : List ClaimView) (i : ℕ) (c : ClaimView) (o now new : Option HoldersView) → slice_get cs i ≡ Some c
     → now ≡ option_map (settled_claims number end k (take i cs)) o → new ≡ option_map (settled_claim number end k c) now → new ≡ option_map (settled_claims number end k (take (i + 1) cs)) o
 row_next number end k cs i c o now new at so_far step =
     let e : suc i ≡ i + 1 = omega arith in
@@ -36,7 +36,7 @@ settle_by false f h None at = refl
 settle_by false f h (Some held) at = refl
 
 -- one claim is settled
-pub row_settled : (old new : Keys) (number : ℕ) (end : End) (c : ClaimView) (j : Key) (h w : HoldersView) → j ≡ c.key → Some h ≡ row_at old j → w ≡ settled number c.eager (is_held (Some end) c) h → PutsKey old new j w
+pub row_settled : (old new : Keys) (number : ℕ) (end : Ending) (c : ClaimView) (j : Key) (h w : HoldersView) → j ≡ c.key → Some h ≡ row_at old j → w ≡ settled number c.eager (is_held (Some end) c) h → PutsKey old new j w
     → (k : Key) → row_at new k ≡ option_map (settled_claim number end k c) (row_at old k)
 row_settled old new number end c j h w named at made puts k =
     puts k
@@ -45,7 +45,7 @@ row_settled old new number end c j h w named at made puts k =
     ∙ settle_by (same_key c.key k) (settled number c.eager (is_held (Some end) c)) h (row_at old k) (λ t. sym (at ∙ ap (row_at old) (named ∙ same c.key k t)))
 
 -- no claim is settled
-pub row_same : (number : ℕ) (end : End) (k : Key) (cs : List ClaimView) (o : Option HoldersView) → cs ≡ [] → o ≡ option_map (settled_claims number end k cs) o
+pub row_same : (number : ℕ) (end : Ending) (k : Key) (cs : List ClaimView) (o : Option HoldersView) → cs ≡ [] → o ≡ option_map (settled_claims number end k cs) o
 row_same number end k cs None none = refl
 row_same number end k cs (Some h) none = sym (ap (λ (ds : List ClaimView). Some (settled_claims number end k ds h)) none)
 

@@ -1,7 +1,6 @@
 -- Worked rows of keys, by computing.
 use Rattle.std.proofs.Common.{◌≡◌, Bool, true, false, List, [], ◌∷◌, codes, refl}
-use Rattle.eip_exchange.specs.declared.end.End.TheVariants.{Completed, Handled, Failed}
-use Rattle.eip_exchange.specs.declared.end.Fault.{Fault}
+use Rattle.eip_exchange.specs.declared.end.Ending.TheVariants.{Completed, Handled, Failed}
 use Rattle.eip_idempotent.specs.Keys.{Key, Call, Claimed, Settled, holds}
 
 abbrev k : Key
@@ -25,8 +24,8 @@ eager : holders (Claimed k 1 true true ∷ []) ∷ holders (Settled 3 Completed 
 eager = refl
 
 -- 1 failed, and its claim isn't to be removed
-lasting : (fault : Fault) → holders (Settled 1 (Failed fault) ∷ Claimed k 1 true false ∷ []) ∷ holders (Settled 1 (Failed fault) ∷ Claimed k 1 false false ∷ []) ∷ [] ≡ (true ∷ false ∷ false ∷ []) ∷ (true ∷ false ∷ false ∷ []) ∷ []
-lasting fault = refl
+lasting : holders (Settled 1 Failed ∷ Claimed k 1 true false ∷ []) ∷ holders (Settled 1 Failed ∷ Claimed k 1 false false ∷ []) ∷ [] ≡ (true ∷ false ∷ false ∷ []) ∷ (true ∷ false ∷ false ∷ []) ∷ []
+lasting = refl
 
 -- another key of the repository has no holder
 apart : holds (Settled 1 Completed ∷ Claimed k 1 false true ∷ []) (codes "in", codes "l") 1 ≡ false

@@ -4,7 +4,7 @@ use Rattle.std.specs.List.{list_any}
 use Rattle.std.proofs.lemmas.Bool.{and_from, and_parts, and_left, and_right, or_left, false_from_ne_true}
 use Rattle.std.proofs.lemmas.Option.{none-some}
 use Rattle.std.proofs.lemmas.Slice.Eq.{bytes_eq-Decides}
-use Rattle.eip_exchange.specs.declared.end.End.{End}
+use Rattle.eip_exchange.specs.declared.end.Ending.{Ending}
 use Rattle.eip_idempotent.proofs.Least.{least_alike, number_least, least_either, least_twice, least_where, other_number}
 use Rattle.eip_idempotent.specs.Keys.{Key, same_key, Call, Claimed, Settled, end_of, ClaimView, claim, claims_of, is_held, is_on, holds, IsLeast, HoldersView, nobody, held_by, least, least_holder, settled, settled_claim, settled_claims, Keys, Claims, Table, row_at, holders_at, PutsKey, value_at, claims_at, PutsClaims, is_number, HaveRows, Stands}
 
@@ -45,7 +45,7 @@ any_where false f cs c = sym (or_false (list_any f cs))
 
 -- ---- who is the least holder
 
-parted : (b : Bool) (o : Option End) → ((b && is_none o) || (b && is_some o)) ≡ b
+parted : (b : Bool) (o : Option Ending) → ((b && is_none o) || (b && is_some o)) ≡ b
 parted true None = refl
 parted true (Some e) = refl
 parted false o = refl
@@ -97,19 +97,19 @@ not_own : (b : Bool) (n x : ℕ) → (n == x) ≡ false → is_number x (cond b 
 not_own true n x ne = other_number n x ne
 not_own false n x ne = refl
 
-claimed_by : (s t held : Bool) (ended : Option End) (c : ClaimView) (n x : ℕ) (o : Option HoldersView) → (n == x) ≡ t → (s ≡ true → held ≡ false) → (t ≡ true → ended ≡ None)
+claimed_by : (s t held : Bool) (ended : Option Ending) (c : ClaimView) (n x : ℕ) (o : Option HoldersView) → (n == x) ≡ t → (s ≡ true → held ≡ false) → (t ≡ true → ended ≡ None)
     → (held && is_none ended) ≡ is_number x (unwrap_or o nobody).unended
     → ((held || (t && (s && is_held ended c))) && is_none ended) ≡ is_number x (unwrap_or (cond s (Some (held_by n c.eager)) o) nobody).unended
 claimed_by true true held ended c n x o t fresh unended old =
     ap (λ (b : Bool). (b || is_held ended c) && is_none ended) (fresh refl)
-    ∙ ap (λ (e : Option End). is_held e c && is_none e) (unended refl)
+    ∙ ap (λ (e : Option Ending). is_held e c && is_none e) (unended refl)
     ∙ own_number c.eager n x (eqb-true n x t)
 claimed_by true false held ended c n x o t fresh unended old = ap (λ (b : Bool). (b || false) && is_none ended) (fresh refl) ∙ sym (not_own c.eager n x t)
 claimed_by false true held ended c n x o t fresh unended old = ap (λ (b : Bool). b && is_none ended) (or_false held) ∙ old
 claimed_by false false held ended c n x o t fresh unended old = ap (λ (b : Bool). b && is_none ended) (or_false held) ∙ old
 
 -- who has ended holds what it held
-still_by : (t held b : Bool) (ended : Option End) → (t ≡ true → ended ≡ None) → ((held || (t && b)) && is_some ended) ≡ (held && is_some ended)
+still_by : (t held b : Bool) (ended : Option Ending) → (t ≡ true → ended ≡ None) → ((held || (t && b)) && is_some ended) ≡ (held && is_some ended)
 still_by true held b ended h = and_right (held || b) (is_some ended) (ap is_some (h refl)) ∙ sym (and_right held (is_some ended) (ap is_some (h refl)))
 still_by false held b ended h = ap (λ (a : Bool). a && is_some ended) (or_false held)
 
@@ -179,7 +179,7 @@ holders_by None f h = sym (h refl)
 holders_by (Some held) f h = refl
 
 -- its claims on a key without a row are none
-rowless : (keys : Keys) (number : ℕ) (end : End) (k : Key) (cs : List ClaimView) (h : HoldersView) → row_at keys k ≡ None → HaveRows keys cs → settled_claims number end k cs h ≡ h
+rowless : (keys : Keys) (number : ℕ) (end : Ending) (k : Key) (cs : List ClaimView) (h : HoldersView) → row_at keys k ≡ None → HaveRows keys cs → settled_claims number end k cs h ≡ h
 rowless keys number end k [] h none rows = refl
 rowless keys number end k (c ∷ cs) h none rows =
     ap (settled_claims number end k cs)
@@ -194,7 +194,7 @@ unended_step true true lasts false number h = refl
 unended_step true false lasts all number h = refl
 unended_step false eager lasts all number h = refl
 
-unended_settled : (number : ℕ) (end : End) (k : Key) (cs : List ClaimView) (h : HoldersView) → (settled_claims number end k cs h).unended ≡ cond (list_any (λ c. is_on k c && c.eager) cs) None h.unended
+unended_settled : (number : ℕ) (end : Ending) (k : Key) (cs : List ClaimView) (h : HoldersView) → (settled_claims number end k cs h).unended ≡ cond (list_any (λ c. is_on k c && c.eager) cs) None h.unended
 unended_settled number end k [] h = refl
 unended_settled number end k (c ∷ cs) h =
     unended_settled number end k cs (settled_claim number end k c h)
@@ -207,14 +207,14 @@ lasting_step true eager true false number h = refl
 lasting_step true eager false all number h = refl
 lasting_step false eager lasts all number h = refl
 
-lasting_settled : (number : ℕ) (end : End) (k : Key) (cs : List ClaimView) (h : HoldersView)
+lasting_settled : (number : ℕ) (end : Ending) (k : Key) (cs : List ClaimView) (h : HoldersView)
     → (settled_claims number end k cs h).lasting ≡ cond (list_any (λ c. is_on k c && is_held (Some end) c) cs) (least (Some number) h.lasting) h.lasting
 lasting_settled number end k [] h = refl
 lasting_settled number end k (c ∷ cs) h =
     lasting_settled number end k cs (settled_claim number end k c h)
     ∙ lasting_step (is_on k c) c.eager (is_held (Some end) c) (list_any (λ d. is_on k d && is_held (Some end) d) cs) number h
 
-not_ended : (t : Bool) (end : End) (o : Option End) → cond t (Some end) o ≡ None → (t ≡ false) × (o ≡ None)
+not_ended : (t : Bool) (end : Ending) (o : Option Ending) → cond t (Some end) o ≡ None → (t ≡ false) × (o ≡ None)
 not_ended true end o e = absurd (none-some end (sym e))
 not_ended false end o e = (refl, e)
 
@@ -231,21 +231,21 @@ others_stay : (all : Bool) (u : Option ℕ) (n x : ℕ) → (n == x) ≡ false �
 others_stay true u n x ne known = one_holder u n x ne known
 others_stay false u n x ne known = refl
 
-settled_by : (t : Bool) (f : Option End → Bool) (end : End) (ended : Option End) (n x : ℕ) (all : Bool) (u : Option ℕ) → (n == x) ≡ t → all ≡ is_number n u → (f ended && is_none ended) ≡ is_number x u
+settled_by : (t : Bool) (f : Option Ending → Bool) (end : Ending) (ended : Option Ending) (n x : ℕ) (all : Bool) (u : Option ℕ) → (n == x) ≡ t → all ≡ is_number n u → (f ended && is_none ended) ≡ is_number x u
     → (f (cond t (Some end) ended) && is_none (cond t (Some end) ended)) ≡ is_number x (cond all None u)
 settled_by true f end ended n x all u t known old = and_right (f (Some end)) false refl ∙ sym (gone all u n x (eqb-true n x t) known)
 settled_by false f end ended n x all u t known old = old ∙ others_stay all u n x t known
 
-own_lasts : (b : Bool) (f : Option End → Bool) (ended : Option End) (n x : ℕ) → n ≡ x → ended ≡ None → b ≡ (is_number x (cond b (Some n) None) || (f ended && is_some ended))
+own_lasts : (b : Bool) (f : Option Ending → Bool) (ended : Option Ending) (n x : ℕ) → n ≡ x → ended ≡ None → b ≡ (is_number x (cond b (Some n) None) || (f ended && is_some ended))
 own_lasts true f ended n x same none = sym (or_left (x == n) (f ended && is_some ended) (eq-eqb x n (sym same)))
 own_lasts false f ended n x same none = sym (and_right (f ended) (is_some ended) (ap is_some none))
 
-lasts_by : (t : Bool) (f : Option End → Bool) (end : End) (ended : Option End) (n x : ℕ) (b : Bool) → (n == x) ≡ t → (t ≡ true → f (Some end) ≡ b) → (t ≡ true → ended ≡ None)
+lasts_by : (t : Bool) (f : Option Ending → Bool) (end : Ending) (ended : Option Ending) (n x : ℕ) (b : Bool) → (n == x) ≡ t → (t ≡ true → f (Some end) ≡ b) → (t ≡ true → ended ≡ None)
     → (is_number x (cond b (Some n) None) || (f ended && is_some ended)) ≡ (f (cond t (Some end) ended) && is_some (cond t (Some end) ended))
 lasts_by true f end ended n x b t own none = sym (own_lasts b f ended n x (eqb-true n x t) (none refl)) ∙ sym (and_true (f (Some end)) ∙ own refl)
 lasts_by false f end ended n x b t own none = ap (λ (a : Bool). a || (f ended && is_some ended)) (not_own b n x t)
 
-module _ (calls : List Call) (keys after : Keys) (claims less : Claims) (number : ℕ) (end : End) (stands : Stands calls (made keys claims)) (unended : end_of calls number ≡ None)
+module _ (calls : List Call) (keys after : Keys) (claims less : Claims) (number : ℕ) (end : Ending) (stands : Stands calls (made keys claims)) (unended : end_of calls number ≡ None)
     (changes : (k : Key) → row_at after k ≡ option_map (settled_claims number end k (claims_at claims number)) (row_at keys k)) (puts : PutsClaims claims less number None) where
   still_open : (x : ℕ) → (number == x) ≡ true → end_of calls x ≡ None
   still_open x t = subst (λ (y : ℕ). end_of calls y ≡ None) (eqb-true number x t) unended
@@ -273,9 +273,9 @@ module _ (calls : List Call) (keys after : Keys) (claims less : Claims) (number 
   holds_before : (k : Key) → list_any (λ c. is_on k c && c.eager) (claims_at claims number) ≡ is_number number (holders_at keys k).unended
   holds_before k =
       ap (list_any (λ c. is_on k c && c.eager)) own_claims
-      ∙ ap (λ (o : Option End). list_any (λ c. is_on k c && is_held o c) (claims_of calls number)) (sym unended)
+      ∙ ap (λ (o : Option Ending). list_any (λ c. is_on k c && is_held o c) (claims_of calls number)) (sym unended)
       ∙ sym (and_true (holds calls k number))
-      ∙ ap (λ (o : Option End). holds calls k number && is_none o) (sym unended)
+      ∙ ap (λ (o : Option Ending). holds calls k number && is_none o) (sym unended)
       ∙ stands.unended k number
 
   unended_after : (k : Key) (x : ℕ) → (holds (Settled number end ∷ calls) k x && is_none (end_of (Settled number end ∷ calls) x)) ≡ is_number x (holders_at after k).unended

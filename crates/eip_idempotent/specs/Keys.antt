@@ -2,8 +2,8 @@
 use Rattle.std.specs.Prelude.{ℕ, ◌≡◌, ◌≤◌, ◌==◌, ◌&&◌, not, min, Bool, true, false, List, [], ◌∷◌, ◌++◌, Option, Some, None, is_some, is_none, option_map, unwrap_or, bytes_eq, if◌then◌else◌}
 use Rattle.std.specs.List.{list_any, fold}
 use Rattle.std.specs.Map.{lookup}
-use Rattle.eip_exchange.specs.declared.end.End.{End}
-use Rattle.eip_exchange.specs.declared.end.End.TheVariants as end
+use Rattle.eip_exchange.specs.declared.end.Ending.{Ending}
+use Rattle.eip_exchange.specs.declared.end.Ending.TheVariants as end
 use Rattle.eip_idempotent.specs.declared.repo.Offered.{Offered}
 use Rattle.eip_idempotent.specs.declared.repo.Offered.TheVariants as offered
 
@@ -18,12 +18,12 @@ same_key a b = bytes_eq a.0 b.0 && bytes_eq a.1 b.1
 -- doesn't complete; or an exchange ended
 pub data Call : Type 0 where
   Claimed : Key → ℕ → Bool → Bool → Call
-  Settled : ℕ → End → Call
+  Settled : ℕ → Ending → Call
 
 -- ---- by the calls so far, the newest first
 
 -- how an exchange ended
-abbrev pub end_of : List Call → ℕ → Option End
+abbrev pub end_of : List Call → ℕ → Option Ending
 end_of [] x = None
 end_of (Claimed key number eager remove ∷ calls) x = end_of calls x
 end_of (Settled number end ∷ calls) x = if number == x then Some end else end_of calls x
@@ -46,11 +46,11 @@ claims_of (Claimed key number eager remove ∷ calls) x = if number == x then cl
 claims_of (Settled number end ∷ calls) x = claims_of calls x
 
 -- a claim holds its key, where its exchange hasn't ended or ended so
-abbrev pub is_held : Option End → ClaimView → Bool
+abbrev pub is_held : Option Ending → ClaimView → Bool
 is_held None c = c.eager
 is_held (Some end.Completed) c = true
 is_held (Some end.Handled) c = not c.remove
-is_held (Some (end.Failed fault)) c = not c.remove
+is_held (Some end.Failed) c = not c.remove
 
 abbrev pub is_on : Key → ClaimView → Bool
 is_on k c = same_key c.key k
@@ -103,10 +103,10 @@ abbrev pub settled : ℕ → Bool → Bool → HoldersView → HoldersView
 settled number eager lasts h = record { unended = if eager then None else h.unended; lasting = if lasts then least (Some number) h.lasting else h.lasting }
 
 -- the holders of a key, where an exchange with this claim ended so
-abbrev pub settled_claim : ℕ → End → Key → ClaimView → HoldersView → HoldersView
+abbrev pub settled_claim : ℕ → Ending → Key → ClaimView → HoldersView → HoldersView
 settled_claim number end k c h = if is_on k c then settled number c.eager (is_held (Some end) c) h else h
 
-abbrev pub settled_claims : ℕ → End → Key → List ClaimView → HoldersView → HoldersView
+abbrev pub settled_claims : ℕ → Ending → Key → List ClaimView → HoldersView → HoldersView
 settled_claims number end k cs h = fold (λ held c. settled_claim number end k c held) h cs
 
 -- ---- tables of keys and of claims

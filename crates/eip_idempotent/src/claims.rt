@@ -2,7 +2,7 @@ ghost use Rattle.std.specs.Prelude.{◌≡◌, ◌++◌, [], ◌∷◌, Some, On
 ghost use Rattle.eip_idempotent.specs.Keys.{claim, is_held};
 
 use crate::name::Key;
-use eip_exchange::End;
+use eip_exchange::Ending;
 use eip_text::NoMemory;
 use std::alloc::Global;
 use std::marker::Model;
@@ -47,12 +47,12 @@ impl Claim {
     }
 
     /// Whether it holds its key for ever, where its exchange ended so.
-    pub fn lasts(&self, end: &End) -> bool
-        ensures { result ≡ is_held (Some end.now) self.now }
+    pub fn lasts(&self, ending: Ending) -> bool
+        ensures { result ≡ is_held (Some ending) self.now }
     {
-        match end {
-            End::Completed => true,
-            End::Handled | End::Failed(_) => !self.remove,
+        match ending {
+            Ending::Completed => true,
+            Ending::Handled | Ending::Failed => !self.remove,
         }
     }
 }

@@ -5,7 +5,7 @@ ghost use Rattle.eip_idempotent.specs.Keys.{Key, value_at, claims_at, row_at, ho
 use crate::claims::{Claim, Claims};
 use crate::holders::Holders;
 use crate::name::Key;
-use eip_exchange::End;
+use eip_exchange::Ending;
 use eip_text::NoMemory;
 use indexmap::IndexMap;
 use std::alloc::Global;
@@ -68,19 +68,19 @@ pub fn take_claims(claims: &mut ClaimMap, number: u64) -> Option<Claims>
 }
 
 /// The exchange of these claims has ended so.
-pub fn settle_claims(keys: &mut KeyMap, claims: &Claims, number: u64, end: &End)
-    ensures { (k : Key) → row_at keys.new.entries k ≡ option_map (settled_claims number end.now k claims.now) (row_at keys.old.entries k) }
+pub fn settle_claims(keys: &mut KeyMap, claims: &Claims, number: u64, ending: Ending)
+    ensures { (k : Key) → row_at keys.new.entries k ≡ option_map (settled_claims number ending k claims.now) (row_at keys.old.entries k) }
 {
     for claim in claims.as_slice() {
-        settle_claim(keys, claim, number, end);
+        settle_claim(keys, claim, number, ending);
     }
 }
 
 /// The exchange of this claim has ended so.
-fn settle_claim(keys: &mut KeyMap, claim: &Claim, number: u64, end: &End)
-    ensures { (k : Key) → row_at keys.new.entries k ≡ option_map (settled_claim number end.now k claim.now) (row_at keys.old.entries k) }
+fn settle_claim(keys: &mut KeyMap, claim: &Claim, number: u64, ending: Ending)
+    ensures { (k : Key) → row_at keys.new.entries k ≡ option_map (settled_claim number ending k claim.now) (row_at keys.old.entries k) }
 {
     if let Some(holders) = keys.get_mut(claim.key()) {
-        holders.settle(number, claim.is_eager(), claim.lasts(end));
+        holders.settle(number, claim.is_eager(), claim.lasts(ending));
     }
 }

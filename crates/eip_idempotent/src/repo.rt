@@ -7,7 +7,7 @@ use crate::keys::{
     ClaimMap, KeyMap, add_claim, least_holder, put_holders, reserve_key, settle_claims, take_claims,
 };
 use crate::name::key_of;
-use eip_exchange::End;
+use eip_exchange::Ending;
 use eip_text::{NoMemory, Text};
 use indexmap::IndexMap;
 use std::alloc::Global;
@@ -81,11 +81,11 @@ impl Repo {
 
     /// An exchange has ended so: its claims on keys hold for ever, or are given up. The exchange hasn't been settled. It
     /// takes no memory.
-    pub fn settle(&mut self, number: u64, end: &End)
-        ensures { (calls : List Call) → Stands calls self.old → end_of calls number ≡ None → Stands (Settled number end.now ∷ calls) self.new }
+    pub fn settle(&mut self, number: u64, ending: Ending)
+        ensures { (calls : List Call) → Stands calls self.old → end_of calls number ≡ None → Stands (Settled number ending ∷ calls) self.new }
     {
         if let Some(claims) = take_claims(&mut self.claims, number) {
-            settle_claims(&mut self.keys, &claims, number, end);
+            settle_claims(&mut self.keys, &claims, number, ending);
         }
     }
 }

@@ -13,6 +13,7 @@ use Rattle.eip_history.specs.Plan.{Plan}
 use Rattle.eip_history.specs.Own.{Past}
 use Rattle.eip_history.specs.Births.{Asked, Story, story, births, made_at, made_by, made_for}
 use Rattle.eip_history.specs.Rules.{KeepsRules, May}
+use Rattle.eip_history.specs.Kept.{is_fresh}
 use Rattle.eip_history.specs.TableWords.{is_sleep, is_arrival}
 use Rattle.eip_history.proofs.Told.{births-more}
 use Rattle.eip_history.proofs.Unborn.{legal-tail, legal-may}
@@ -28,29 +29,10 @@ simple-asked (request.Call r) a i h = tt
 simple-asked (request.Spawn seeds) a i h = tt
 simple-asked (request.Join first count) a i h = tt
 simple-asked (request.Arrive b key m) a i h = tt
+simple-asked (request.Idem r k eager remove) a i h = tt
 simple-asked (request.Wait t) a i h = tt
 simple-asked (request.Log n t) a i h = tt
 simple-asked (request.Finish e m c) a i h = tt
-simple-asked q reply.Done i h = absurd (cc h)
-simple-asked q reply.SendFailed i h = absurd (cc h)
-simple-asked q reply.Exists i h = absurd (cc h)
-simple-asked q (reply.Became m) i h = absurd (cc h)
-simple-asked q (reply.Raised f) i h = absurd (cc h)
-simple-asked q (reply.Holds b) i h = absurd (cc h)
-simple-asked q (reply.Queued n) i h = absurd (cc h)
-simple-asked q (reply.Full l) i h = absurd (cc h)
-simple-asked q reply.Dropped i h = absurd (cc h)
-simple-asked q reply.Entered i h = absurd (cc h)
-simple-asked q (reply.Born first count) i h = absurd (cc h)
-simple-asked q (reply.Joined parts) i h = absurd (cc h)
-simple-asked q (reply.Arrived g) i h = absurd (cc h)
-simple-asked q (reply.Closed g c n) i h = absurd (cc h)
-simple-asked q (reply.Unfit f) i h = absurd (cc h)
-simple-asked q (reply.Slept d) i h = absurd (cc h)
-simple-asked q reply.Noted i h = absurd (cc h)
-simple-asked q reply.Finished i h = absurd (cc h)
-simple-asked q reply.CommitFailed i h = absurd (cc h)
-simple-asked q _ i h = absurd i
 
 -- and what fits a simple request is such an answer
 pub fits-simple : (q : Request) (a : Reply) → IsSimple q → fits q a ≡ true → IsSimpleAnswer a
@@ -69,6 +51,8 @@ fits-simple (request.Join first count) (reply.Joined parts) i h = tt
 fits-simple (request.Arrive b key m) (reply.Arrived g) i h = tt
 fits-simple (request.Arrive b key m) (reply.Closed g c n) i h = tt
 fits-simple (request.Arrive b key m) (reply.Unfit f) i h = tt
+fits-simple (request.Idem r k eager remove) reply.Fresh i h = tt
+fits-simple (request.Idem r k eager remove) (reply.Duplicate n) i h = tt
 fits-simple (request.Wait t) (reply.Slept d) i h = tt
 fits-simple (request.Log n t) reply.Noted i h = tt
 fits-simple (request.Finish e m c) reply.Finished i h = tt
@@ -81,10 +65,10 @@ fits-simple (request.Call r) _ i h = absurd (cc h)
 fits-simple (request.Spawn seeds) _ i h = absurd (cc h)
 fits-simple (request.Join first count) _ i h = absurd (cc h)
 fits-simple (request.Arrive b key m) _ i h = absurd (cc h)
+fits-simple (request.Idem r k eager remove) _ i h = absurd (cc h)
 fits-simple (request.Wait t) _ i h = absurd (cc h)
 fits-simple (request.Log n t) _ i h = absurd (cc h)
 fits-simple (request.Finish e m c) _ i h = absurd (cc h)
-fits-simple _ _ i h = absurd i
 
 -- what the outside is asked is simple
 pub outside-simple : (q : Request) → is_outside q ≡ true → IsSimple q
@@ -146,6 +130,15 @@ outside-ungrouped q (reply.Arrived g) o h = by_request q o h
 outside-ungrouped q (reply.Closed g c n) o h = absurd (let f = outside-unborn q (reply.Closed g c n) o h in cc f)
 outside-ungrouped q _ o h = refl
 
+-- nobody outside lets an exchange claim a key
+pub outside-unclaimed : (q : Request) (a : Reply) → is_outside q ≡ true → fits q a ≡ true → is_fresh a ≡ false
+outside-unclaimed q reply.Fresh o h = by_request q o h
+  where
+    by_request : (q : Request) → is_outside q ≡ true → fits q reply.Fresh ≡ true → is_fresh reply.Fresh ≡ false
+    by_request (request.Idem r k eager remove) o h = absurd (cc o)
+    by_request _ o h = absurd (cc h)
+outside-unclaimed q _ o h = refl
+
 -- nobody outside lets an exchange sleep
 pub outside-wakeful : (q : Request) (a : Reply) → is_outside q ≡ true → fits q a ≡ true → is_sleep a ≡ false
 outside-wakeful q (reply.Slept d) o h = by_request q o h
@@ -167,10 +160,10 @@ made-simple s t past k (request.Spawn seeds) _ i none = refl
 made-simple s t past k (request.Join first count) a i n = refl
 made-simple s t past k (request.Arrive b key m) (reply.Closed g c n) i none = absurd (cc none)
 made-simple s t past k (request.Arrive b key m) _ i none = refl
+made-simple s t past k (request.Idem r key eager remove) a i none = refl
 made-simple s t past k (request.Wait x) a i none = refl
 made-simple s t past k (request.Log n x) a i none = refl
 made-simple s t past k (request.Finish e m c) a i n = refl
-made-simple s t past k _ a i n = absurd i
 
 -- the births of an entry: one for an accepted item, one for a copy that came into a queue, the parts that were asked for, and one for
 -- each group that closes
@@ -210,11 +203,12 @@ made-simply s limit w past (Answer x (reply.Holds b)) i m = made-answer s limit 
 made-simply s limit w past (Answer x (reply.Full l)) i m = made-answer s limit w past x (reply.Full l) i refl m
 made-simply s limit w past (Answer x reply.Dropped) i m = made-answer s limit w past x reply.Dropped i refl m
 made-simply s limit w past (Answer x reply.Entered) i m = made-answer s limit w past x reply.Entered i refl m
+made-simply s limit w past (Answer x reply.Fresh) i m = made-answer s limit w past x reply.Fresh i refl m
+made-simply s limit w past (Answer x (reply.Duplicate h)) i m = made-answer s limit w past x (reply.Duplicate h) i refl m
 made-simply s limit w past (Answer x (reply.Slept d)) i m = made-answer s limit w past x (reply.Slept d) i refl m
 made-simply s limit w past (Answer x reply.Noted) i m = made-answer s limit w past x reply.Noted i refl m
 made-simply s limit w past (Answer x reply.Finished) i m = made-answer s limit w past x reply.Finished i refl m
 made-simply s limit w past (Answer x reply.CommitFailed) i m = made-answer s limit w past x reply.CommitFailed i refl m
-made-simply s limit w past (Answer x _) i m = absurd i
 made-simply s limit w past (Tick t) i m = refl
 made-simply s limit w past Force i m = refl
 made-simply s limit w past _ i m = refl

@@ -1,4 +1,4 @@
--- Journals in which nothing is answered but requests that take no key.
+-- Journals in which nothing is answered but requests whose answers the tables know: by now each request is one.
 use Rattle.std.specs.Prelude.{[], ◌∷◌}
 use Rattle.eip_frames.specs.declared.request.Request.{Request}
 use Rattle.eip_frames.specs.declared.request.Request.TheVariants as request
@@ -8,7 +8,7 @@ use Rattle.eip_ledger.specs.declared.entry.Kind.{Kind}
 use Rattle.eip_ledger.specs.declared.entry.Kind.TheVariants.{Answer}
 use Rattle.eip_history.specs.Own.{Past}
 
--- a request that takes no key
+-- a request whose answers the tables know
 abbrev pub IsSimple : Request → Type 0
 IsSimple (request.Send t m) = Unit {0}
 IsSimple (request.Process n m) = Unit {0}
@@ -18,10 +18,10 @@ IsSimple (request.Call r) = Unit {0}
 IsSimple (request.Spawn seeds) = Unit {0}
 IsSimple (request.Join first count) = Unit {0}
 IsSimple (request.Arrive a key m) = Unit {0}
+IsSimple (request.Idem r k eager remove) = Unit {0}
 IsSimple (request.Wait t) = Unit {0}
 IsSimple (request.Log n t) = Unit {0}
 IsSimple (request.Finish e m commit) = Unit {0}
-IsSimple _ = ⊥
 
 -- an answer to such a request
 abbrev pub IsSimpleAnswer : Reply → Type 0
@@ -40,11 +40,12 @@ IsSimpleAnswer (reply.Joined parts) = Unit {0}
 IsSimpleAnswer (reply.Arrived g) = Unit {0}
 IsSimpleAnswer (reply.Closed g c n) = Unit {0}
 IsSimpleAnswer (reply.Unfit f) = Unit {0}
+IsSimpleAnswer reply.Fresh = Unit {0}
+IsSimpleAnswer (reply.Duplicate h) = Unit {0}
 IsSimpleAnswer (reply.Slept d) = Unit {0}
 IsSimpleAnswer reply.Noted = Unit {0}
 IsSimpleAnswer reply.Finished = Unit {0}
 IsSimpleAnswer reply.CommitFailed = Unit {0}
-IsSimpleAnswer _ = ⊥
 
 -- an entry that answers such a request, or none
 abbrev pub IsSimpleEntry : Kind → Type 0

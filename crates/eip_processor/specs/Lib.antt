@@ -1,1 +1,2 @@
 pub mod Processed
+pub mod Registered

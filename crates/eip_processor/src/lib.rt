@@ -3,8 +3,10 @@
 
 pub mod predicate;
 pub mod processor;
+pub mod registered;
 pub mod registry;
 
-pub use predicate::StoredPredicate;
+pub use predicate::{Predicate, StoredPredicate};
 pub use processor::{ProcessFault, Processor};
+pub use registered::Registered;
 pub use registry::{AddFault, Registry};

@@ -1,6 +1,18 @@
-ghost use Rattle.std.specs.Prelude.{◌≡◌};
+ghost use Rattle.std.specs.Prelude.{◌≡◌, Bool};
+ghost use Rattle.eip_exchange.specs.declared.message.Message.{Message as AMessage};
 
 use eip_exchange::Message;
+
+/// What tells whether a message passes (Camel manual, *Predicate*). It is called through a shared reference, by several
+/// threads at once.
+pub trait Predicate: Send + Sync + Drop {
+    /// What it may tell of a message.
+    ghost tells: { Self → AMessage → Bool → Type 0 };
+
+    /// Whether the message passes.
+    fn passes(&self, message: &Message) -> bool
+        ensures { tells self.now message.now result };
+}
 
 type TestOf = Box<dyn Fn(&Message) -> bool + Send + Sync>;
 
@@ -26,5 +38,14 @@ impl StoredPredicate {
         ensures { TestOf.post self.now.test message.entry result }
     {
         (self.test)(message)
+    }
+}
+
+/// A stored predicate tells what its test may answer.
+impl Predicate for StoredPredicate {
+    ghost tells = { λ s m b. (shown : _) × ((shown.now ≡ m) × TestOf.post s.test shown b) };
+
+    fn passes(&self, message: &Message) -> bool {
+        self.test(message)
     }
 }

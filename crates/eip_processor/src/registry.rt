@@ -2,7 +2,7 @@ ghost use Rattle.std.specs.Prelude.{◌≡◌, ◌++◌, ◌∷◌, ◌↔◌, [
 ghost use Rattle.std.specs.Option.{option_map};
 ghost use Rattle.eip_keyed.specs.Keyed.{found, keys_of};
 
-use crate::predicate::StoredPredicate;
+use crate::predicate::Predicate;
 use crate::processor::Processor;
 use eip_keyed::{key_at, value_of};
 use eip_text::Text;
@@ -21,11 +21,11 @@ pub enum AddFault {
 
 /// Processors and predicates under names (Camel manual, *Registry*): what is added is called by its name from then on.
 #[derive(Drop)]
-pub struct Registry<P> {
+pub struct Registry<P, Q> {
     /// The processors in the order in which they were added.
     pub processors: Vec<(Text, P)>,
     /// The predicates in the order in which they were added.
-    pub predicates: Vec<(Text, StoredPredicate)>,
+    pub predicates: Vec<(Text, Q)>,
 }
 
 /// Whether an entry has this name.
@@ -35,9 +35,9 @@ fn has<V>(entries: &[(Text, V)], name: &Text) -> bool
     value_of(entries, name.bytes()).is_some()
 }
 
-impl<P: Processor> Registry<P> {
+impl<P: Processor, Q: Predicate> Registry<P, Q> {
     /// An empty registry. It takes no memory.
-    pub fn new(alloc: Global) -> Registry<P>
+    pub fn new(alloc: Global) -> Registry<P, Q>
         ensures processors { result.processors.items ≡ [] }
         ensures predicates { result.predicates.items ≡ [] }
     {
@@ -65,7 +65,7 @@ impl<P: Processor> Registry<P> {
     }
 
     /// Adds a predicate under a name. `NameTaken` exactly where a predicate has it; on any `Err` the registry stays.
-    pub fn add_predicate(&mut self, name: Text, object: StoredPredicate) -> Result<(), AddFault>
+    pub fn add_predicate(&mut self, name: Text, object: Q) -> Result<(), AddFault>
         ensures added { OnOk result (self.new.predicates.items ≡ self.old.predicates.items ++ (name, object) ∷ []) }
         ensures found { OnOk result (found name self.new.predicates.items ≡ Some object) }
         ensures err { OnErr result (self.new.predicates.items ≡ self.old.predicates.items) }
@@ -89,7 +89,7 @@ impl<P: Processor> Registry<P> {
     }
 
     /// The predicate of this name; `None` exactly where none has it. It takes no memory.
-    pub fn find_predicate(&self, name: &[u8]) -> Option<&StoredPredicate>
+    pub fn find_predicate(&self, name: &[u8]) -> Option<&Q>
         ensures { option_map (λ p. p.now) result ≡ found name.now self.now.predicates.items }
     {
         value_of(self.predicates.as_slice(), name)

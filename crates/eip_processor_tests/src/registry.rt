@@ -48,8 +48,8 @@ fn text(alloc: Global, word: &str) -> Result<Text, NoMemory> {
 }
 
 /// A registry with the processors `keep` and `refuse` and the predicate `empty`.
-fn registry_of(alloc: Global) -> Result<Registry<Box<dyn Processor>>, Fail> {
-    let mut registry: Registry<Box<dyn Processor>> = Registry::new(alloc);
+fn registry_of(alloc: Global) -> Result<Registry<Box<dyn Processor>, StoredPredicate>, Fail> {
+    let mut registry: Registry<Box<dyn Processor>, StoredPredicate> = Registry::new(alloc);
     let refuses = false;
     let keep = Box::new(alloc, Keep { alloc, refuses })?;
     registry.add_processor(text(alloc, "keep")?, keep)?;

@@ -40,7 +40,6 @@ name_of cause.TooNested = codes "TooNested"
 name_of cause.DoubleErrorHandler = codes "DoubleErrorHandler"
 name_of cause.DoubleRouteId = codes "DoubleRouteId"
 name_of cause.SecondConsumer = codes "SecondConsumer"
-name_of cause.NotBuilt = codes "NotBuilt"
 
 -- the text among its arguments
 abbrev pub word_of : Cause → Option (List ℕ)

@@ -71,8 +71,6 @@ pub enum Cause {
     DoubleRouteId,
     /// A second route from one endpoint.
     SecondConsumer,
-    /// A set of routes that isn't run yet. No reader of route files answers it.
-    NotBuilt,
 }
 
 /// A fault of a route file: where it stands, as `$` followed by `[INDEX]` and `.KEY` with the keys as
@@ -164,7 +162,6 @@ impl Cause {
             Cause::DoubleErrorHandler => "DoubleErrorHandler",
             Cause::DoubleRouteId => "DoubleRouteId",
             Cause::SecondConsumer => "SecondConsumer",
-            Cause::NotBuilt => "NotBuilt",
         }
     }
 

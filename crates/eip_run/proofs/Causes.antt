@@ -1,5 +1,5 @@
 -- An outcome has its cause: by what the command came to, and why a run stops.
-use Rattle.std.proofs.Common.{◌≡◌, ℕ, zero, suc, ◌+◌, ◌<◌, ◌≤◌, ◌++◌, ◌⊎◌, ◌==◌, ◌&&◌, Bool, true, false, cond, List, [], ◌∷◌, Option, Some, None, Result, Ok, Err, length, refl, sym, ap, subst, ◌∙◌, arith, inl, inr}
+use Rattle.std.proofs.Common.{◌≡◌, ℕ, zero, suc, ◌+◌, ◌<◌, ◌≤◌, ◌++◌, ◌≢◌, ◌⊎◌, ◌==◌, ◌&&◌, Bool, true, false, cond, List, [], ◌∷◌, Option, Some, None, Result, Ok, Err, length, refl, sym, ap, subst, ◌∙◌, arith, inl, inr}
 use Rattle.std.specs.Option.{IsSome}
 use Rattle.std.specs.List.{slice_get}
 use Rattle.std.proofs.lemmas.Bool.{eqb-true, eq-eqb, and_parts, ne_eqb}
@@ -15,13 +15,15 @@ use Rattle.eip_route_faults.specs.Sites as sites_are
 use Rattle.eip_route_grammar.specs.declared.fault.Cause.{Cause}
 use Rattle.eip_route_grammar.specs.declared.fault.Cause.TheVariants as cause_is
 use Rattle.eip_route_grammar.specs.declared.fault.RouteFault.{RouteFault}
-use Rattle.eip_command.specs.Words.{command_of, path_in}
+use Rattle.eip_command.specs.Words.{command_of, journal_of}
 use Rattle.eip_command.specs.declared.words.Path.{Path}
 use Rattle.eip_command.specs.declared.words.Command.{Command}
-use Rattle.eip_command.specs.declared.words.Command.TheVariants.{Drain, Check}
+use Rattle.eip_command.specs.declared.words.Command.TheVariants.{Drain, Check, Load}
 use Rattle.eip_endpoint.specs.Content.{IfTold}
-use Rattle.eip_endpoint.specs.Files.{File, bytes_at, read_of}
+use Rattle.eip_endpoint.specs.Files.{File}
 use Rattle.eip_endpoint.specs.declared.files.FileRead.{FileRead}
+use Rattle.eip_endpoint.specs.declared.files.FilesFault.{FilesFault}
+use Rattle.eip_endpoint.specs.declared.files.FilesFault.TheVariants as files_fault
 use Rattle.eip_endpoint.specs.declared.sink.SinkFault.{SinkFault}
 use Rattle.eip_endpoint.specs.declared.sink.SinkFault.TheVariants as fault
 use Rattle.eip_endpoint.specs.Sinks.{sink_failure}
@@ -29,6 +31,7 @@ use Rattle.eip_endpoint.specs.Inlets.{InletView, InletAct, Failed, faults_at, In
 use Rattle.eip_endpoint.specs.Lanes.{lane_names}
 use Rattle.eip_endpoint.specs.Outside.{Doors, commits, acts_by}
 use Rattle.eip_endpoint.proofs.InletLaws.{faults_at-append}
+use Rattle.eip_ledger.specs.View.{JournalView}
 use Rattle.eip_ledger.specs.declared.entry.Kind.{Kind}
 use Rattle.eip_ledger.specs.declared.entry.Kind.TheVariants.{SourceFault}
 use Rattle.eip_ledger.specs.declared.place.Stop.{Stop}
@@ -44,14 +47,16 @@ use Rattle.eip_plan.specs.Plan.{plan_of}
 use Rattle.eip_table_laws.proofs.StopCalls.{position-some}
 use Rattle.eip_core.specs.Doors.{doors_of, inlet_named, inlet_at}
 use Rattle.eip_core.specs.Outside.{seen_answers, pulls_in, pulls, inlet_acts}
+use Rattle.eip_core.specs.Served.{names_of}
+use Rattle.eip_core.proofs.Handed.{runs-inlets}
 use Rattle.eip_run.specs.declared.report.Outcome.{Outcome}
 use Rattle.eip_run.specs.declared.report.Outcome.TheVariants as outcome
-use Rattle.eip_run.specs.Outcomes.{behind}
-use Rattle.eip_run.specs.Routes.{file_limit}
-use Rattle.eip_run.specs.Given.{Setting, asked}
-use Rattle.eip_run.specs.Prepared.{sites, WasRead, IsSpared, HasRoutes}
-use Rattle.eip_run.specs.Reports.{IsRun, Comes, NoCommand, NotRead, NoRoutes, WasChecked, Stopped, Starved, LacksMemory, LacksText, Reports}
-use Rattle.eip_run.specs.Caused.{InletRose, SourceFailed, CauseOfStop, CauseOf, PatternsOf, IsUnharmed, Completes, Prints, IsFaultless, IsRefusedFor, InFile, IsOfSize, IsRight, Causes}
+use Rattle.eip_run.specs.Kept.{Keeps}
+use Rattle.eip_run.specs.Outcomes.{unkept, left_by, behind}
+use Rattle.eip_run.specs.Given.{Setting, asked, begun}
+use Rattle.eip_run.specs.Prepared.{sites, held_at, IsReadOf, WasRead, IsSpared, HasRoutes}
+use Rattle.eip_run.specs.Reports.{RunsTo, IsRun, KeptBy, Comes, NoCommand, NotRead, NoRoutes, WasChecked, Stopped, Starved, LacksMemory, LacksText, Reports}
+use Rattle.eip_run.specs.Caused.{InletRose, SourceFailed, CauseOfStop, CauseOf, PatternsOf, IsUnharmed, Completes, Prints, IsFaultless, IsRefusedFor, IsHeldAt, Holds, InFile, IsOfSize, IsRight, Causes}
 use Rattle.eip_run.proofs.Runnable.{Runs}
 use Rattle.eip_run.proofs.Ending.{routes-run}
 
@@ -167,19 +172,20 @@ the-some : (o : Option ℕ) → IsSome o → (k : ℕ) × (o ≡ Some k)
 the-some None h = absurd (cc h)
 the-some (Some k) h = (k, refl)
 
-source-failed : (x : Setting) (p : Path) (limit : ℕ) (set : RouteSet) (s : Stop) (t : ℕ) → HasRoutes (asked x) (Drain p limit) set → IsRun x set limit s → first_fault x.journal.past ≡ Some t
-    → SourceFailed x t
-source-failed x p limit set s t has ran h =
-    let runs : Runs set (lane_names x.before.lanes) (inlet_names x.before.inlets) = routes-run (asked x) p limit set has in
+source-failed : (x : Setting) (k : Command) (limit : ℕ) (set : RouteSet) (s : Stop) (t : ℕ) → RunsTo k limit → HasRoutes (begun x) k set → IsRun x set limit s
+    → first_fault x.journal.past ≡ Some t → SourceFailed x t
+source-failed x k limit set s t to has ran h =
+    let runs : Runs set (names_of x.before.lanes x.before.inlets x.registry) = routes-run (begun x) k set has in
     let is : IsSource (plan_of set) t = fault-source (plan_of set) 0 limit x.journal.past ran.legal.entries t h in
-    let door = the-some (inlet_at (inlet_names x.before.inlets) (slice_get set.routes t)) (runs.can_run.has_inlets t is) in
+    let door = the-some (inlet_at (inlet_names x.before.inlets) (slice_get set.routes t)) (runs-inlets runs.can_run t is) in
     let all : length (inlet_names x.before.inlets) ≡ length x.before.inlets = length-map x.before.inlets (λ v. v.name) in
     let among : door.0 < length (inlet_names x.before.inlets) = inlet-within _ (slice_get set.routes t) door.0 door.1 in
     let within : door.0 < length x.before.inlets = rw all at among in
     record {
-      path = p;
+      command = k;
       limit = limit;
       set = set;
+      runs = to;
       routes = has;
       inlet = door.0;
       read_by = door.1;
@@ -189,28 +195,46 @@ source-failed x p limit set s t has ran h =
 
 -- ---- the cause of what a command came to
 
-stop-caused : (x : Setting) (p : Path) (limit : ℕ) (set : RouteSet) (r s : Stop) → HasRoutes (asked x) (Drain p limit) set → IsRun x set limit r
+stop-caused : (x : Setting) (k : Command) (limit : ℕ) (set : RouteSet) (r s : Stop) → RunsTo k limit → HasRoutes (begun x) k set → IsRun x set limit r
     → StopSays (plan_of set) x.journal.past limit s → CauseOfStop x limit s
-stop-caused x p limit set r stop.Drained has ran h = tt
-stop-caused x p limit set r (stop.SourceFault t) has ran h = source-failed x p limit set r t has ran h
-stop-caused x p limit set r (stop.Held groups) has ran h = record { path = p; set = set; routes = has; over = h.0; count = h.1; some = h.2 }
-stop-caused x p limit set r stop.Spent has ran h = h
-stop-caused x p limit set r stop.NoMemory has ran h = tt
+stop-caused x k limit set r stop.Drained to has ran h = tt
+stop-caused x k limit set r (stop.SourceFault t) to has ran h = source-failed x k limit set r t to has ran h
+stop-caused x k limit set r (stop.Held groups) to has ran h = record { command = k; set = set; runs = to; routes = has; over = h.0; count = h.1; some = h.2 }
+stop-caused x k limit set r stop.Spent to has ran h = h
+stop-caused x k limit set r stop.NoMemory to has ran h = tt
+
+-- the files' count rose where they failed in the write of a journal
+failed-rose : (named : Option Path) (j : JournalView) (before after : Option (List File)) (faults_before faults_after : ℕ)
+    → Keeps named j before after faults_before faults_after (Err files_fault.Failed) → Rose faults_before faults_after
+failed-rose None j before after faults_before faults_after h = absurd (let e : Err files_fault.Failed ≡ Ok tt = h.answers in cc e)
+failed-rose (Some p) j before after faults_before faults_after h = rises-rose 1 faults_before faults_after (omega arith) h.faults
+
+unkept-caused : (x : Setting) (s : Stop) → Rose x.before.materials.files_faults x.after.materials.files_faults → CauseOf x (outcome.Ran s) → CauseOf x (unkept s)
+unkept-caused x stop.Drained rose h = rose
+unkept-caused x (stop.SourceFault t) rose h = h
+unkept-caused x (stop.Held groups) rose h = h
+unkept-caused x stop.Spent rose h = h
+unkept-caused x stop.NoMemory rose h = h
 
 told-caused : (x : Setting) (told : Outcome) (text : List ℕ) → Comes x told text → CauseOf x told
 told-caused x told text (NoCommand none still calm) = none
-told-caused x told text (NotRead k command still rises calm) = rises-rose 1 _ _ (omega arith) rises
+told-caused x told text (NotRead k command names still rises calm) = rises-rose 1 _ _ (omega arith) rises
 told-caused x told text (NoRoutes k read f command still was h) =
     record { command = k; read = read; words = command; answer = was; refused = h }
 told-caused x told text (WasChecked p set has still) = (p, has.command)
-told-caused x told text (Stopped p limit set s has ran ne) = (limit, (p, has.command), by_stop ran.stops)
+told-caused x told text (Stopped k limit set s kept to has ran ne keeps wrote) = by_answer kept keeps wrote
   where
     by_stop : (s ≡ stop.NoMemory) ⊎ (stop_of (plan_of set) limit x.journal.past ≡ Some s) → CauseOfStop x limit s
     by_stop (inl e) = absurd (ne e)
-    by_stop (inr h) = stop-caused x p limit set s s has ran (stop-says (plan_of set) limit x.journal.past s h)
-told-caused x told text (Starved p limit set has ran) = (limit, (p, has.command), tt)
+    by_stop (inr h) = stop-caused x k limit set s s to has ran (stop-says (plan_of set) limit x.journal.past s h)
+
+    by_answer : (w : Result Unit FilesFault) → KeptBy x k w → w ≢ Err files_fault.NoMemory → CauseOf x (left_by s w)
+    by_answer (Ok u) h made = (limit, (k, has.command, to), by_stop ran.stops)
+    by_answer (Err files_fault.Failed) h made = unkept-caused x s (failed-rose (journal_of k) _ _ _ _ _ h) (limit, (k, has.command, to), by_stop ran.stops)
+    by_answer (Err files_fault.NoMemory) h made = absurd (made refl)
+told-caused x told text (Starved k limit set kept to has ran keeps) = (limit, (k, has.command, to), tt)
 told-caused x told text (LacksMemory still count spared) = tt
-told-caused x told text (LacksText p limit set s has ran ne) = tt
+told-caused x told text (LacksText k limit set s kept to has ran ne keeps) = tt
 
 -- the sink's fault is the cause where there was none before it
 behind-caused : (x : Setting) (told : Outcome) (w : Result Unit SinkFault) → Rises (sink_failure w) x.before.sink_faults x.after.sink_faults → CauseOf x told
@@ -246,30 +270,42 @@ starved-behind (Err fault.NoMemory) = inr refl
 
 refused-behind : (x : Setting) (told : Outcome) (text : List ℕ) (w : Result Unit SinkFault) → command_of x.words ≡ None → Comes x told text → IsRefused (behind told w)
 refused-behind x told text w none (NoCommand _ still calm) = words-behind w
-refused-behind x told text w none (NotRead k command still rises calm) = absurd (cc (none, command))
+refused-behind x told text w none (NotRead k command names still rises calm) = absurd (cc (none, command))
 refused-behind x told text w none (NoRoutes k read f command still was h) = absurd (cc (none, command))
 refused-behind x told text w none (WasChecked p set has still) = absurd (cc (none, has.command))
-refused-behind x told text w none (Stopped p limit set s has ran ne) = absurd (cc (none, has.command))
-refused-behind x told text w none (Starved p limit set has ran) = absurd (cc (none, has.command))
+refused-behind x told text w none (Stopped k limit set s kept to has ran ne keeps wrote) = absurd (cc (none, has.command))
+refused-behind x told text w none (Starved k limit set kept to has ran keeps) = absurd (cc (none, has.command))
 refused-behind x told text w none (LacksMemory still count spared) = starved-behind w
-refused-behind x told text w none (LacksText p limit set s has ran ne) = absurd (cc (none, has.command))
+refused-behind x told text w none (LacksText k limit set s kept to has ran ne keeps) = absurd (cc (none, has.command))
 
 -- ---- the patterns' count
 
-found-patterns : (x : Setting) (k : Command) (read : FileRead) (f : RouteFault) → command_of x.words ≡ Some k → WasRead (asked x) (path_in k) read
-    → Finds (sites (asked x) k read) x.before.materials.pattern_faults x.after.materials.pattern_faults f → PatternsOf x (outcome.Routes f)
+found-patterns : (x : Setting) (k : Command) (read : FileRead) (f : RouteFault) → command_of x.words ≡ Some k → WasRead (asked x) k read
+    → Finds (sites (asked x) read) x.before.materials.pattern_faults x.after.materials.pattern_faults f → PatternsOf x (outcome.Routes f)
 found-patterns x k read f command was (inl h) = inl h.1
 found-patterns x k read f command was (inr h) = inr (record { command = k; read = read; asked = command; answer = was; stops = h.0; count = h.1 })
 
+unkept-patterns : (x : Setting) (s : Stop) → x.after.materials.pattern_faults ≡ x.before.materials.pattern_faults → PatternsOf x (unkept s)
+unkept-patterns x stop.Drained h = h
+unkept-patterns x (stop.SourceFault t) h = h
+unkept-patterns x (stop.Held groups) h = h
+unkept-patterns x stop.Spent h = h
+unkept-patterns x stop.NoMemory h = h
+
+left-patterns : (x : Setting) (s : Stop) (w : Result Unit FilesFault) → x.after.materials.pattern_faults ≡ x.before.materials.pattern_faults → PatternsOf x (left_by s w)
+left-patterns x s (Ok u) h = h
+left-patterns x s (Err files_fault.Failed) h = unkept-patterns x s h
+left-patterns x s (Err files_fault.NoMemory) h = inl h
+
 told-patterns : (x : Setting) (told : Outcome) (text : List ℕ) → Comes x told text → PatternsOf x told
 told-patterns x told text (NoCommand none still calm) = calm.patterns
-told-patterns x told text (NotRead k command still rises calm) = calm
+told-patterns x told text (NotRead k command names still rises calm) = calm
 told-patterns x told text (NoRoutes k read f command still was h) = found-patterns x k read f command was h
 told-patterns x told text (WasChecked p set has still) = has.patterns
-told-patterns x told text (Stopped p limit set s has ran ne) = has.patterns
-told-patterns x told text (Starved p limit set has ran) = has.patterns
+told-patterns x told text (Stopped k limit set s kept to has ran ne keeps wrote) = left-patterns x s kept has.patterns
+told-patterns x told text (Starved k limit set kept to has ran keeps) = has.patterns
 told-patterns x told text (LacksMemory still count spared) = spared
-told-patterns x told text (LacksText p limit set s has ran ne) = inl has.patterns
+told-patterns x told text (LacksText k limit set s kept to has ran ne keeps) = inl has.patterns
 
 starved-patterns : (x : Setting) (told : Outcome) → PatternsOf x told → IsSpared (asked x)
 starved-patterns x outcome.Words h = inl h
@@ -317,45 +353,51 @@ without-faults x outcome.NoMemory h u = tt
 one-command : (x : Setting) (k l : Command) → command_of x.words ≡ Some k → command_of x.words ≡ Some l → k ≡ l
 one-command x k l a b = cc (a, b)
 
--- what was read is what is in the file
-was-held : (x : Setting) (k l : Command) (held read : FileRead) → InFile x k held → command_of x.words ≡ Some l → WasRead (asked x) (path_in l) read → (l ≡ k) × (read ≡ held)
+-- what was read of a path is what its file holds
+path-held : (p : Path) (files : Option (List File)) (held read : FileRead) → IsHeldAt p files held → IfTold files (λ all. read ≡ held_at p all) → read ≡ held
+path-held p files held read h told = subst (λ (o : Option (List File)). IfTold o (λ all. read ≡ held_at p all)) h.told told ∙ sym h.held
+
+read-held : (k : Command) (files : Option (List File)) (held read : FileRead) → Holds k files held → IsReadOf k files read → read ≡ held
+read-held (Drain p turns journal) files held read h told = path-held p files held read h told
+read-held (Check p) files held read h told = path-held p files held read h told
+read-held (Load n) files held read h told = told ∙ sym h
+
+-- so what the routes were read from is what they are read from
+was-held : (x : Setting) (k l : Command) (held read : FileRead) → InFile x k held → command_of x.words ≡ Some l → IsReadOf l x.before.materials.files read → read ≡ held
 was-held x k l held read f command was =
     let same : l ≡ k = one-command x l k command f.command in
-    let told : read ≡ read_of file_limit (bytes_at (path_in l).folder (path_in l).name f.all) =
-    subst (λ (o : Option (List File)). IfTold o (λ fs. read ≡ read_of file_limit (bytes_at (path_in l).folder (path_in l).name fs))) f.files was.answer in
-    let here : read ≡ read_of file_limit (bytes_at (path_in k).folder (path_in k).name f.all) =
-    told ∙ ap (λ (c : Command). read_of file_limit (bytes_at (path_in c).folder (path_in c).name f.all)) same in
-    (same, here ∙ sym f.held)
+    read-held k x.before.materials.files held read f.holds (subst (λ (c : Command). IsReadOf c x.before.materials.files read) same was)
 
--- so what is found in it is
-same-places : (x : Setting) (k l : Command) (held read : FileRead) → InFile x k held → command_of x.words ≡ Some l → WasRead (asked x) (path_in l) read → sites (asked x) l read ≡ sites (asked x) k held
+-- and what is found in it is
+same-places : (x : Setting) (k l : Command) (held read : FileRead) → InFile x k held → command_of x.words ≡ Some l → IsReadOf l x.before.materials.files read → sites (asked x) read ≡ sites (asked x) held
 same-places x k l held read f command was =
-    let same = was-held x k l held read f command was in
-    ap (λ (c : Command). sites (asked x) c read) same.0 ∙ ap (λ (r : FileRead). sites (asked x) k r) same.1
+    ap (λ (r : FileRead). sites (asked x) r) (was-held x k l held read f command was)
 
 -- routes with a fault aren't taken
-none-taken : (x : Setting) (k l : Command) (held : FileRead) (set : RouteSet) (g : RouteFault) → InFile x k held → sites_are.first_fault (sites (asked x) k held) ≡ Some g → HasRoutes (asked x) l set → ⊥
-none-taken x k l held set g f wrong has =
-    let same : sites (asked x) l has.read ≡ sites (asked x) k held = same-places x k l held has.read f has.command has.answer in
-    let none : None ≡ Some g = sym has.faultless ∙ ap sites_are.first_fault same ∙ wrong in
+none-taken : (x : Setting) (k l : Command) (held read : FileRead) (g : RouteFault) → InFile x k held → sites_are.first_fault (sites (asked x) held) ≡ Some g → command_of x.words ≡ Some l
+    → IsReadOf l x.before.materials.files read → sites_are.first_fault (sites (asked x) read) ≡ None → ⊥
+none-taken x k l held read g f wrong command was faultless =
+    let same : sites (asked x) read ≡ sites (asked x) held = same-places x k l held read f command was in
+    let none : None ≡ Some g = sym faultless ∙ ap sites_are.first_fault same ∙ wrong in
     cc none
 
 found-for : (at : List Site) (before after : ℕ) (f g : RouteFault) → Finds at before after g → sites_are.first_fault at ≡ Some f → (g ≡ f) ⊎ Stops at g
 found-for at before after f g (inl h) wrong = let both : Some g ≡ Some f = sym h.0 ∙ wrong in inl (cc both)
 found-for at before after f g (inr h) wrong = inr h.0
 
-told-refused : (x : Setting) (k : Command) (held : FileRead) (f : RouteFault) (told : Outcome) (text : List ℕ) → InFile x k held → sites_are.first_fault (sites (asked x) k held) ≡ Some f → Comes x told text
-    → IsRefusedFor (sites (asked x) k held) f told
+told-refused : (x : Setting) (k : Command) (held : FileRead) (f : RouteFault) (told : Outcome) (text : List ℕ) → InFile x k held → sites_are.first_fault (sites (asked x) held) ≡ Some f → Comes x told text
+    → IsRefusedFor (sites (asked x) held) f told
 told-refused x k held f told text file wrong (NoCommand none still calm) = absurd (cc (none, file.command))
-told-refused x k held f told text file wrong (NotRead l command still rises calm) = tt
+told-refused x k held f told text file wrong (NotRead l command names still rises calm) = tt
 told-refused x k held f told text file wrong (NoRoutes l read g command still was h) =
-    let same : sites (asked x) l read ≡ sites (asked x) k held = same-places x k l held read file command was in
-    found-for (sites (asked x) k held) x.before.materials.pattern_faults x.after.materials.pattern_faults f g (subst (λ (at : List Site). Finds at x.before.materials.pattern_faults x.after.materials.pattern_faults g) same h) wrong
-told-refused x k held f told text file wrong (WasChecked p set has still) = none-taken x k (Check p) held set f file wrong has
-told-refused x k held f told text file wrong (Stopped p limit set s has ran ne) = none-taken x k (Drain p limit) held set f file wrong has
-told-refused x k held f told text file wrong (Starved p limit set has ran) = none-taken x k (Drain p limit) held set f file wrong has
+    let same : sites (asked x) read ≡ sites (asked x) held = same-places x k l held read file command was.answer in
+    found-for (sites (asked x) held) x.before.materials.pattern_faults x.after.materials.pattern_faults f g (subst (λ (at : List Site). Finds at x.before.materials.pattern_faults x.after.materials.pattern_faults g) same h) wrong
+told-refused x k held f told text file wrong (WasChecked p set has still) = none-taken x k (Check p) held has.read f file wrong has.command has.answer.answer has.faultless
+told-refused x k held f told text file wrong (Stopped l limit set s kept to has ran ne keeps wrote) =
+    absurd (none-taken x k l held has.read f file wrong has.command has.answer.answer has.faultless)
+told-refused x k held f told text file wrong (Starved l limit set kept to has ran keeps) = none-taken x k l held has.read f file wrong has.command has.answer.answer has.faultless
 told-refused x k held f told text file wrong (LacksMemory still count spared) = tt
-told-refused x k held f told text file wrong (LacksText p limit set s has ran ne) = tt
+told-refused x k held f told text file wrong (LacksText l limit set s kept to has ran ne keeps) = tt
 
 behind-refused : (at : List Site) (f : RouteFault) (told : Outcome) (w : Result Unit SinkFault) → IsRefusedFor at f told → IsRefusedFor at f (behind told w)
 behind-refused at f told (Ok u) h = h
@@ -378,29 +420,33 @@ right-found at g before after right (inl h) = absurd (let both : None ≡ Some g
 right-found at g before after right (inr h) = of-size g.cause before after (right.patterns g h.0) h.1
 
 -- and routes without one are not refused
-not-refused : (x : Setting) (k : Command) (held : FileRead) (g : RouteFault) → CauseOf x (outcome.Routes g) → InFile x k held → IsRight (sites (asked x) k held)
+not-refused : (x : Setting) (k : Command) (held : FileRead) (g : RouteFault) → CauseOf x (outcome.Routes g) → InFile x k held → IsRight (sites (asked x) held)
     → IsUnharmed x → ⊥
 not-refused x k held g h file right u =
-    let same : sites (asked x) h.command h.read ≡ sites (asked x) k held = same-places x k h.command held h.read file h.words h.answer in
-    u.patterns (right-found (sites (asked x) k held) g x.before.materials.pattern_faults x.after.materials.pattern_faults right (subst (λ (at : List Site). Finds at x.before.materials.pattern_faults x.after.materials.pattern_faults g) same h.refused))
+    let same : sites (asked x) h.read ≡ sites (asked x) held = same-places x k h.command held h.read file h.words h.answer.answer in
+    u.patterns (right-found (sites (asked x) held) g x.before.materials.pattern_faults x.after.materials.pattern_faults right (subst (λ (at : List Site). Finds at x.before.materials.pattern_faults x.after.materials.pattern_faults g) same h.refused))
 
-drains : (x : Setting) (p : Path) (limit : ℕ) (held : FileRead) (o : Outcome) → CauseOf x o → InFile x (Drain p limit) held → IsRight (sites (asked x) (Drain p limit) held) → IsUnharmed x
+-- a check doesn't run
+no-run : (x : Setting) (k : Command) (p : Path) (limit : ℕ) → command_of x.words ≡ Some k → command_of x.words ≡ Some (Check p) → RunsTo k limit → ⊥
+no-run x k p limit asks checks to = subst (λ (c : Command). RunsTo c limit) (one-command x k (Check p) asks checks) to
+
+drains : (x : Setting) (k : Command) (limit : ℕ) (held : FileRead) (o : Outcome) → CauseOf x o → RunsTo k limit → InFile x k held → IsRight (sites (asked x) held) → IsUnharmed x
     → IsFaultless o → Completes o
-drains x p limit held outcome.Words h file right u f = absurd (cc (h, file.command))
-drains x p limit held (outcome.Routes g) h file right u f = absurd (not-refused x (Drain p limit) held g h file right u)
-drains x p limit held outcome.FilesFault h file right u f = f
-drains x p limit held outcome.Checked h file right u f = absurd (cc (h.1, file.command))
-drains x p limit held (outcome.Ran s) h file right u f = f
-drains x p limit held outcome.SinkFault h file right u f = f
-drains x p limit held outcome.NoMemory h file right u f = f
+drains x k limit held outcome.Words h to file right u f = absurd (cc (h, file.command))
+drains x k limit held (outcome.Routes g) h to file right u f = absurd (not-refused x k held g h file right u)
+drains x k limit held outcome.FilesFault h to file right u f = f
+drains x k limit held outcome.Checked h to file right u f = absurd (no-run x k h.0 limit file.command h.1 to)
+drains x k limit held (outcome.Ran s) h to file right u f = f
+drains x k limit held outcome.SinkFault h to file right u f = f
+drains x k limit held outcome.NoMemory h to file right u f = f
 
-prints : (x : Setting) (p : Path) (held : FileRead) (o : Outcome) → CauseOf x o → InFile x (Check p) held → IsRight (sites (asked x) (Check p) held) → IsUnharmed x
+prints : (x : Setting) (p : Path) (held : FileRead) (o : Outcome) → CauseOf x o → InFile x (Check p) held → IsRight (sites (asked x) held) → IsUnharmed x
     → IsFaultless o → Prints o
 prints x p held outcome.Words h file right u f = absurd (cc (h, file.command))
 prints x p held (outcome.Routes g) h file right u f = absurd (not-refused x (Check p) held g h file right u)
 prints x p held outcome.FilesFault h file right u f = f
 prints x p held outcome.Checked h file right u f = tt
-prints x p held (outcome.Ran s) h file right u f = absurd (cc (h.1.1, file.command))
+prints x p held (outcome.Ran s) h file right u f = absurd (no-run x h.1.0 p h.0 h.1.1 file.command h.1.2)
 prints x p held outcome.SinkFault h file right u f = f
 prints x p held outcome.NoMemory h file right u f = tt
 
@@ -416,8 +462,8 @@ causes x o r =
       no_command = λ none. subst IsRefused is (refused-behind x r.told r.text r.tells.write none r.comes);
       faultless = without-faults x o cause;
       no_routes = λ k read f file wrong.
-          subst (IsRefusedFor (sites (asked x) k read) f) is
-          (behind-refused (sites (asked x) k read) f r.told r.tells.write (told-refused x k read f r.told r.text file wrong r.comes));
-      drained = λ p limit read file right u. drains x p limit read o cause file right u (without-faults x o cause u);
+          subst (IsRefusedFor (sites (asked x) read) f) is
+          (behind-refused (sites (asked x) read) f r.told r.tells.write (told-refused x k read f r.told r.text file wrong r.comes));
+      drained = λ k limit read to file right u. drains x k limit read o cause to file right u (without-faults x o cause u);
       checked = λ p read file right u. prints x p read o cause file right u (without-faults x o cause u);
     }

@@ -2,7 +2,6 @@
 use Rattle.std.proofs.Common.{◌≡◌, ℕ, ◌≤◌, ◌++◌, List, [], Option, Some, None, Result, Ok, Err, codes, refl, sym, ap, subst, ◌∙◌, inl, inr}
 use Rattle.std.proofs.lemmas.List.{append-nil}
 use Rattle.eip_text.specs.Json.{Json, json_read}
-use Rattle.eip_run.specs.Built.{is_built}
 use Rattle.eip_route.specs.Valid.{IsValid}
 use Rattle.eip_route.specs.declared.route.Names.{Names}
 use Rattle.eip_route.specs.declared.route.RouteSet.{RouteSet}
@@ -24,30 +23,36 @@ use Rattle.eip_history.specs.Stop.{IsPlain}
 use Rattle.eip_history.proofs.ServedSteps.{served-none}
 use Rattle.eip_plan.specs.Plan.{plan_of}
 use Rattle.eip_books.specs.View.{BooksView, plan, IsLegalRun}
+use Rattle.eip_processor.specs.Registered.{RegistryView}
+use Rattle.eip_core.specs.Outside.{AreTheirs}
 use Rattle.eip_core.specs.Drain.{IsStop, Drains}
 use Rattle.eip_run.specs.declared.prepare.Refusal.{Refusal}
 use Rattle.eip_run.specs.declared.report.Outcome.{Outcome}
 use Rattle.eip_run.specs.declared.report.Outcome.TheVariants as outcome
-use Rattle.eip_command.specs.Words.{command_of, path_in, IsDrain}
-use Rattle.eip_command.proofs.Paths.{command_is}
+use Rattle.eip_command.specs.Words.{command_of, journal_of, IsDrain}
+use Rattle.eip_command.proofs.Commands.{command_is}
 use Rattle.eip_command.specs.declared.words.Path.{Path}
 use Rattle.eip_command.specs.declared.words.Command.{Command}
-use Rattle.eip_command.specs.declared.words.Command.TheVariants.{Drain, Check}
+use Rattle.eip_command.specs.declared.words.Command.TheVariants.{Drain, Check, Load}
 use Rattle.eip_run.specs.declared.prepare.Job.{Job}
 use Rattle.eip_run.specs.declared.prepare.Job.TheVariants as job
 use Rattle.eip_run.specs.declared.prepare.Refusal.TheVariants as refusal
-use Rattle.eip_endpoint.specs.Content.{IfTold}
-use Rattle.eip_endpoint.specs.Files.{bytes_at, read_of}
-use Rattle.eip_run.specs.Routes.{file_limit, unless_built, bytes_in, sites_in, set_in, sites_for, set_for}
-use Rattle.eip_run.specs.Given.{Asked, Setting, asked}
-use Rattle.eip_run.specs.Prepared.{job_of, sites, Answers, WasRead, IsSpared, HasRoutes, Prepares, NoCommand, NotRead, NoRoutes, Found, LacksMemory}
+use Rattle.eip_run.specs.Routes.{bytes_in, sites_in, set_in}
+use Rattle.eip_core.specs.Served.{names_of}
+use Rattle.eip_endpoint.specs.Files.{File}
+use Rattle.eip_endpoint.specs.declared.files.FilesFault.{FilesFault}
+use Rattle.eip_run.specs.Given.{Asked, Setting, asked, begun}
+use Rattle.eip_run.specs.Kept.{Keeps}
+use Rattle.eip_run.specs.Outcomes.{left_by}
+use Rattle.eip_run.specs.declared.print.Account.{Account}
+use Rattle.eip_run.specs.declared.print.Account.TheVariants as account
+use Rattle.eip_run.specs.Prepared.{job_of, sites, Answers, Reads, WasRead, IsSpared, HasRoutes, Prepares, NoCommand, NotRead, NoRoutes, Found, LacksMemory}
 use Rattle.eip_run.specs.Printed.{OfRefusal, OfWords, OfFiles, OfRoutes, OfNoLine, OfMemory, OfCheck, OfText, OfNone, OfRun, OfStop, OfStarved, OfNoText, TellsRefusal, TellsCheck, TellsRun}
 use Rattle.eip_run.specs.Drained.{Drained, RanTo, NotBegun}
-use Rattle.eip_run.specs.Reports.{IsStill, Ran, IsRun, Comes, Reports, NoCommand as Refused, NotRead as Failed, NoRoutes as Faulty, WasChecked, Stopped, Starved, LacksMemory as Poor, LacksText}
-use Rattle.eip_core.specs.Served.{names_of}
+use Rattle.eip_run.specs.Reports.{IsStill, Ran, IsRun, account_text, RunsTo, told_of, KeptBy, Comes, Reports, NoCommand as Refused, NotRead as Failed, NoRoutes as Faulty, WasChecked, Stopped, Starved, LacksMemory as Poor, LacksText}
 use Rattle.eip_core.proofs.Compose.{plain-behind}
 use Rattle.eip_run.proofs.Runnable.{Runs, valid-runs}
-use Rattle.eip_run.proofs.Sites.{none-front, none-behind}
+use Rattle.eip_run.proofs.Sites.{whole-faulty}
 
 none-plain : (s : Plan) → IsPlain s []
 unfolding IsPlain
@@ -60,9 +65,9 @@ pub record Begins (set : RouteSet) (limit : ℕ) (v : BooksView) : Type 0 where
   pub turns : v.journal.turns ≡ limit
   pub past : v.journal.past ≡ []
 
-pub ran-to : (set : RouteSet) (most : ℕ) (u v : BooksView) (j : JournalView) (s : Stop) (lb la : List LaneView) (ib ia : List InletView)
-    → Begins set most u → IsStop v s → IsLegalRun v → Drains u v lb la ib ia → j ≡ v.journal → Ran set most j s lb la ib ia
-ran-to set most u v j s lb la ib ia b stops legal d same =
+pub ran-to : {r : RegistryView} (set : RouteSet) (most : ℕ) (u v : BooksView) (j : JournalView) (s : Stop) (lb la : List LaneView) (ib ia : List InletView)
+    → Begins set most u → IsStop v s → IsLegalRun v → Drains u v lb la ib ia r → j ≡ v.journal → Ran set most j s lb la ib ia r
+ran-to {r} set most u v j s lb la ib ia b stops legal d same =
     let plans : plan u ≡ plan_of set = ap plan_of b.of_set in
     let over : plan v ≡ plan_of set = ap plan_of d.same.set ∙ plans in
     let limit : v.journal.turns ≡ most = d.same.turns ∙ b.turns in
@@ -80,71 +85,107 @@ ran-to set most u v j s lb la ib ia b stops legal d same =
       stops = rw (here, ← over, ← limit) stops;
       lanes = rw (all, ← b.of_set) d.lanes;
       inlets = rw (all, here, past, ← b.of_set) d.inlets;
+      theirs = subst (λ (vs : List Served). AreTheirs r vs) (sym all) d.theirs;
     }
 
-pub told-along : {set other : RouteSet} {past behind : Past} {s : Stop} {before after : Option (List ℕ)} {faults_before faults_after : ℕ} {o : Outcome} → set ≡ other → past ≡ behind
-    → TellsRun set past s before after faults_before faults_after o → TellsRun other behind s before after faults_before faults_after o
-told-along {set} {other} {past} {behind} {s} {before} {after} {faults_before} {faults_after} {o} e f t =
-    subst (λ (x : RouteSet). TellsRun x behind s before after faults_before faults_after o) e
-    (subst (λ (p : Past). TellsRun set p s before after faults_before faults_after o) f t)
+pub kept-along : (named : Option Path) (j i : JournalView) (before after : Option (List File)) (faults_before faults_after : ℕ) (answer : Result Unit FilesFault) → j ≡ i
+    → Keeps named j before after faults_before faults_after answer → Keeps named i before after faults_before faults_after answer
+kept-along named j i before after faults_before faults_after answer e h =
+    subst (λ (x : JournalView). Keeps named x before after faults_before faults_after answer) e h
+
+pub told-along : {account : Account} {set other : RouteSet} {past behind : Past} {s : Stop} {kept : Result Unit FilesFault} {before after : Option (List ℕ)} {faults_before faults_after : ℕ} {o : Outcome} → set ≡ other → past ≡ behind
+    → TellsRun account set past s kept before after faults_before faults_after o → TellsRun account other behind s kept before after faults_before faults_after o
+told-along {account} {set} {other} {past} {behind} {s} {kept} {before} {after} {faults_before} {faults_after} {o} e f t =
+    subst (λ (x : RouteSet). TellsRun account x behind s kept before after faults_before faults_after o) e
+    (subst (λ (p : Past). TellsRun account set p s kept before after faults_before faults_after o) f t)
 
 -- ---- what was prepared
 
--- reading the file of a path
-pub read-at : (x : Asked) (p q : Path) (read : FileRead) → q ≡ p → IfTold x.before.files (λ all. read ≡ read_of file_limit (bytes_at q.folder q.name all))
-    → x.after.files_faults ≡ x.before.files_faults → WasRead x p read
-read-at x p q read same told count =
-    record { answer = subst (λ (r : Path). IfTold x.before.files (λ all. read ≡ read_of file_limit (bytes_at r.folder r.name all))) same told; count = count }
+-- the routes of a command were read
+pub was-read : (x : Asked) (k : Command) (read : FileRead) → Reads k x.before.files x.before.files_faults x.after.files_faults (Ok read) → WasRead x k read
+was-read x k read h = record { answer = h.0; count = h.1 }
+
+-- they were not
+pub prepared-unread : (x : Asked) (k : Command) (r : Refusal) → command_of x.words ≡ Some k → x.after.pattern_faults ≡ x.before.pattern_faults
+    → Reads k x.before.files x.before.files_faults x.after.files_faults (Err r) → Prepares x (Err r)
+prepared-unread x k refusal.FilesFault command calm h = NotRead k command h.0 h.1 calm
+prepared-unread x k refusal.NoMemory command calm h = LacksMemory h (inl calm)
+prepared-unread x k refusal.Words command calm h = absurd h
+prepared-unread x k (refusal.Routes f) command calm h = absurd h
 
 -- no memory for the reading of its routes
-spared : (x : Asked) (k : Command) (read : FileRead) → command_of x.words ≡ Some k → WasRead x (path_in k) read
-    → Starves (sites x k read) x.before.pattern_faults x.after.pattern_faults → IsSpared x
+spared : (x : Asked) (k : Command) (read : FileRead) → command_of x.words ≡ Some k → WasRead x k read
+    → Starves (sites x read) x.before.pattern_faults x.after.pattern_faults → IsSpared x
 spared x k read command was (inl h) = inl h
 spared x k read command was (inr (f, stops, count)) = inr (f, record { command = k; read = read; asked = command; answer = was; stops = stops; count = count })
 
+-- nothing is taken
+without : (x : Asked) (k : Command) (read : FileRead) (r : Refusal) → command_of x.words ≡ Some k → WasRead x k read
+    → Answers (sites x read) (set_in x.names read) x.before.pattern_faults x.after.pattern_faults (Err r) → Prepares x (Err r)
+without x k read (refusal.Routes f) command was h = NoRoutes k read f command was h
+without x k read refusal.NoMemory command was h = LacksMemory was.count (spared x k read command was h)
+without x k read refusal.Words command was h = absurd h
+without x k read refusal.FilesFault command was h = absurd h
+
 -- nothing to do
-pub prepared-none : (x : Asked) (k : Command) (read : FileRead) (r : Refusal) → command_of x.words ≡ Some k → WasRead x (path_in k) read
-    → Answers (sites x k read) (set_for x.lanes x.inlets read) x.before.pattern_faults x.after.pattern_faults (Err r) → Prepares x (Err r)
-prepared-none x k read (refusal.Routes f) command was h = NoRoutes k read f command was h
-prepared-none x k read refusal.NoMemory command was h = LacksMemory was.count (spared x k read command was h)
-prepared-none x k read refusal.Words command was h = absurd h
-prepared-none x k read refusal.FilesFault command was h = absurd h
+pub prepared-none : (x : Asked) (k : Command) (read : FileRead) (names : Names) (r : Refusal) → names ≡ x.names → command_of x.words ≡ Some k → WasRead x k read
+    → Answers (sites_in names read) (set_in names read) x.before.pattern_faults x.after.pattern_faults (Err r) → Prepares x (Err r)
+prepared-none x k read names r same command was h =
+    without x k read r command was
+    (subst (λ (n : Names). Answers (sites_in n read) (set_in n read) x.before.pattern_faults x.after.pattern_faults (Err r)) same h)
 
 -- something to do
-pub prepared-job : (x : Asked) (k : Command) (read : FileRead) (set : RouteSet) (j : Job) → command_of x.words ≡ Some k → WasRead x (path_in k) read
-    → Answers (sites x k read) (set_for x.lanes x.inlets read) x.before.pattern_faults x.after.pattern_faults (Ok set) → j ≡ job_of k set → Prepares x (Ok j)
-prepared-job x k read set j command was h made =
+pub prepared-job : (x : Asked) (k : Command) (read : FileRead) (names : Names) (set : RouteSet) (j : Job) → names ≡ x.names → command_of x.words ≡ Some k
+    → WasRead x k read → Answers (sites_in names read) (set_in names read) x.before.pattern_faults x.after.pattern_faults (Ok set) → j ≡ job_of k set
+    → Prepares x (Ok j)
+prepared-job x k read names set j same command was h made =
+    let here : Answers (sites_in x.names read) (set_in x.names read) x.before.pattern_faults x.after.pattern_faults (Ok set) =
+    subst (λ (n : Names). Answers (sites_in n read) (set_in n read) x.before.pattern_faults x.after.pattern_faults (Ok set)) same h in
     subst (λ (i : Job). Prepares x (Ok i)) (sym made)
-    (Found k set (record { read = read; command = command; answer = was; patterns = h.2; faultless = h.0; routes = h.1 }))
+    (Found k set (record { read = read; command = command; answer = was; patterns = here.2; faultless = here.0; routes = here.1 }))
 
 -- ---- what a command comes to
 
 -- a drain of these routes
-has-drain : (x : Asked) (r : Result Job Refusal) (set : RouteSet) (limit : ℕ) → Prepares x r → r ≡ Ok (job.Drain set limit) → (p : Path) × HasRoutes x (Drain p limit) set
-has-drain x r set limit (NoCommand none calm) e = absurd (cc e)
-has-drain x r set limit (NotRead k command rises calm) e = absurd (cc e)
-has-drain x r set limit (NoRoutes k read f command was h) e = absurd (cc e)
-has-drain x r set limit (Found (Drain p turns) s has) e =
+has-drain : (x : Asked) (r : Result Job Refusal) (set : RouteSet) (limit : ℕ) (named : Option Path) → Prepares x r → r ≡ Ok (job.Drain set limit named)
+    → (p : Path) × HasRoutes x (Drain p limit named) set
+has-drain x r set limit named (NoCommand none calm) e = absurd (cc e)
+has-drain x r set limit named (NotRead k command names rises calm) e = absurd (cc e)
+has-drain x r set limit named (NoRoutes k read f command was h) e = absurd (cc e)
+has-drain x r set limit named (Found (Drain p turns journal) s has) e =
     let same : s ≡ set = cc e in
     let most : turns ≡ limit = cc e in
-    (p, subst (HasRoutes x (Drain p limit)) same (subst (λ (n : ℕ). HasRoutes x (Drain p n) s) most has))
-has-drain x r set limit (Found (Check p) s has) e = absurd (cc e)
-has-drain x r set limit (LacksMemory count calm) e = absurd (cc e)
+    let file : journal ≡ named = cc e in
+    (p, subst (HasRoutes x (Drain p limit named)) same (subst (λ (n : ℕ). HasRoutes x (Drain p n named) s) most (subst (λ (f : Option Path). HasRoutes x (Drain p turns f) s) file has)))
+has-drain x r set limit named (Found (Check p) s has) e = absurd (cc e)
+has-drain x r set limit named (Found (Load n) s has) e = absurd (cc e)
+has-drain x r set limit named (LacksMemory count calm) e = absurd (cc e)
 
 -- a check of these routes
 has-check : (x : Asked) (r : Result Job Refusal) (set : RouteSet) → Prepares x r → r ≡ Ok (job.Check set) → (p : Path) × HasRoutes x (Check p) set
 has-check x r set (NoCommand none calm) e = absurd (cc e)
-has-check x r set (NotRead k command rises calm) e = absurd (cc e)
+has-check x r set (NotRead k command names rises calm) e = absurd (cc e)
 has-check x r set (NoRoutes k read f command was h) e = absurd (cc e)
 has-check x r set (Found (Check p) s has) e = let same : s ≡ set = cc e in (p, subst (HasRoutes x (Check p)) same has)
-has-check x r set (Found (Drain p turns) s has) e = absurd (cc e)
+has-check x r set (Found (Drain p turns journal) s has) e = absurd (cc e)
+has-check x r set (Found (Load n) s has) e = absurd (cc e)
 has-check x r set (LacksMemory count calm) e = absurd (cc e)
+
+-- a load of these routes
+has-load : (x : Asked) (r : Result Job Refusal) (set : RouteSet) → Prepares x r → r ≡ Ok (job.Load set) → (n : ℕ) × HasRoutes x (Load n) set
+has-load x r set (NoCommand none calm) e = absurd (cc e)
+has-load x r set (NotRead k command names rises calm) e = absurd (cc e)
+has-load x r set (NoRoutes k read f command was h) e = absurd (cc e)
+has-load x r set (Found (Load n) s has) e = let same : s ≡ set = cc e in (n, subst (HasRoutes x (Load n)) same has)
+has-load x r set (Found (Drain p turns journal) s has) e = absurd (cc e)
+has-load x r set (Found (Check p) s has) e = absurd (cc e)
+has-load x r set (LacksMemory count calm) e = absurd (cc e)
 
 -- a file in which nothing is wrong gives a valid set, with the names that were handed in
 file-valid : (n : Names) (read : FileRead) → first_fault (sites_in n read) ≡ None → IsValid (set_in n read)
 file-valid n (Bytes bytes) h = read_valid n bytes h
-file-valid n Missing h = absurd (none-behind [] cause.NoFile h)
-file-valid n TooLong h = absurd (none-behind [] cause.TooLong h)
+file-valid n Missing h = absurd (whole-faulty cause.NoFile h)
+file-valid n TooLong h = absurd (whole-faulty cause.TooLong h)
 
 file-names : (n : Names) (read : FileRead) → (set_in n read).names ≡ n
 unfolding set_of
@@ -154,45 +195,97 @@ file-names n read = by_tree (json_read (bytes_in read))
     by_tree None = refl
     by_tree (Some t) = refl
 
-drain-runs : (ls is : List (List ℕ)) (p : Path) (limit : ℕ) (read : FileRead) → first_fault (sites_for (Drain p limit) ls is read) ≡ None → Runs (set_in (names_of ls is) read) ls is
-drain-runs ls is p limit read h =
-    let n = names_of ls is in
-    let set = set_in n read in
-    valid-runs n set (file-valid n read (none-front (sites_in n read) (unless_built (is_built set)) h)) (file-names n read)
+drain-runs : (n : Names) (read : FileRead) → first_fault (sites_in n read) ≡ None → Runs (set_in n read) n
+drain-runs n read h = valid-runs n (set_in n read) (file-valid n read h) (file-names n read)
 
--- routes that are drained can be run
-pub routes-run : (x : Asked) (p : Path) (limit : ℕ) (set : RouteSet) → HasRoutes x (Drain p limit) set → Runs set x.lanes x.inlets
-routes-run x p limit set has = subst (λ (y : RouteSet). Runs y x.lanes x.inlets) (sym has.routes) (drain-runs x.lanes x.inlets p limit has.read has.faultless)
+-- routes in which nothing is wrong can be run
+pub routes-run : (x : Asked) (k : Command) (set : RouteSet) → HasRoutes x k set → Runs set x.names
+routes-run x k set has = subst (λ (y : RouteSet). Runs y x.names) (sym has.routes) (drain-runs x.names has.read has.faultless)
 
-pub prepared-runs : (x : Asked) (r : Result Job Refusal) (set : RouteSet) (limit : ℕ) → Prepares x r → r ≡ Ok (job.Drain set limit) → Runs set x.lanes x.inlets
-prepared-runs x r set limit prepares e = let has = has-drain x r set limit prepares e in routes-run x has.0 limit set has.1
+pub prepared-runs : (x : Asked) (r : Result Job Refusal) (set : RouteSet) (limit : ℕ) (named : Option Path) → Prepares x r → r ≡ Ok (job.Drain set limit named) → Runs set x.names
+prepared-runs x r set limit named prepares e = let has = has-drain x r set limit named prepares e in routes-run x (Drain has.0 limit named) set has.1
+
+pub loaded-runs : (x : Asked) (r : Result Job Refusal) (set : RouteSet) → Prepares x r → r ≡ Ok (job.Load set) → Runs set x.names
+loaded-runs x r set prepares e = let has = has-load x r set prepares e in routes-run x (Load has.0) set has.1
 
 -- its limit is one that a run may have
-pub prepared-limit : (x : Asked) (r : Result Job Refusal) (set : RouteSet) (limit : ℕ) → Prepares x r → r ≡ Ok (job.Drain set limit) → (1 ≤ limit) × (limit ≤ 1000000)
-prepared-limit x r set limit prepares e =
-    let has = has-drain x r set limit prepares e in
-    let said : IsDrain x.words has.0 limit = command_is x.words (Drain has.0 limit) has.1.command in
+pub prepared-limit : (x : Asked) (r : Result Job Refusal) (set : RouteSet) (limit : ℕ) (named : Option Path) → Prepares x r → r ≡ Ok (job.Drain set limit named)
+    → (1 ≤ limit) × (limit ≤ 1000000)
+prepared-limit x r set limit named prepares e =
+    let has = has-drain x r set limit named prepares e in
+    let said : IsDrain x.words has.0 limit named = command_is x.words (Drain has.0 limit named) has.1.command in
     (said.some, said.most)
 
-comes-ran : (x : Setting) (p : Path) (limit : ℕ) (set : RouteSet) (s : Stop) (told : Outcome) (text : List ℕ) → HasRoutes (asked x) (Drain p limit) set → IsRun x set limit s
-    → OfRun set x.journal.past s told text → Comes x told text
-comes-ran x p limit set s told text has ran (OfStop _ ne) = Stopped p limit set s has ran ne
-comes-ran x p limit set s told text has ran OfStarved = Starved p limit set has ran
-comes-ran x p limit set s told text has ran (OfNoText _ ne) = LacksText p limit set s has ran ne
+-- ---- what a run comes to
 
-pub reports-drained : (x : Setting) (r : Result Job Refusal) (set : RouteSet) (limit : ℕ) {o : Outcome} → Prepares (asked x) r → r ≡ Ok (job.Drain set limit)
-    → Drained set limit x.journal x.before.lanes x.after.lanes x.before.inlets x.after.inlets x.before.written x.after.written x.before.sink_faults x.after.sink_faults o → Reports x o
-reports-drained x r set limit prepares e (RanTo s o ran tells) =
-    let has = has-drain (asked x) r set limit prepares e in
-    record { told = tells.told; text = tells.text; comes = comes-ran x has.0 limit set s tells.told tells.text has.1 ran tells.of; tells = tells.tells }
-reports-drained x r set limit prepares e (NotBegun o new lanes inlets told) =
-    let has = has-drain (asked x) r set limit prepares e in
+-- what was found out of a command until its routes were read, with the files and their count as they were then
+abbrev pub read_to : Setting → Option (List File) → ℕ → Asked
+read_to x files count = record {
+  words = x.words;
+  before = x.before.materials;
+  after = record { files = files; files_faults = count; pattern_faults = x.after.materials.pattern_faults };
+  names = names_of x.before.lanes x.before.inlets x.registry;
+}
+
+-- the routes were there when the run began
+at-begin : (x : Setting) (files : Option (List File)) (count : ℕ) (k : Command) (set : RouteSet) → HasRoutes (read_to x files count) k set → HasRoutes (begun x) k set
+at-begin x files count k set has = record {
+  read = has.read;
+  command = has.command;
+  answer = record { answer = has.answer.answer; count = refl };
+  patterns = has.patterns;
+  faultless = has.faultless;
+  routes = has.routes;
+}
+
+-- the account is the one that the command gives of its run
+abbrev Gives : Command → Account → Type 0
+Gives k account = (set : RouteSet) (past : Past) (s : Stop) → account_text account set past s ≡ told_of k set past s
+
+comes-ran : (x : Setting) (k : Command) (account : Account) (limit : ℕ) (set : RouteSet) (s : Stop) (kept : Result Unit FilesFault) (told : Outcome) (text : List ℕ) → Gives k account
+    → RunsTo k limit → HasRoutes (begun x) k set → IsRun x set limit s → KeptBy x k kept → OfRun account set x.journal.past kept s told text → Comes x told text
+comes-ran x k account limit set s kept told text gives to has ran keeps (OfStop _ ne wrote) =
+    subst (Comes x (left_by s kept)) (sym (gives set x.journal.past s)) (Stopped k limit set s kept to has ran ne keeps wrote)
+comes-ran x k account limit set s kept told text gives to has ran keeps OfStarved = Starved k limit set kept to has ran keeps
+comes-ran x k account limit set s kept told text gives to has ran keeps (OfNoText _ ne) = LacksText k limit set s kept to has ran ne keeps
+
+-- a run of these routes by a command, of which this account was given, where the files and their count were these when it began
+abbrev WasDrained : Setting → Account → Option Path → RouteSet → (limit : ℕ) → Option (List File) → ℕ → Outcome → Type 0
+WasDrained x account named set limit files count o =
+    Drained account named set limit x.journal files x.after.materials.files count x.after.materials.files_faults x.before.lanes x.after.lanes x.before.inlets x.after.inlets x.registry
+    x.before.written x.after.written x.before.sink_faults x.after.sink_faults o
+
+reports-run : (x : Setting) (k : Command) (account : Account) (set : RouteSet) (limit : ℕ) (files : Option (List File)) (count : ℕ) {o : Outcome} → Gives k account → RunsTo k limit
+    → HasRoutes (read_to x files count) k set → files ≡ x.before.materials.files → WasDrained x account (journal_of k) set limit files count o → Reports x o
+reports-run x k account set limit files count gives to has same (RanTo s kept o ran keeps tells) =
+    let began : KeptBy x k kept =
+    subst (λ (f : Option (List File)). Keeps (journal_of k) x.journal f x.after.materials.files x.before.materials.files_faults x.after.materials.files_faults kept) same
+    (subst (λ (n : ℕ). Keeps (journal_of k) x.journal files x.after.materials.files n x.after.materials.files_faults kept) has.answer.count keeps) in
     record {
-      told = outcome.NoMemory;
-      text = codes "error memory\n";
-      comes = Poor (record { lanes = lanes; inlets = inlets; journal = new }) has.1.answer.count (inl has.1.patterns);
-      tells = told;
+      told = tells.told;
+      text = tells.text;
+      comes = comes-ran x k account limit set s kept tells.told tells.text gives to (at-begin x files count k set has) ran began tells.of;
+      tells = tells.tells;
     }
+reports-run x k account set limit files count gives to has same (NotBegun o new unchanged counted lanes inlets told) = record {
+  told = outcome.NoMemory;
+  text = codes "error memory\n";
+  comes = Poor (record { files = unchanged ∙ same; lanes = lanes; inlets = inlets; journal = new }) (counted ∙ has.answer.count) (inl has.patterns);
+  tells = told;
+}
+
+pub reports-drained : (x : Setting) (r : Result Job Refusal) (set : RouteSet) (limit : ℕ) (named : Option Path) (files : Option (List File)) (count : ℕ) {o : Outcome}
+    → Prepares (read_to x files count) r → r ≡ Ok (job.Drain set limit named) → files ≡ x.before.materials.files
+    → WasDrained x account.Whole named set limit files count o → Reports x o
+reports-drained x r set limit named files count prepares e same drained =
+    let has = has-drain (read_to x files count) r set limit named prepares e in
+    reports-run x (Drain has.0 limit named) account.Whole set limit files count (λ _ _ _. refl) refl has.1 same drained
+
+pub reports-loaded : (x : Setting) (r : Result Job Refusal) (set : RouteSet) (files : Option (List File)) (count : ℕ) {o : Outcome} → Prepares (read_to x files count) r
+    → r ≡ Ok (job.Load set) → files ≡ x.before.materials.files → WasDrained x account.Summary None set 1000000 files count o → Reports x o
+reports-loaded x r set files count prepares e same drained =
+    let has = has-load (read_to x files count) r set prepares e in
+    reports-run x (Load has.0) account.Summary set 1000000 files count (λ _ _ _. refl) refl has.1 same drained
 
 comes-checked : (x : Setting) (p : Path) (set : RouteSet) (told : Outcome) (text : List ℕ) → HasRoutes (asked x) (Check p) set → IsStill x → OfCheck set told text → Comes x told text
 comes-checked x p set told text has still OfText = WasChecked p set has still
@@ -205,14 +298,14 @@ reports-checked x r set prepares e still tells =
     record { told = tells.told; text = tells.text; comes = comes-checked x has.0 set tells.told tells.text has.1 still tells.of; tells = tells.tells }
 
 -- no memory for the line of a fault
-untold-spared : (x : Asked) (k : Command) (read : FileRead) (f : RouteFault) → command_of x.words ≡ Some k → WasRead x (path_in k) read
-    → Finds (sites x k read) x.before.pattern_faults x.after.pattern_faults f → IsSpared x
+untold-spared : (x : Asked) (k : Command) (read : FileRead) (f : RouteFault) → command_of x.words ≡ Some k → WasRead x k read
+    → Finds (sites x read) x.before.pattern_faults x.after.pattern_faults f → IsSpared x
 untold-spared x k read f command was (inl h) = inl h.1
 untold-spared x k read f command was (inr h) = inr (f, record { command = k; read = read; asked = command; answer = was; stops = h.0; count = h.1 })
 
 comes-refused : (x : Setting) (r : Refusal) (told : Outcome) (text : List ℕ) → IsStill x → Prepares (asked x) (Err r) → OfRefusal r told text → Comes x told text
 comes-refused x r told text still (NoCommand none calm) OfWords = Refused none still calm
-comes-refused x r told text still (NotRead k command rises calm) OfFiles = Failed k command still rises calm
+comes-refused x r told text still (NotRead k command names rises calm) OfFiles = Failed k command names still rises calm
 comes-refused x r told text still (NoRoutes k read f command was h) (OfRoutes _) = Faulty k read f command still was h
 comes-refused x r told text still (NoRoutes k read f command was h) (OfNoLine _) = Poor still was.count (untold-spared (asked x) k read f command was h)
 comes-refused x r told text still (LacksMemory count calm) OfMemory = Poor still count calm

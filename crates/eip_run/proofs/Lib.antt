@@ -3,3 +3,4 @@ pub mod Sites
 pub mod Telling
 pub mod Ending
 pub mod Causes
+pub mod Leaving

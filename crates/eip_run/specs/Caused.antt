@@ -1,5 +1,5 @@
 -- Which cause each outcome of a command has, and which outcomes are left where nothing that was handed in failed.
-use Rattle.std.specs.Prelude.{ℕ, ◌≡◌, ◌≤◌, ◌⊎◌, true, List, length, Some, None, slice_get}
+use Rattle.std.specs.Prelude.{ℕ, ◌≡◌, ◌≤◌, ◌⊎◌, true, List, length, Option, Some, None, slice_get}
 use Rattle.eip_text.specs.Causes.{Rose}
 use Rattle.eip_route.specs.declared.route.RouteSet.{RouteSet}
 use Rattle.eip_route_faults.specs.Sites.{Site, first_fault, Stops}
@@ -7,27 +7,31 @@ use Rattle.eip_route_json.specs.Reading.{Finds}
 use Rattle.eip_route_grammar.specs.declared.fault.Cause.{Cause}
 use Rattle.eip_route_grammar.specs.declared.fault.Cause.TheVariants as cause
 use Rattle.eip_route_grammar.specs.declared.fault.RouteFault.{RouteFault}
-use Rattle.eip_command.specs.Words.{command_of, path_in}
+use Rattle.eip_load.specs.Routes.{load_text}
+use Rattle.eip_command.specs.Words.{command_of}
 use Rattle.eip_command.specs.declared.words.Path.{Path}
 use Rattle.eip_command.specs.declared.words.Command.{Command}
-use Rattle.eip_command.specs.declared.words.Command.TheVariants.{Drain, Check}
-use Rattle.eip_endpoint.specs.Files.{File, bytes_at, read_of}
+use Rattle.eip_command.specs.declared.words.Command.TheVariants.{Drain, Check, Load}
+use Rattle.eip_endpoint.specs.Files.{File}
 use Rattle.eip_endpoint.specs.declared.files.FileRead.{FileRead}
+use Rattle.eip_endpoint.specs.declared.files.FileRead.TheVariants.{Bytes}
 use Rattle.eip_endpoint.specs.Inlets.{InletView, inlet_names}
 use Rattle.eip_ledger.specs.declared.place.Stop.{Stop}
 use Rattle.eip_ledger.specs.declared.place.Stop.TheVariants as stop
 use Rattle.eip_history.specs.Own.{turns}
 use Rattle.eip_history.specs.Stop.{is_over, open_groups}
 use Rattle.eip_plan.specs.Plan.{plan_of}
+use Rattle.eip_processor.specs.Registered.{RegistryView}
 use Rattle.eip_core.specs.Doors.{inlet_at}
 use Rattle.eip_run.specs.declared.report.Outcome.{Outcome}
 use Rattle.eip_run.specs.declared.report.Outcome.TheVariants as outcome
 use Rattle.eip_run.specs.declared.report.Report.{Report}
-use Rattle.eip_run.specs.Routes.{file_limit}
-use Rattle.eip_run.specs.Given.{Outside, Setting, asked}
-use Rattle.eip_run.specs.Prepared.{sites, WasRead, PatternRefused, IsSpared, HasRoutes}
+use Rattle.eip_run.specs.Given.{Outside, Setting, asked, begun}
+use Rattle.eip_run.specs.Prepared.{sites, held_at, WasRead, PatternRefused, IsSpared, HasRoutes}
 use Rattle.eip_run.specs.Outcomes.{status_of}
-use Rattle.eip_run.specs.Reports.{Reports}
+use Rattle.eip_run.specs.Kept.{journal_named}
+use Rattle.eip_run.specs.Left.{LeavesFiles}
+use Rattle.eip_run.specs.Reports.{RunsTo, Reports}
 
 -- the count of faults of the inlet with this index rose
 pub record InletRose (before after : List InletView) (inlet : ℕ) : Type 0 where
@@ -39,25 +43,26 @@ pub record InletRose (before after : List InletView) (inlet : ℕ) : Type 0 wher
 
 -- the inlet of a route's source failed: its count of faults rose
 pub record SourceFailed (x : Setting) (route : ℕ) : Type 0 where
-  pub path : Path
+  pub command : Command
   pub limit : ℕ
   pub set : RouteSet
-  pub routes : HasRoutes (asked x) (Drain path limit) set
+  pub runs : RunsTo command limit
+  pub routes : HasRoutes (begun x) command set
   pub inlet : ℕ
   pub read_by : inlet_at (inlet_names x.before.inlets) (slice_get set.routes route) ≡ Some inlet
   pub failed : InletRose x.before.inlets x.after.inlets inlet
 
--- the file that the words name was read, and this is its first fault, or that of a refused pattern before it
+-- the routes that the words ask for were read, and this is their first fault, or that of a refused pattern before it
 pub record IsFaulty (x : Setting) (f : RouteFault) : Type 0 where
   pub command : Command
   pub read : FileRead
   pub words : command_of x.words ≡ Some command
-  pub answer : WasRead (asked x) (path_in command) read
-  pub refused : Finds (sites (asked x) command read) x.before.materials.pattern_faults x.after.materials.pattern_faults f
+  pub answer : WasRead (asked x) command read
+  pub refused : Finds (sites (asked x) read) x.before.materials.pattern_faults x.after.materials.pattern_faults f
 
--- the words ask for a drain of at most so many turns
-abbrev pub IsDrain : Setting → (limit : ℕ) → Type 0
-IsDrain x limit = (path : Path) × (command_of x.words ≡ Some (Drain path limit))
+-- the words ask for a run of at most so many turns
+abbrev pub AsksRun : Setting → (limit : ℕ) → Type 0
+AsksRun x limit = (k : Command) × (command_of x.words ≡ Some k) × RunsTo k limit
 
 -- the words ask for a check
 abbrev pub IsCheck : Setting → Type 0
@@ -65,9 +70,10 @@ IsCheck x = (path : Path) × (command_of x.words ≡ Some (Check path))
 
 -- nothing waits any more, and so many groups are open that nothing will close
 pub record IsHeld (x : Setting) (limit groups : ℕ) : Type 0 where
-  pub path : Path
+  pub command : Command
   pub set : RouteSet
-  pub routes : HasRoutes (asked x) (Drain path limit) set
+  pub runs : RunsTo command limit
+  pub routes : HasRoutes (begun x) command set
   pub over : is_over (plan_of set) x.journal.past ≡ true
   pub count : groups ≡ length (open_groups (plan_of set) x.journal.past)
   pub some : 1 ≤ groups
@@ -86,7 +92,7 @@ CauseOf x outcome.Words = command_of x.words ≡ None
 CauseOf x (outcome.Routes f) = IsFaulty x f
 CauseOf x outcome.FilesFault = Rose x.before.materials.files_faults x.after.materials.files_faults
 CauseOf x outcome.Checked = IsCheck x
-CauseOf x (outcome.Ran s) = (limit : ℕ) × IsDrain x limit × CauseOfStop x limit s
+CauseOf x (outcome.Ran s) = (limit : ℕ) × AsksRun x limit × CauseOfStop x limit s
 CauseOf x outcome.SinkFault = Rose x.before.sink_faults x.after.sink_faults
 CauseOf x outcome.NoMemory = Unit {0}
 
@@ -133,12 +139,22 @@ IsRefusedFor at f outcome.FilesFault = Unit {0}
 IsRefusedFor at f outcome.NoMemory = Unit {0}
 IsRefusedFor at f _ = ⊥
 
--- the words are a command, and this is what its file holds among these files
-pub record InFile (x : Setting) (k : Command) (read : FileRead) : Type 0 where
+-- the files are told, and this is what the file of a path holds among them
+pub record IsHeldAt (p : Path) (files : Option (List File)) (read : FileRead) : Type 0 where
   pub all : List File
+  pub told : files ≡ Some all
+  pub held : read ≡ held_at p all
+
+-- this is what the routes of a command are read from: what the file that it names holds, or the built-in routes of a load
+abbrev pub Holds : Command → Option (List File) → FileRead → Type 0
+Holds (Drain p turns journal) files read = IsHeldAt p files read
+Holds (Check p) files read = IsHeldAt p files read
+Holds (Load n) files read = read ≡ Bytes (load_text n)
+
+-- the words are a command, and this is what its routes are read from
+pub record InFile (x : Setting) (k : Command) (read : FileRead) : Type 0 where
   pub command : command_of x.words ≡ Some k
-  pub files : x.before.materials.files ≡ Some all
-  pub held : read ≡ read_of file_limit (bytes_at (path_in k).folder (path_in k).name all)
+  pub holds : Holds k x.before.materials.files read
 
 -- each refused pattern is one that is too large
 abbrev pub IsOfSize : Cause → Type 0
@@ -152,22 +168,23 @@ pub record IsRight (at : List Site) : Type 0 where
 
 -- an outcome has its cause, and the patterns' count rose only where a pattern of the file was refused. Words that are no command are refused, unless
 -- memory is wanting, and routes with a fault are refused, unless memory is wanting or the files fail. Where no count of faults rose, the outcome is no
--- fault of the files, a source or the sink; a drain whose file is right runs its routes until nothing waits, or turns or memory are too few; and a
--- check whose file is right prints them, or memory is wanting
+-- fault of the files, a source or the sink; a command that runs its routes, and whose routes are right, runs them until nothing waits, or turns or memory
+-- are too few; and a check whose file is right prints them, or memory is wanting
 pub record Causes (x : Setting) (o : Outcome) : Type 0 where
   pub cause : CauseOf x o
   pub patterns : PatternsOf x o
   pub no_command : command_of x.words ≡ None → (o ≡ outcome.Words) ⊎ (o ≡ outcome.NoMemory)
-  pub no_routes : (k : Command) (read : FileRead) (f : RouteFault) → InFile x k read → first_fault (sites (asked x) k read) ≡ Some f
-      → IsRefusedFor (sites (asked x) k read) f o
+  pub no_routes : (k : Command) (read : FileRead) (f : RouteFault) → InFile x k read → first_fault (sites (asked x) read) ≡ Some f
+      → IsRefusedFor (sites (asked x) read) f o
   pub faultless : IsUnharmed x → IsFaultless o
-  pub drained : (p : Path) (limit : ℕ) (read : FileRead) → InFile x (Drain p limit) read → IsRight (sites (asked x) (Drain p limit) read)
+  pub drained : (k : Command) (limit : ℕ) (read : FileRead) → RunsTo k limit → InFile x k read → IsRight (sites (asked x) read)
       → IsUnharmed x → Completes o
-  pub checked : (p : Path) (read : FileRead) → InFile x (Check p) read → IsRight (sites (asked x) (Check p) read) → IsUnharmed x → Prints o
+  pub checked : (p : Path) (read : FileRead) → InFile x (Check p) read → IsRight (sites (asked x) read) → IsUnharmed x → Prints o
 
--- the report of a command: what it came to, with its text written, from its cause, with its status. The files are as before
-pub record IsReport (words : List (List ℕ)) (before after : Outside) (r : Report) : Type 0 where
-  pub reports : Reports (record { words = words; before = before; after = after; journal = r.journal }) r.outcome
-  pub causes : Causes (record { words = words; before = before; after = after; journal = r.journal }) r.outcome
+-- the report of a command: what it came to, with its text written, from its cause, with its status. The files are as before, but the one that the words
+-- name for the journal of a run
+pub record IsReport (words : List (List ℕ)) (before after : Outside) (registry : RegistryView) (r : Report) : Type 0 where
+  pub reports : Reports (record { words = words; before = before; after = after; registry = registry; journal = r.journal }) r.outcome
+  pub causes : Causes (record { words = words; before = before; after = after; registry = registry; journal = r.journal }) r.outcome
   pub status : r.status ≡ status_of r.outcome
-  pub files : after.materials.files ≡ before.materials.files
+  pub files : LeavesFiles (record { words = words; before = before; after = after; registry = registry; journal = r.journal }) (journal_named (command_of words)) r.outcome

@@ -1,9 +1,10 @@
 pub mod Given
-pub mod Built
 pub mod Routes
 pub mod Prepared
 pub mod Outcomes
+pub mod Kept
 pub mod Reports
 pub mod Printed
 pub mod Drained
+pub mod Left
 pub mod Caused

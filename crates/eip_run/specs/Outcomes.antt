@@ -2,6 +2,8 @@
 use Rattle.std.specs.Prelude.{ℕ, Result, Ok, Err}
 use Rattle.eip_ledger.specs.declared.place.Stop.{Stop}
 use Rattle.eip_ledger.specs.declared.place.Stop.TheVariants as stop
+use Rattle.eip_endpoint.specs.declared.files.FilesFault.{FilesFault as FileFault}
+use Rattle.eip_endpoint.specs.declared.files.FilesFault.TheVariants as file_fault
 use Rattle.eip_endpoint.specs.declared.sink.SinkFault.{SinkFault}
 use Rattle.eip_endpoint.specs.declared.sink.SinkFault.TheVariants as fault
 use Rattle.eip_run.specs.declared.report.Outcome.{Outcome}
@@ -24,6 +26,17 @@ status_of Checked = 0
 status_of (Ran s) = stop_status s
 status_of Unwritten = 2
 status_of NoMemory = 5
+
+-- a journal that could not be written to its file is the outcome of a run that was drained; every other stop came earlier
+abbrev pub unkept : Stop → Outcome
+unkept stop.Drained = FilesFault
+unkept s = Ran s
+
+-- the outcome of a run by its stop and by what became of writing its journal
+abbrev pub left_by : Stop → Result Unit FileFault → Outcome
+left_by s (Ok u) = Ran s
+left_by s (Err file_fault.Failed) = unkept s
+left_by s (Err file_fault.NoMemory) = NoMemory
 
 -- a sink that failed is the outcome of a run that was drained and of a check; every other outcome had an earlier cause
 abbrev pub unwritten : Outcome → Outcome

@@ -1,5 +1,5 @@
 -- What is told of a refusal, of a check and of a run.
-use Rattle.std.specs.Prelude.{ℕ, ◌≢◌, List, Option, codes}
+use Rattle.std.specs.Prelude.{ℕ, ◌≢◌, ◌⊎◌, List, Option, Result, Err, codes}
 use Rattle.eip_route.specs.declared.route.RouteSet.{RouteSet}
 use Rattle.eip_command.specs.Causes.{fault_line}
 use Rattle.eip_route_grammar.specs.declared.fault.RouteFault.{RouteFault}
@@ -11,7 +11,11 @@ use Rattle.eip_run.specs.declared.prepare.Refusal.{Refusal}
 use Rattle.eip_run.specs.declared.prepare.Refusal.TheVariants as refusal
 use Rattle.eip_run.specs.declared.report.Outcome.{Outcome}
 use Rattle.eip_run.specs.declared.report.Outcome.TheVariants as outcome
-use Rattle.eip_run.specs.Reports.{Told, run_text}
+use Rattle.eip_run.specs.declared.print.Account.{Account}
+use Rattle.eip_endpoint.specs.declared.files.FilesFault.{FilesFault}
+use Rattle.eip_endpoint.specs.declared.files.FilesFault.TheVariants as files_fault
+use Rattle.eip_run.specs.Outcomes.{left_by}
+use Rattle.eip_run.specs.Reports.{Told, account_text}
 
 -- the outcome and the text of a refusal
 pub data OfRefusal : Refusal → Outcome → List ℕ → Type 0 where
@@ -21,16 +25,21 @@ pub data OfRefusal : Refusal → Outcome → List ℕ → Type 0 where
   OfNoLine : (f : RouteFault) → OfRefusal (refusal.Routes f) outcome.NoMemory (codes "error memory\n")
   OfMemory : OfRefusal refusal.NoMemory outcome.NoMemory (codes "error memory\n")
 
--- the outcome and the text of a run
-pub data OfRun (set : RouteSet) (past : Past) : Stop → Outcome → List ℕ → Type 0 where
-  OfStop : (s : Stop) → s ≢ stop.NoMemory → OfRun set past s (outcome.Ran s) (run_text set past s)
-  OfStarved : OfRun set past stop.NoMemory (outcome.Ran stop.NoMemory) (codes "error memory\n")
-  OfNoText : (s : Stop) → s ≢ stop.NoMemory → OfRun set past s outcome.NoMemory (codes "error memory\n")
+-- the outcome and the text of a run of which this account is given, by its stop and what became of writing its journal
+pub data OfRun (account : Account) (set : RouteSet) (past : Past) (kept : Result Unit FilesFault) : Stop → Outcome → List ℕ → Type 0 where
+  OfStop : (s : Stop) → s ≢ stop.NoMemory → kept ≢ Err files_fault.NoMemory → OfRun account set past kept s (left_by s kept) (account_text account set past s)
+  OfStarved : OfRun account set past kept stop.NoMemory (outcome.Ran stop.NoMemory) (codes "error memory\n")
+  OfNoText : (s : Stop) → s ≢ stop.NoMemory → OfRun account set past kept s outcome.NoMemory (codes "error memory\n")
 
 -- the outcome and the text of a check
 pub data OfCheck (set : RouteSet) : Outcome → List ℕ → Type 0 where
   OfText : OfCheck set outcome.Checked (canonical_text set)
   OfNone : OfCheck set outcome.NoMemory (codes "error memory\n")
+
+-- a text was told under an outcome, or no memory was left for it
+abbrev pub TellsAccount : Outcome → List ℕ → (before after : Option (List ℕ)) → (faults_before faults_after : ℕ) → Outcome → Type 0
+TellsAccount told text before after faults_before faults_after o =
+    Told told text before after faults_before faults_after o ⊎ Told outcome.NoMemory (codes "error memory\n") before after faults_before faults_after o
 
 -- one of these was told
 pub record TellsRefusal (r : Refusal) (before after : Option (List ℕ)) (faults_before faults_after : ℕ) (o : Outcome) : Type 0 where
@@ -39,10 +48,10 @@ pub record TellsRefusal (r : Refusal) (before after : Option (List ℕ)) (faults
   pub of : OfRefusal r told text
   pub tells : Told told text before after faults_before faults_after o
 
-pub record TellsRun (set : RouteSet) (past : Past) (s : Stop) (before after : Option (List ℕ)) (faults_before faults_after : ℕ) (o : Outcome) : Type 0 where
+pub record TellsRun (account : Account) (set : RouteSet) (past : Past) (s : Stop) (kept : Result Unit FilesFault) (before after : Option (List ℕ)) (faults_before faults_after : ℕ) (o : Outcome) : Type 0 where
   pub told : Outcome
   pub text : List ℕ
-  pub of : OfRun set past s told text
+  pub of : OfRun account set past kept s told text
   pub tells : Told told text before after faults_before faults_after o
 
 pub record TellsCheck (set : RouteSet) (before after : Option (List ℕ)) (faults_before faults_after : ℕ) (o : Outcome) : Type 0 where

@@ -1,16 +1,19 @@
 -- What a command comes to, what it writes, and what it leaves.
-use Rattle.std.specs.Prelude.{ℕ, ◌≡◌, ◌≢◌, ◌++◌, ◌⊎◌, List, [], codes, Option, Some, None, Result, IsErrOf}
+use Rattle.std.specs.Prelude.{ℕ, ◌≡◌, ◌≢◌, ◌++◌, ◌⊎◌, List, [], codes, Option, Some, None, Result, Err, IsErrOf}
 use Rattle.eip_text.specs.Causes.{Rises}
 use Rattle.eip_route.specs.declared.route.RouteSet.{RouteSet}
 use Rattle.eip_route_json.specs.Reading.{Finds}
 use Rattle.eip_route_grammar.specs.declared.fault.RouteFault.{RouteFault}
 use Rattle.eip_route_canonical.specs.Canonical.{canonical_text}
-use Rattle.eip_command.specs.Words.{default_turns, command_of, path_in}
+use Rattle.std.specs.Option.{IsSome}
+use Rattle.eip_command.specs.Words.{default_turns, command_of, path_in, journal_of}
 use Rattle.eip_command.specs.Causes.{fault_line}
 use Rattle.eip_command.specs.declared.words.Path.{Path}
 use Rattle.eip_command.specs.declared.words.Command.{Command}
-use Rattle.eip_command.specs.declared.words.Command.TheVariants.{Drain, Check}
+use Rattle.eip_command.specs.declared.words.Command.TheVariants.{Drain, Check, Load}
 use Rattle.eip_endpoint.specs.declared.files.FileRead.{FileRead}
+use Rattle.eip_endpoint.specs.declared.files.FilesFault.{FilesFault}
+use Rattle.eip_endpoint.specs.declared.files.FilesFault.TheVariants as files_fault
 use Rattle.eip_endpoint.specs.declared.sink.SinkFault.{SinkFault}
 use Rattle.eip_endpoint.specs.declared.sink.SinkFault.TheVariants as fault
 use Rattle.eip_endpoint.specs.Sinks.{Wrote, sink_failure}
@@ -23,16 +26,20 @@ use Rattle.eip_ledger.specs.declared.place.Stop.TheVariants as stop
 use Rattle.eip_history.specs.Own.{Past}
 use Rattle.eip_history.specs.Rules.{IsLegal, served}
 use Rattle.eip_history.specs.Stop.{stop_of, IsPlain}
-use Rattle.eip_history.specs.BookText.{log_text_of, book_text_of}
+use Rattle.eip_history.specs.BookText.{log_text_of, book_text_of, summary_text_of}
 use Rattle.eip_plan.specs.Plan.{plan_of}
 use Rattle.eip_endbook.specs.Names.{route_names}
 use Rattle.eip_core.specs.Doors.{doors_among}
-use Rattle.eip_core.specs.Outside.{seen_answers, inlet_acts}
+use Rattle.eip_processor.specs.Registered.{RegistryView}
+use Rattle.eip_core.specs.Outside.{AreTheirs, seen_answers, inlet_acts}
+use Rattle.eip_run.specs.declared.print.Account.{Account}
+use Rattle.eip_run.specs.declared.print.Account.TheVariants as account
 use Rattle.eip_run.specs.declared.report.Outcome.{Outcome}
 use Rattle.eip_run.specs.declared.report.Outcome.TheVariants as outcome
-use Rattle.eip_run.specs.Given.{Setting, asked}
+use Rattle.eip_run.specs.Given.{Setting, asked, begun}
 use Rattle.eip_run.specs.Prepared.{sites, IsCalm, WasRead, IsSpared, HasRoutes}
-use Rattle.eip_run.specs.Outcomes.{behind}
+use Rattle.eip_run.specs.Kept.{Keeps}
+use Rattle.eip_run.specs.Outcomes.{left_by, behind}
 
 -- the journal where nothing ran: without entries, for no workers and as many turns as where no words name them
 pub record IsNew (j : JournalView) : Type 0 where
@@ -40,16 +47,18 @@ pub record IsNew (j : JournalView) : Type 0 where
   pub turns : j.turns ≡ default_turns
   pub past : j.past ≡ []
 
--- nothing ran: lanes and inlets are as before and the journal is new
+-- nothing ran: files, lanes and inlets are as before and the journal is new
 pub record IsStill (x : Setting) : Type 0 where
+  pub files : x.after.materials.files ≡ x.before.materials.files
   pub lanes : x.after.lanes ≡ x.before.lanes
   pub inlets : x.after.inlets ≡ x.before.inlets
   pub journal : IsNew x.journal
 
 -- the headline of a run of a set with a limit on its turns: the journal is a legal history of the set in which each entry was made by the actor whose
--- turn it was, its stop is what it says, and lanes and inlets did what its entries and answers say, in their order
+-- turn it was, its stop is what it says, lanes and inlets did what its entries and answers say, in their order, and what was processed or tested by a
+-- name was answered by the one of that name
 pub record Ran (set : RouteSet) (limit : ℕ) (j : JournalView) (s : Stop) (lanes_before lanes_after : List LaneView)
-    (inlets_before inlets_after : List InletView) : Type 0 where
+    (inlets_before inlets_after : List InletView) (registry : RegistryView) : Type 0 where
   pub workers : j.workers ≡ 0
   pub turns : j.turns ≡ limit
   pub legal : IsLegal (plan_of set) 0 limit j.past
@@ -57,39 +66,66 @@ pub record Ran (set : RouteSet) (limit : ℕ) (j : JournalView) (s : Stop) (lane
   pub stops : (s ≡ stop.NoMemory) ⊎ (stop_of (plan_of set) limit j.past ≡ Some s)
   pub lanes : LanesGrew 0 (calls (doors_among set lanes_before inlets_before) (seen_answers (served (plan_of set) j.past))) lanes_before lanes_after
   pub inlets : InletsGrew 0 (inlet_acts (doors_among set lanes_before inlets_before) j.past (served (plan_of set) j.past)) inlets_before inlets_after
+  pub theirs : AreTheirs registry (served (plan_of set) j.past)
 
 -- the run that a command made
 abbrev pub IsRun : Setting → RouteSet → (limit : ℕ) → Stop → Type 0
-IsRun x set limit s = Ran set limit x.journal s x.before.lanes x.after.lanes x.before.inlets x.after.inlets
+IsRun x set limit s = Ran set limit x.journal s x.before.lanes x.after.lanes x.before.inlets x.after.inlets x.registry
 
 -- the log and the book of a run
 abbrev pub run_text : RouteSet → Past → Stop → List ℕ
 run_text set past stop = log_text_of (plan_of set) past ++ book_text_of (plan_of set) (route_names set) past stop
 
+-- the last three lines of its book
+abbrev pub summary_text : RouteSet → Past → Stop → List ℕ
+summary_text set past stop = summary_text_of (plan_of set) (route_names set) past stop
+
+-- an account of a run
+abbrev pub account_text : Account → RouteSet → Past → Stop → List ℕ
+account_text account.Whole set past stop = run_text set past stop
+account_text account.Summary set past stop = summary_text set past stop
+
+-- the command runs its routes, for at most so many turns
+abbrev pub RunsTo : Command → (limit : ℕ) → Type 0
+RunsTo (Drain p turns journal) limit = limit ≡ turns
+RunsTo (Load n) limit = limit ≡ 1000000
+RunsTo (Check p) limit = ⊥
+
+-- what a command tells of its run: a drain the log and the book, a load the last lines of the book alone
+abbrev pub told_of : Command → RouteSet → Past → Stop → List ℕ
+told_of (Drain p turns journal) set past stop = run_text set past stop
+told_of (Load n) set past stop = summary_text set past stop
+told_of (Check p) set past stop = []
+
+-- the journal of the run was written to the file that the command names for it, as the answer says
+abbrev pub KeptBy : Setting → Command → (answer : Result Unit FilesFault) → Type 0
+KeptBy x k answer =
+    Keeps (journal_of k) x.journal x.before.materials.files x.after.materials.files x.before.materials.files_faults x.after.materials.files_faults answer
+
 -- which outcome a command comes to, with the text that it is to write
 pub data Comes (x : Setting) : Outcome → List ℕ → Type 0 where
   -- the words are no command
   NoCommand : command_of x.words ≡ None → IsStill x → IsCalm (asked x) → Comes x outcome.Words (codes "error words\n")
-  -- the route file could not be read, and the count of faults of the files rose
-  NotRead : (k : Command) → command_of x.words ≡ Some k → IsStill x → Rises 1 x.before.materials.files_faults x.after.materials.files_faults
+  -- the route file that the words name could not be read, and the count of faults of the files rose
+  NotRead : (k : Command) → command_of x.words ≡ Some k → IsSome (path_in k) → IsStill x → Rises 1 x.before.materials.files_faults x.after.materials.files_faults
       → x.after.materials.pattern_faults ≡ x.before.materials.pattern_faults → Comes x outcome.FilesFault (codes "error files\n")
-  -- the route file has a fault, which is its first one or that of a refused pattern before it
-  NoRoutes : (k : Command) (read : FileRead) (f : RouteFault) → command_of x.words ≡ Some k → IsStill x → WasRead (asked x) (path_in k) read
-      → Finds (sites (asked x) k read) x.before.materials.pattern_faults x.after.materials.pattern_faults f → Comes x (outcome.Routes f) (fault_line f)
+  -- the routes have a fault, which is their first one or that of a refused pattern before it
+  NoRoutes : (k : Command) (read : FileRead) (f : RouteFault) → command_of x.words ≡ Some k → IsStill x → WasRead (asked x) k read
+      → Finds (sites (asked x) read) x.before.materials.pattern_faults x.after.materials.pattern_faults f → Comes x (outcome.Routes f) (fault_line f)
   -- the routes were checked
   WasChecked : (p : Path) (set : RouteSet) → HasRoutes (asked x) (Check p) set → IsStill x → Comes x outcome.Checked (canonical_text set)
-  -- the routes ran to a stop, with the limit on turns of the words
-  Stopped : (p : Path) (limit : ℕ) (set : RouteSet) (s : Stop) → HasRoutes (asked x) (Drain p limit) set → IsRun x set limit s → s ≢ stop.NoMemory
-      → Comes x (outcome.Ran s) (run_text set x.journal.past s)
-  -- the routes ran until no memory was left
-  Starved : (p : Path) (limit : ℕ) (set : RouteSet) → HasRoutes (asked x) (Drain p limit) set → IsRun x set limit stop.NoMemory
-      → Comes x (outcome.Ran stop.NoMemory) (codes "error memory\n")
-  -- no memory was left before the routes ran, or for the text of a check, or to tell a fault of the file
+  -- the routes ran to a stop, with the limit on turns of the command, and their journal was written to its file, or the files failed in that
+  Stopped : (k : Command) (limit : ℕ) (set : RouteSet) (s : Stop) (kept : Result Unit FilesFault) → RunsTo k limit → HasRoutes (begun x) k set → IsRun x set limit s
+      → s ≢ stop.NoMemory → KeptBy x k kept → kept ≢ Err files_fault.NoMemory → Comes x (left_by s kept) (told_of k set x.journal.past s)
+  -- the routes ran until no memory was left; their journal is written all the same, if it can be
+  Starved : (k : Command) (limit : ℕ) (set : RouteSet) (kept : Result Unit FilesFault) → RunsTo k limit → HasRoutes (begun x) k set → IsRun x set limit stop.NoMemory
+      → KeptBy x k kept → Comes x (outcome.Ran stop.NoMemory) (codes "error memory\n")
+  -- no memory was left before the routes ran, or for the text of a check, or to tell a fault of the routes
   LacksMemory : IsStill x → x.after.materials.files_faults ≡ x.before.materials.files_faults → IsSpared (asked x)
       → Comes x outcome.NoMemory (codes "error memory\n")
-  -- no memory was left for the text of a run
-  LacksText : (p : Path) (limit : ℕ) (set : RouteSet) (s : Stop) → HasRoutes (asked x) (Drain p limit) set → IsRun x set limit s → s ≢ stop.NoMemory
-      → Comes x outcome.NoMemory (codes "error memory\n")
+  -- no memory was left for the text of a run, or to write its journal
+  LacksText : (k : Command) (limit : ℕ) (set : RouteSet) (s : Stop) (kept : Result Unit FilesFault) → RunsTo k limit → HasRoutes (begun x) k set → IsRun x set limit s
+      → s ≢ stop.NoMemory → KeptBy x k kept → Comes x outcome.NoMemory (codes "error memory\n")
 
 -- a text was written for an outcome, or the front of it where the sink failed, and the outcome is what that left of it
 pub record Told (told : Outcome) (text : List ℕ) (before after : Option (List ℕ)) (faults_before faults_after : ℕ) (o : Outcome) : Type 0 where

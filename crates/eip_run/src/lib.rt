@@ -1,7 +1,6 @@
 // The top call: from the words of a command to its outcome, its text and its status.
 #![tactic(auto)]
 
-mod built;
 mod prepare;
 mod print;
 mod report;

@@ -1,32 +1,44 @@
-ghost use Rattle.std.specs.Prelude.{ℕ, ◌≡◌};
-ghost use Rattle.eip_endpoint.specs.Lanes.{lane_names};
-ghost use Rattle.eip_endpoint.specs.Inlets.{inlet_names};
+ghost use Rattle.std.specs.Prelude.{◌≡◌};
+ghost use Rattle.eip_core.specs.Served as served;
 ghost use Rattle.eip_run.specs.Given.{materials};
-ghost use Rattle.eip_run.specs.Routes.{sites_in, set_in, asked_sites, sites_for, set_for, unless_built};
-ghost use Rattle.eip_run.specs.Built.{is_built};
-ghost use Rattle.eip_run.specs.Prepared.{job_of, Answers, Refuses, Prepares};
+ghost use Rattle.eip_run.specs.Routes.{sites_in, set_in};
+ghost use Rattle.std.specs.Prelude.{IfOk};
+ghost use Rattle.eip_text.specs.Causes.{Rises};
+ghost use Rattle.eip_load.specs.Routes.{load_text};
+ghost use Rattle.eip_endpoint.specs.Content.{IfTold};
+ghost use Rattle.eip_endpoint.specs.Files.{files_failure};
+ghost use Rattle.eip_endpoint.specs.declared.files.FileRead.TheVariants as file_read;
+ghost use Rattle.eip_run.specs.Prepared.{held_at, job_of, Answers, Reads, Refuses, Prepares};
 
-use crate::built::is_built;
-use eip_command::{Command, WordsFault, read_words};
-use eip_core::{Registry, names_of};
+use eip_command::{Command, Path, WordsFault, read_words};
+use eip_core::names_of;
 use eip_endpoint::{FileRead, Files, FilesFault, Inlets, Lanes};
+use eip_load::load_routes;
+use eip_processor::Registered;
 use eip_route::{Names, RouteSet};
 use eip_route_grammar::{Cause, RouteFault};
 use eip_route_json::{RouteRefusal, read_routes};
 use eip_simple_read::Patterns;
-use eip_text::{NoMemory, Text};
+use eip_text::{NoMemory, Series, Text};
 use std::alloc::Global;
 
 /// The most bytes of a route file.
 const FILE_LIMIT: usize = 1_048_576;
 
-/// What a command does with the routes of its file.
+/// What a command does with its routes.
 #[derive(Drop)]
 pub enum Job {
-    /// They run until nothing is left to do, for at most so many turns.
-    Drain { set: RouteSet, turns: u32 },
+    /// They run until nothing is left to do, for at most so many turns, and the journal of the run is written to a file, if
+    /// one is named for it.
+    Drain {
+        set: RouteSet,
+        turns: u32,
+        journal: Option<Path>,
+    },
     /// They are printed in their canonical form.
     Check(RouteSet),
+    /// They run as those of a load.
+    Load(RouteSet),
 }
 
 /// Why nothing is done.
@@ -34,30 +46,29 @@ pub enum Job {
 pub enum Refusal {
     /// The words are no command.
     Words,
-    /// The route file has this fault.
+    /// The routes have this fault.
     Routes(RouteFault),
     /// The files failed.
     FilesFault,
     NoMemory,
 }
 
-/// What the words ask to do with the routes of their file, or the first cause why there is nothing to do: the words,
-/// then the reading of the route file, then the routes. A drain also asks that the routes are of the part that is run.
-pub fn prepare<F: Files, P: Patterns, L: Lanes, I: Inlets>(
+/// What the words ask to do with their routes, or the first cause why there is nothing to do: the words, then the
+/// reading of the route file, then the routes.
+pub fn prepare<F: Files, P: Patterns, L: Lanes, I: Inlets, R: Registered>(
     alloc: Global,
     words: &[Text],
     files: &mut F,
     patterns: &mut P,
     lanes: &L,
     inlets: &I,
-    registry: &Registry,
+    registry: &R,
 ) -> Result<Job, Refusal>
     ensures answer { Prepares (record {
       words = words.now;
       before = materials F.Files files.old (P.pattern_faults patterns.old);
       after = materials F.Files files.new (P.pattern_faults patterns.new);
-      lanes = lane_names (L.views lanes.now);
-      inlets = inlet_names (I.views inlets.now);
+      names = served.names_of (L.views lanes.now) (I.views inlets.now) (R.view registry.now);
     }) result }
     ensures files { F.files files.new ≡ F.files files.old }
 {
@@ -66,59 +77,73 @@ pub fn prepare<F: Files, P: Patterns, L: Lanes, I: Inlets>(
         Err(WordsFault::Refused) => return Err(Refusal::Words),
         Err(WordsFault::NoMemory) => return Err(Refusal::NoMemory),
     };
-    let routes = command.routes();
-    let read = match files.read(&routes.folder, &routes.name, FILE_LIMIT) {
+    let read = match route_file(alloc, &command, files) {
         Ok(read) => read,
-        Err(FilesFault::Failed) => return Err(Refusal::FilesFault),
-        Err(FilesFault::NoMemory) => return Err(Refusal::NoMemory),
+        Err(refusal) => return Err(refusal),
     };
-    match routes_for(alloc, &command, &read, patterns, lanes, inlets, registry) {
-        Ok(set) => Ok(job_of(&command, set)),
+    let Ok(names) = names_of(alloc, registry, lanes, inlets) else {
+        return Err(Refusal::NoMemory);
+    };
+    match routes_of(alloc, &read, &names, patterns) {
+        Ok(set) => Ok(job_of(command, set)),
         Err(refusal) => Err(refusal),
     }
 }
 
 /// What a command does with its routes.
-fn job_of(command: &Command, set: RouteSet) -> Job
-    ensures { result ≡ job_of command.now set }
+fn job_of(command: Command, set: RouteSet) -> Job
+    ensures { result ≡ job_of command set }
 {
     match command {
-        Command::Drain { turns, .. } => Job::Drain { set, turns: *turns },
+        Command::Drain { turns, journal, .. } => Job::Drain {
+            set,
+            turns,
+            journal,
+        },
         Command::Check { .. } => Job::Check(set),
+        Command::Load { .. } => Job::Load(set),
     }
 }
 
-/// The routes that a command takes from a file that was read.
-fn routes_for<P: Patterns, L: Lanes, I: Inlets>(
+/// What the routes of a command are read from: the file that its words name, or the built-in routes of a load.
+fn route_file<F: Files>(
     alloc: Global,
     command: &Command,
-    read: &FileRead,
-    patterns: &mut P,
-    lanes: &L,
-    inlets: &I,
-    registry: &Registry,
-) -> Result<RouteSet, Refusal>
-    ensures { Answers (sites_for command.now (lane_names (L.views lanes.now)) (inlet_names (I.views inlets.now)) read.now)
-        (set_for (lane_names (L.views lanes.now)) (inlet_names (I.views inlets.now)) read.now)
-        (P.pattern_faults patterns.old) (P.pattern_faults patterns.new) result }
+    files: &mut F,
+) -> Result<FileRead, Refusal>
+    ensures read { Reads command.now (F.files files.old) (F.files_faults files.old) (F.files_faults files.new) result }
+    ensures files { F.files files.new ≡ F.files files.old }
 {
-    let Ok(names) = names_of(alloc, registry, lanes, inlets) else {
-        return Err(Refusal::NoMemory);
-    };
-    match routes_of(alloc, read, &names, patterns) {
-        Ok(set) => asked(alloc, command, set),
-        Err(refusal) => Err(refusal),
+    match command {
+        Command::Drain { routes, .. } | Command::Check { routes } => match read_at(routes, files) {
+            Ok(read) => Ok(read),
+            Err(FilesFault::Failed) => Err(Refusal::FilesFault),
+            Err(FilesFault::NoMemory) => Err(Refusal::NoMemory),
+        },
+        Command::Load { items } => match load_file(alloc, *items) {
+            Ok(read) => Ok(read),
+            Err(NoMemory) => Err(Refusal::NoMemory),
+        },
     }
 }
 
-/// The set, where it is what a command asks for beyond a file without a fault.
-fn asked(alloc: Global, command: &Command, set: RouteSet) -> Result<RouteSet, Refusal>
-    ensures { (n : ℕ) → Answers (asked_sites command.now set) set n n result }
+/// Reads the route file of a path.
+fn read_at<F: Files>(path: &Path, files: &mut F) -> Result<FileRead, FilesFault>
+    ensures same { F.files files.new ≡ F.files files.old }
+    ensures read { IfOk result (λ r. IfTold (F.files files.old) (λ all. r ≡ held_at path.now all)) }
+    ensures faults { Rises (files_failure result) (F.files_faults files.old) (F.files_faults files.new) }
 {
-    match command {
-        Command::Drain { .. } => built(alloc, set),
-        Command::Check { .. } => Ok(set),
-    }
+    files.read(&path.folder, &path.name, FILE_LIMIT)
+}
+
+/// The built-in routes of a load of so many items, as a route file.
+fn load_file(alloc: Global, items: u32) -> Result<FileRead, NoMemory>
+    ensures { IfOk result (λ r. r ≡ file_read.Bytes (load_text items)) }
+{
+    let text = load_routes(alloc, items)?;
+    let mut bytes = Vec::new(alloc);
+    bytes.extend_from_slice(text.bytes())?;
+    Ok(FileRead::Bytes(Series::of(bytes)))
 }
 
 /// The routes of a file that was read.
@@ -138,17 +163,6 @@ fn routes_of<P: Patterns>(
             Err(RouteRefusal::Refused(fault)) => Err(Refusal::Routes(fault)),
             Err(RouteRefusal::NoMemory) => Err(Refusal::NoMemory),
         },
-    }
-}
-
-/// The set, where it is of the part that is run.
-fn built(alloc: Global, set: RouteSet) -> Result<RouteSet, Refusal>
-    ensures { (n : ℕ) → Answers (unless_built (is_built set)) set n n result }
-{
-    if is_built(&set) {
-        Ok(set)
-    } else {
-        Err(refused(alloc, Cause::NotBuilt))
     }
 }
 

@@ -1,19 +1,28 @@
 ghost use Rattle.std.specs.Prelude.{◌≡◌, IfOk, codes, string_bytes};
 ghost use Rattle.eip_books.specs.View.{plan};
-ghost use Rattle.eip_run.specs.Reports.{Told, run_text};
-ghost use Rattle.eip_run.specs.Printed.{TellsRefusal, TellsCheck, TellsRun};
+ghost use Rattle.eip_run.specs.Reports.{Told, account_text, run_text, summary_text};
+ghost use Rattle.eip_run.specs.Printed.{TellsRefusal, TellsCheck, TellsAccount, TellsRun};
 
 use crate::prepare::Refusal;
 use crate::report::Outcome;
 use eip_command::fault_line;
-use eip_endbook::{book_text, log_text};
-use eip_endpoint::{Sink, SinkFault};
+use eip_endbook::{book_text, log_text, summary_text};
+use eip_endpoint::{FilesFault, Sink, SinkFault};
 use eip_hub::Hub;
 use eip_ledger::Stop;
 use eip_route::RouteSet;
 use eip_route_print::print_routes;
-use eip_text::NoMemory;
+use eip_text::{NoMemory, Text};
 use std::alloc::Global;
+
+/// What is told of a run.
+#[derive(Clone, Copy)]
+pub enum Account {
+    /// The log, and behind it the book.
+    Whole,
+    /// The last three lines of the book alone.
+    Summary,
+}
 
 /// Writes the text of an outcome, by one call. Answers the outcome, or what a failing sink leaves of it.
 fn tell<O: Sink>(out: &mut O, text: &str, told: Outcome) -> Outcome
@@ -59,25 +68,62 @@ pub fn tell_check<O: Sink>(alloc: Global, out: &mut O, set: &RouteSet) -> Outcom
 }
 
 /// The log, and behind it the book.
-fn text_of(alloc: Global, hub: &Hub, stop: Stop) -> Result<String, NoMemory>
-    ensures { IfOk result (λ t. string_bytes t ≡ run_text hub.now.set hub.now.journal.past stop) }
+fn whole_text(alloc: Global, hub: &Hub, stop: Stop) -> Result<Text, NoMemory>
+    ensures { IfOk result (λ t. t ≡ run_text hub.now.set hub.now.journal.past stop) }
 {
     let log = log_text(alloc, hub)?;
     let book = book_text(alloc, hub, &stop)?;
     let mut text = String::from_str(alloc, log.as_str())?;
     text.push_str(book.as_str())?;
-    Ok(text)
+    Ok(Text::of(text))
 }
 
-/// Writes log and book of a run that came to a stop.
-pub fn tell_run<O: Sink>(alloc: Global, hub: &Hub, stop: Stop, out: &mut O) -> Outcome
-    ensures { TellsRun hub.now.set hub.now.journal.past stop (O.bytes out.old) (O.bytes out.new) (O.sink_faults out.old) (O.sink_faults out.new) result }
+/// What an account of a run says.
+fn text_of(alloc: Global, hub: &Hub, account: Account, stop: Stop) -> Result<Text, NoMemory>
+    ensures { IfOk result (λ t. t ≡ account_text account hub.now.set hub.now.journal.past stop) }
+{
+    match account {
+        Account::Whole => whole_text(alloc, hub, stop),
+        Account::Summary => summary_text(alloc, hub, &stop),
+    }
+}
+
+/// Writes an account of a run under an outcome.
+fn tell_account<O: Sink>(
+    alloc: Global,
+    hub: &Hub,
+    account: Account,
+    stop: Stop,
+    told: Outcome,
+    out: &mut O,
+) -> Outcome
+    ensures { TellsAccount told (account_text account hub.now.set hub.now.journal.past stop) (O.bytes out.old) (O.bytes out.new) (O.sink_faults out.old) (O.sink_faults out.new) result }
+{
+    match text_of(alloc, hub, account, stop) {
+        Ok(text) => tell(out, text.as_str(), told),
+        Err(NoMemory) => tell_memory(out, Outcome::NoMemory),
+    }
+}
+
+/// Writes an account of a run that came to a stop and whose journal was written to its file, or was not.
+pub fn tell_run<O: Sink>(
+    alloc: Global,
+    hub: &Hub,
+    account: Account,
+    stop: Stop,
+    kept: Result<(), FilesFault>,
+    out: &mut O,
+) -> Outcome
+    ensures { TellsRun account hub.now.set hub.now.journal.past stop kept (O.bytes out.old) (O.bytes out.new) (O.sink_faults out.old) (O.sink_faults out.new) result }
 {
     match stop {
         Stop::NoMemory => tell_memory(out, Outcome::Ran(Stop::NoMemory)),
-        _ => match text_of(alloc, hub, stop) {
-            Ok(text) => tell(out, text.as_str(), Outcome::Ran(stop)),
-            Err(NoMemory) => tell_memory(out, Outcome::NoMemory),
+        _ => match kept {
+            Ok(()) => tell_account(alloc, hub, account, stop, Outcome::Ran(stop), out),
+            Err(FilesFault::Failed) => {
+                tell_account(alloc, hub, account, stop, Outcome::unkept(stop), out)
+            }
+            Err(FilesFault::NoMemory) => tell_memory(out, Outcome::NoMemory),
         },
     }
 }

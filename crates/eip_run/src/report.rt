@@ -1,5 +1,5 @@
 ghost use Rattle.std.specs.Prelude.{◌≡◌};
-ghost use Rattle.eip_run.specs.Outcomes.{stop_status, status_of, unwritten};
+ghost use Rattle.eip_run.specs.Outcomes.{stop_status, status_of, unkept, unwritten};
 
 use eip_ledger::{Journal, Stop};
 use eip_route_grammar::RouteFault;
@@ -9,11 +9,11 @@ use eip_route_grammar::RouteFault;
 pub enum Outcome {
     /// The words are no command.
     Words,
-    /// The route file is refused for its first fault.
+    /// The routes are refused for their first fault.
     Routes(RouteFault),
-    /// The files failed.
+    /// The route file could not be read, or the journal of a run that was drained could not be written to its file.
     FilesFault,
-    /// The route file was printed in its canonical form.
+    /// The routes were printed in their canonical form.
     Checked,
     /// The routes ran until this stop.
     Ran(Stop),
@@ -45,6 +45,17 @@ fn stop_status(stop: Stop) -> u8
 }
 
 impl Outcome {
+    /// The outcome of a run whose journal could not be written to the file that the words name for it: that fault where the run
+    /// was drained, else its stop, which came earlier.
+    pub fn unkept(stop: Stop) -> Outcome
+        ensures { result ≡ unkept stop }
+    {
+        match stop {
+            Stop::Drained => Outcome::FilesFault,
+            other => Outcome::Ran(other),
+        }
+    }
+
     /// The exit status: 0 drained or checked, 1 words or routes refused, 2 a fault of files, a source or the sink, 3 groups held, 4 turns
     /// spent, 5 out of memory.
     pub fn status(&self) -> u8

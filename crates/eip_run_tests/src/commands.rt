@@ -30,11 +30,12 @@ const COMMANDS: [(&[&str], &str, &str, Option<u32>); 10] = [
     (&["check", "a/r.json"], "a", "r.json", None),
 ];
 
-/// The word of a command, its file, and its limit on turns.
-fn parts(command: &Command) -> (&str, &Path, Option<u32>) {
+/// The word of a command, its file, and its limit on turns or its number of items.
+fn parts(command: &Command) -> (&str, Option<&Path>, Option<u32>) {
     match command {
-        Command::Drain { routes, turns } => ("drain", routes, Some(*turns)),
-        Command::Check { routes } => ("check", routes, None),
+        Command::Drain { routes, turns, .. } => ("drain", Some(routes), Some(*turns)),
+        Command::Check { routes } => ("check", Some(routes), None),
+        Command::Load { items } => ("load", None, Some(*items)),
     }
 }
 
@@ -43,6 +44,9 @@ fn a_command_names_its_file_and_its_limit_on_turns(rt: HostRuntime) -> Result<()
     for (words, folder, name, limit) in COMMANDS {
         let command = read_words(rt.alloc(), &texts(rt.alloc(), words)?)?;
         let (word, routes, turns) = parts(&command);
+        let Some(routes) = routes else {
+            panic!(rt; "no file");
+        };
         assert!(rt; word == words[0]);
         assert!(rt; routes.folder.as_str() == folder);
         assert!(rt; routes.name.as_str() == name);
@@ -52,7 +56,7 @@ fn a_command_names_its_file_and_its_limit_on_turns(rt: HostRuntime) -> Result<()
 }
 
 /// Words that are no command.
-const NO_COMMANDS: [&[&str]; 21] = [
+const NO_COMMANDS: [&[&str]; 25] = [
     &[],
     &["drain"],
     &["drain", "r.json", "--turns", "0"],
@@ -74,6 +78,10 @@ const NO_COMMANDS: [&[&str]; 21] = [
     &["drain", "a/"],
     &["check", "/"],
     &["r.json", "drain"],
+    &["load", "0", "0"],
+    &["load", "20001", "0"],
+    &["load", "10", "1"],
+    &["load", "10"],
 ];
 
 #[test]

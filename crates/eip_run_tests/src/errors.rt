@@ -173,7 +173,7 @@ const RUNS: [(&str, &str, Failing, &str, &str, &str, &str); 13] = [
 ];
 
 /// A handler or a clause, and a route from standard input with these steps.
-fn routes_of(alloc: Global, handler: &str, steps: &str) -> Result<String, NoMemory> {
+pub fn routes_of(alloc: Global, handler: &str, steps: &str) -> Result<String, NoMemory> {
     let front = ",{\"from\":{\"uri\":\"stream:in\",\"steps\":";
     joined(alloc, &["[", handler, front, steps, "}}]"])
 }
@@ -201,28 +201,35 @@ fn given_failing(
     Ok(given)
 }
 
-/// The letter of a lane's call, by its answer; none for another entry.
-fn call_of(kind: &Kind) -> &'static str {
-    match kind {
-        Kind::Answer {
-            answer: Answer::Done,
-            ..
-        } => "d",
-        Kind::Answer {
-            answer: Answer::SendFailed,
-            ..
-        } => "f",
+/// The letter of what an exchange was answered: `d` for a call of a lane that is done and `f` for one that failed, `b` for a
+/// message of a processor and `r` for its fault, `y` where a stored predicate holds and `n` where it doesn't, `k` for a key
+/// that nobody held, and for another one its holder, up to 2; none for another entry.
+fn letter_of(kind: &Kind) -> &'static str {
+    let Kind::Answer { answer, .. } = kind else {
+        return "";
+    };
+    match answer {
+        Answer::Done => "d",
+        Answer::SendFailed => "f",
+        Answer::Became(_) => "b",
+        Answer::Raised(_) => "r",
+        Answer::Holds(true) => "y",
+        Answer::Holds(false) => "n",
+        Answer::Fresh => "k",
+        Answer::Duplicate(1) => "1",
+        Answer::Duplicate(2) => "2",
+        Answer::Duplicate(_) => "?",
         _ => "",
     }
 }
 
-/// The letters of a lane's calls, by the entries of a journal.
-fn calls_of(alloc: Global, entries: &[Entry]) -> Result<String, NoMemory> {
-    let mut calls = String::new(alloc);
+/// The letters of the answers, by the entries of a journal.
+fn letters_of(alloc: Global, entries: &[Entry]) -> Result<String, NoMemory> {
+    let mut letters = String::new(alloc);
     for entry in entries {
-        calls.push_str(call_of(&entry.kind))?;
+        letters.push_str(letter_of(&entry.kind))?;
     }
-    Ok(calls)
+    Ok(letters)
 }
 
 /// The moments of the ticks of a journal, a space behind each.
@@ -237,22 +244,22 @@ pub fn ticks_of(alloc: Global, entries: &[Entry]) -> Result<String, NoMemory> {
     Ok(ticks)
 }
 
-/// Whether a drain of a line through these routes prints this, with these calls and these ticks.
-fn runs_so(
+/// Whether a drain prints this, with answers of these letters and with these ticks.
+pub fn runs_so(
     alloc: Global,
     given: &mut Given,
     text: &str,
-    calls: &str,
+    letters: &str,
     ticks: &str,
 ) -> Result<bool, NoMemory> {
     let report = reported(alloc, given);
     let entries = report.journal.entries();
-    let called = calls_of(alloc, entries)?;
+    let answered = letters_of(alloc, entries)?;
     let ticked = ticks_of(alloc, entries)?;
     Ok(
         report.status == 0
             && given.out.bytes() == text.as_bytes()
-            && called.as_str() == calls
+            && answered.as_str() == letters
             && ticked.as_str() == ticks,
     )
 }

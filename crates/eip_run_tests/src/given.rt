@@ -1,7 +1,8 @@
 use crate::lines::Lines;
-use eip_core::Registry;
 use eip_endpoint::{Inlet, Lane, MemoryFiles, MemoryLane, MemorySink};
+use eip_processor::Registry;
 use eip_run::{Report, run};
+use eip_samples::{SamplePredicate, SampleProcessor, registry};
 use eip_simple_read::CratePatterns;
 use eip_test_support::{joined, texts};
 use eip_text::{NoMemory, Series, Text};
@@ -34,6 +35,7 @@ pub struct Given {
     pub files: MemoryFiles,
     pub lanes: Vec<Lane<MemoryLane>>,
     pub inlets: Vec<Inlet<Lines>>,
+    pub registry: Registry<SampleProcessor, SamplePredicate>,
     pub out: MemorySink,
 }
 
@@ -95,6 +97,7 @@ pub fn given_with(
         files,
         lanes,
         inlets,
+        registry: registry(alloc)?,
         out: MemorySink::new(alloc, failing_writes),
     })
 }
@@ -109,7 +112,7 @@ pub fn reported(alloc: Global, given: &mut Given) -> Report {
         &mut patterns,
         &mut given.lanes,
         &mut given.inlets,
-        &Registry::new(),
+        &given.registry,
         &mut given.out,
     )
 }

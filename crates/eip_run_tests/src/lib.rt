@@ -12,9 +12,13 @@ mod given;
 #[cfg(test)]
 mod groups;
 #[cfg(test)]
+mod keys;
+#[cfg(test)]
 mod lines;
 #[cfg(test)]
 mod parts;
+#[cfg(test)]
+mod processors;
 #[cfg(test)]
 mod runs;
 #[cfg(test)]

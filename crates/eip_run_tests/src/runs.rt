@@ -366,13 +366,13 @@ const REFUSED: [(&str, &str); 2] = [
         "error routes $[0].from.steps[0].filter.steps[0] UnknownStep shout\n",
     ),
     (
-        "[{\"idempotentConsumer\":{\"simple\":\"${body}\",\"steps\":[]}}]",
-        "error routes $ NotBuilt\n",
+        "[{\"process\":{\"ref\":\"nobody\"}}]",
+        "error routes $[0].from.steps[0].process.ref NotRegistered nobody\n",
     ),
 ];
 
 #[test]
-fn routes_that_are_wrong_or_not_run_are_refused(rt: HostRuntime) -> Result<(), Fail> {
+fn routes_that_are_wrong_are_refused(rt: HostRuntime) -> Result<(), Fail> {
     for (steps, text) in REFUSED {
         let routes = route_of(rt.alloc(), steps)?;
         let told = is_refused(rt.alloc(), "r.json", routes.as_str(), text)?;

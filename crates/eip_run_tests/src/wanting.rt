@@ -1,7 +1,6 @@
 ghost use Rattle.std.specs.Prelude.{None};
 
 use crate::given::{DRAIN, SOUND, given_with, route_of};
-use eip_core::Registry;
 use eip_endpoint::{Endpoint, Lane, SendFault};
 use eip_exchange::Message;
 use eip_frames::Target;
@@ -44,7 +43,7 @@ fn is_drained(alloc: Global, steps: &str, line: &str, text: &str) -> Result<bool
         &mut patterns,
         &mut lanes,
         &mut given.inlets,
-        &Registry::new(),
+        &given.registry,
         &mut given.out,
     );
     Ok(report.status == 0 && given.out.bytes() == text.as_bytes())

@@ -31,6 +31,7 @@ use Rattle.eip_table_laws.proofs.RowPlaces.{Placed, row-place, row-on}
 use Rattle.eip_table_laws.proofs.RowSteps.{unasked-started}
 use Rattle.eip_table_laws.proofs.JoinsKept.{joins-stay}
 use Rattle.eip_table_laws.proofs.SleepersKept.{sleepers-stay}
+use Rattle.eip_table_laws.proofs.KeysKept.{keys-stay}
 use Rattle.eip_table_laws.proofs.OwnEvents.{stands-one, of-start, apart-quiet}
 use Rattle.eip_table_laws.proofs.OwnCalls.{IsAt, is-at, row-within, placed-some}
 use Rattle.eip_table_laws.proofs.HandCalls.{place-at}
@@ -97,7 +98,7 @@ module _ {routes : RouteSet} {workers limit : ℕ} {past : Past} (t : Tables) (w
         let b : row_held r ≡ false = ap state_held waits in
         let l : row_live r ≡ true = ap state_live waits in
         rw (append-nil t.notes, add-zero t.turns) at
-        (stands-one routes workers limit past t w x (x - 1) (Start q x) r (started r) (put_in x t.ready) t.taken t.live queues t.joins t.sleepers st lw may (of-start w q x) refl above row
+        (stands-one routes workers limit past t w x (x - 1) (Start q x) r (started r) (put_in x t.ready) t.taken t.live queues t.joins t.sleepers t.keys st lw may (of-start w q x) refl above row
         (λ legal. apart-quiet routes workers limit w x (Start q x) past legal (of-start w q x) refl refl)
         (λ d d_at h.
         row-on routes (record { worker = w; kind = Start q x }) past d r (started r) h refl refl refl l
@@ -105,4 +106,4 @@ module _ {routes : RouteSet} {workers limit : ℕ} {past : Past} (t : Tables) (w
         subst (λ (n : ℕ). IsUnasked ((record { worker = w; kind = Start q n }) ∷ past) d) (number-of d d_at) (unasked-started past w q d g.none)))
         (ap (put_in x) st.ready ∙ sym (rw number at (numbers-join row_ready 1 t.rows (x - 1) r (started r) row (ap state_ready waits) refl)))
         (rw b refl) (rw l refl) queues_are (λ legal. joins-stay routes workers limit w (Start q x) past t.joins legal refl st.joins)
-        (λ legal. sleepers-stay routes workers limit w (Start q x) past t.sleepers legal refl st.sleepers) refl)
+        (λ legal. sleepers-stay routes workers limit w (Start q x) past t.sleepers legal refl st.sleepers) refl (keys-stay routes w (Start q x) past t.keys refl st.keys))

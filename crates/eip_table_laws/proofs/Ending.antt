@@ -12,6 +12,7 @@ use Rattle.eip_ledger.specs.declared.place.Place.{Place}
 use Rattle.eip_ledger.specs.declared.place.Place.TheVariants as place_is
 use Rattle.eip_join.specs.Parts.{Open}
 use Rattle.eip_seda.specs.Consuming.{QueueView}
+use Rattle.eip_idempotent.specs.Keys.{Table as KeyTable}
 use Rattle.eip_history.specs.Own.{Past, concerns, turns_in}
 use Rattle.eip_history.specs.Births.{births}
 use Rattle.eip_history.specs.Place.{place_of}
@@ -34,6 +35,7 @@ use Rattle.eip_tables.specs.State as state
 use Rattle.eip_tables.specs.Parts.{rows_behind, ready_behind, woken_at}
 use Rattle.eip_tables.specs.Queues.{QueuesStand}
 use Rattle.eip_tables.specs.Joins.{JoinsStand}
+use Rattle.eip_tables.specs.Keys.{KeysStand}
 use Rattle.eip_tables.specs.Rows.{HasAnswer, RowStands, row_ready, row_held, row_live, state_ready, state_held, state_live}
 use Rattle.eip_tables.specs.Stands.{Tables, Stands}
 use Rattle.eip_table_laws.proofs.RowNumbers.{numbers-stay, numbers-join, count-set}
@@ -94,14 +96,14 @@ woken-row set e past b r c i n is now h =
     (rw behind (answer-other set e past b c i place_is.Joining place_is.Ready n (pause-placed set e past b c i place_is.Joining n was ∙ now) was))
 
 -- the tables behind an entry by which the exchange at i ends; its row, and the Ready numbers and counts that follow from it, are told
-pub stands-end : (set : RouteSet) (workers limit : ℕ) (past : Past) (t : Tables) (w x i : ℕ) (k : Kind) (old new : Row) (ready : List ℕ) (taken live : ℕ) (queues : List QueueView) (joins : List (ℕ × Open)) (behind : Option ℕ)
+pub stands-end : (set : RouteSet) (workers limit : ℕ) (past : Past) (t : Tables) (w x i : ℕ) (k : Kind) (old new : Row) (ready : List ℕ) (taken live : ℕ) (queues : List QueueView) (joins : List (ℕ × Open)) (keys : KeyTable) (behind : Option ℕ)
     → Stands set workers limit past t → w ≤ workers → May (plan_of set) limit past w k → IsOfOne w x k → simple_births (plan_of set) past k ≡ [] → suc i ≡ x
     → slice_get t.rows i ≡ Some old
     → (KeepsRules (plan_of set) workers limit ((record { worker = w; kind = k }) ∷ past) → AlsoMoves set past (record { worker = w; kind = k }) x behind)
     → ((b : Birth) → slice_get (births (plan_of set) past) i ≡ Some b → RowStands set past b old → RowStands set ((record { worker = w; kind = k }) ∷ past) b new)
     → ready ≡ row_numbers row_ready 1 (put_at t.rows i new) → taken + bit (row_held old) ≡ t.taken + bit (row_held new) → live + bit (row_live old) ≡ t.live + bit (row_live new)
     → (KeepsRules (plan_of set) workers limit ((record { worker = w; kind = k }) ∷ past) → QueuesStand set ((record { worker = w; kind = k }) ∷ past) queues)
-    → (KeepsRules (plan_of set) workers limit ((record { worker = w; kind = k }) ∷ past) → JoinsStand set ((record { worker = w; kind = k }) ∷ past) joins) → moves_sleepers k ≡ false → moves_groups k ≡ false
+    → (KeepsRules (plan_of set) workers limit ((record { worker = w; kind = k }) ∷ past) → JoinsStand set ((record { worker = w; kind = k }) ∷ past) joins) → moves_sleepers k ≡ false → moves_groups k ≡ false → KeysStand set ((record { worker = w; kind = k }) ∷ past) keys
     → Stands set workers limit ((record { worker = w; kind = k }) ∷ past) (record t {
       rows = rows_behind behind (put_at t.rows i new);
       ready = ready_behind behind ready;
@@ -111,15 +113,16 @@ pub stands-end : (set : RouteSet) (workers limit : ℕ) (past : Past) (t : Table
       live = live;
       queues = queues;
       joins = joins;
+      keys = keys;
     })
-stands-end routes workers limit past t w x i k old new ready taken live queues joins None st lw may of none x_is at moves here ready_is taken_is live_is queues_are joins_are wakeful still =
-    stands-one routes workers limit past t w x i k old new ready taken live queues joins t.sleepers st lw may of none x_is at moves here ready_is taken_is live_is queues_are joins_are
-    (λ legal. sleepers-stay routes workers limit w k past t.sleepers legal wakeful st.sleepers) still
-stands-end routes workers limit past t w x i k old new ready taken live queues joins (Some zero) st lw may of none x_is at moves here ready_is taken_is live_is queues_are joins_are wakeful still =
+stands-end routes workers limit past t w x i k old new ready taken live queues joins keys None st lw may of none x_is at moves here ready_is taken_is live_is queues_are joins_are wakeful still keys_are =
+    stands-one routes workers limit past t w x i k old new ready taken live queues joins t.sleepers keys st lw may of none x_is at moves here ready_is taken_is live_is queues_are joins_are
+    (λ legal. sleepers-stay routes workers limit w k past t.sleepers legal wakeful st.sleepers) still keys_are
+stands-end routes workers limit past t w x i k old new ready taken live queues joins keys (Some zero) st lw may of none x_is at moves here ready_is taken_is live_is queues_are joins_are wakeful still keys_are =
     let m = moves (legal-add (plan_of routes) workers limit (record { worker = w; kind = k }) past st.legal lw may).entries in
     let there : None ≡ Some m.birth = m.at in
     absurd (cc there)
-stands-end routes workers limit past t w x i k old new ready taken live queues joins (Some (suc j)) st lw may of none x_is at moves here ready_is taken_is live_is queues_are joins_are wakeful still =
+stands-end routes workers limit past t w x i k old new ready taken live queues joins keys (Some (suc j)) st lw may of none x_is at moves here ready_is taken_is live_is queues_are joins_are wakeful still keys_are =
     let e : Entry = record { worker = w; kind = k } in
     let s = plan_of routes in
     let rules = (legal-add s workers limit e past st.legal lw may).entries in
@@ -143,12 +146,12 @@ stands-end routes workers limit past t w x i k old new ready taken live queues j
     let l' : row_live (woken found.0) ≡ true = ap state_live now_state in
     let place : 1 + j ≡ suc j = omega arith in
     rw (before, there)
-    (stands-own routes workers limit past t w x k (put_at (put_at t.rows i new) j (woken found.0)) (ready_behind (Some (suc j)) ready) taken live queues joins t.sleepers t.groups st lw may of
+    (stands-own routes workers limit past t w x k (put_at (put_at t.rows i new) j (woken found.0)) (ready_behind (Some (suc j)) ready) taken live queues joins t.sleepers t.groups keys st lw may of
     (λ legal. rw (births-same routes workers limit e past legal (st.simple, of.simple) none) (both legal m found.0 waits.0 waits.1 waits.2 alone stands b_at number))
     (rw (ready_is, ← place) (sym (numbers-join row_ready 1 (put_at t.rows i new) j found.0 (woken found.0) there was_ready now_ready)))
     (let c = count-set row_held t.rows i old new at in let d = count-set row_held (put_at t.rows i new) j found.0 (woken found.0) there in let u = ap bit h in let v = ap bit h' in omega (arith, c, d, u, v, taken_is, st.taken))
     (let c = count-set row_live t.rows i old new at in let d = count-set row_live (put_at t.rows i new) j found.0 (woken found.0) there in let u = ap bit l in let v = ap bit l' in omega (arith, c, d, u, v, live_is, st.live))
-    queues_are joins_are (λ legal. sleepers-stay routes workers limit w k past t.sleepers legal wakeful st.sleepers) (groups-stay routes w k past t.groups still st.groups))
+    queues_are joins_are (λ legal. sleepers-stay routes workers limit w k past t.sleepers legal wakeful st.sleepers) (groups-stay routes w k past t.groups still st.groups) keys_are)
   where
     -- the rows but the parent's, and then the parent's
     Between : Birth → Row → Type 0

@@ -59,6 +59,7 @@ use Rattle.eip_table_laws.proofs.GroupLists.{only-one}
 use Rattle.eip_table_laws.proofs.GroupParts.{same-folded, same-added, same-hops}
 use Rattle.eip_table_laws.proofs.GroupLaws.{parts_in, Gathers, gathers, its-own, its-number, its-message, its-cause, its-parts, found-key}
 use Rattle.eip_table_laws.proofs.GroupsKept.{its-hops, groups-grown, groups-shut}
+use Rattle.eip_table_laws.proofs.KeysKept.{keys-on}
 use Rattle.eip_table_laws.proofs.GroupShut.{shut_group, group-stands}
 
 -- what a strategy makes is no fault
@@ -126,7 +127,7 @@ module _ {routes : RouteSet} {workers limit : ℕ} {past : Past} (t : Tables) (w
         let content : added_at (plan_of routes) past a key m ≡ Faults (fault_of_strategy f) = strategy-says ∙ ap added_one says in
         rw (append-nil t.notes) at
         (stands-on t w x st lw c r ready row q (reply.Unfit (fault_of_strategy f)) [] asks refl tt refl refl tt refl t.joins below content (rw comes-here refl)
-        (same-joins t w x st lw c r ready row q (reply.Unfit (fault_of_strategy f)) [] asks refl tt refl refl tt refl refl tt) refl)
+        (same-joins t w x st lw c r ready row q (reply.Unfit (fault_of_strategy f)) [] asks refl tt refl refl tt refl refl tt) refl refl)
 
     module _ (open_groups : Table) (came : tables.Stands (settings routes) (Came (a, key) (coming routes x t.clock r m) ∷ group_calls routes past) open_groups)
         (sum : Message) (adds : added_by (settings routes) (group_calls routes past) (a, key) (coming routes x t.clock r m) ≡ Ok sum) (answer : Arrived)
@@ -163,9 +164,10 @@ module _ {routes : RouteSet} {workers limit : ℕ} {past : Past} (t : Tables) (w
           let cause : cause_at (plan_of routes) (arrived 1 (groups (plan_of routes) past) a key arrival) arrival ≡ None = closed-none _ answer.group _ (sym closing-is ∙ still) in
           let few = (here t w x st lw c r ready row).stands.hops in
           rw (append-nil t.notes) at
-          (stands-with t w x st lw c r ready row q e [] asks refl tt refl refl tt refl t.joins open_groups below (fits-in, number-is, cause) (rw comes-here refl)
+          (stands-with t w x st lw c r ready row q e [] asks refl tt refl refl tt refl t.joins open_groups t.keys below (fits-in, number-is, cause) (rw comes-here refl)
           (same-joins t w x st lw c r ready row q e [] asks refl tt refl refl tt refl refl tt)
-          (groups-grown routes past x comes a key m comes-here refl few t.groups open_groups came-told st.groups w answer.group))
+          (groups-grown routes past x comes a key m comes-here refl few t.groups open_groups came-told st.groups w answer.group)
+          (keys-on routes w x e past t.keys refl (answer-lives routes w x e past comes comes-here (λ k. cc k) (λ k. cc k)) st.keys))
 
       -- its group closes
       module _ (closed : Closed) (shuts : answer.closed ≡ Some closed) where
@@ -250,7 +252,7 @@ module _ {routes : RouteSet} {workers limit : ℕ} {past : Past} (t : Tables) (w
             let many : length (put_at t.rows (x - 1) new) ≡ length t.rows = length-set t.rows (x - 1) new in
             let number : 1 + length (put_at t.rows (x - 1) new) ≡ length t.rows + 1 = omega (arith, many) in
             rw (none, append-nil t.notes) at
-            (stands-own routes workers limit past t w x (Answer x e) (put_at t.rows (x - 1) new ++ its ∷ []) (t.ready ++ (length t.rows + 1) ∷ []) t.taken (t.live + 1) t.queues t.joins t.sleepers open_groups st lw may-shut (of-answer w x e tt)
+            (stands-own routes workers limit past t w x (Answer x e) (put_at t.rows (x - 1) new ++ its ∷ []) (t.ready ++ (length t.rows + 1) ∷ []) t.taken (t.live + 1) t.queues t.joins t.sleepers open_groups t.keys st lw may-shut (of-answer w x e tt)
             (λ legal. rw shut-made
             (related-push (RowStands routes (shut_entry ∷ past)) (births s past) (put_at t.rows (x - 1) new) _ its
             (rows-one routes workers limit past t w x (x - 1) (Answer x e) r new st legal (of-answer w x e tt) over row (apart-lives routes workers limit w x (Answer x e) past legal (of-answer w x e tt) lives)
@@ -263,4 +265,5 @@ module _ {routes : RouteSet} {workers limit : ℕ} {past : Past} (t : Tables) (w
             (λ legal. queues-on routes workers limit w x e past h.birth t.queues legal refl h.at lives st.queues)
             (λ legal. joins-on routes workers limit w x e past legal lives refl (unopened routes past x comes comes-here tt) st.joins)
             (λ legal. sleepers-stay routes workers limit w (Answer x e) past t.sleepers legal refl st.sleepers)
-            (groups-shut routes past x comes a key m comes-here refl few t.groups open_groups came-told st.groups w answer.group (length t.rows + 1) closed.cause))
+            (groups-shut routes past x comes a key m comes-here refl few t.groups open_groups came-told st.groups w answer.group (length t.rows + 1) closed.cause)
+            (keys-on routes w x e past t.keys refl lives st.keys))

@@ -5,7 +5,8 @@ use Rattle.std.proofs.lemmas.List.{append-nil}
 use Rattle.std.proofs.lemmas.Option.{slice_get_within}
 use Rattle.eip_exchange.specs.declared.birth.Birth.{Birth}
 use Rattle.eip_exchange.specs.declared.birth.Origin.TheVariants as from
-use Rattle.eip_exchange.specs.Ends.{out_of_memory}
+use Rattle.eip_exchange.specs.Ends.{ending_of, out_of_memory}
+use Rattle.eip_exchange.specs.declared.end.Ending.{Ending}
 use Rattle.eip_exchange.specs.declared.end.Fault.{Fault}
 use Rattle.eip_exchange.specs.declared.end.End.{End}
 use Rattle.eip_exchange.specs.declared.end.End.TheVariants as end
@@ -35,10 +36,11 @@ use Rattle.eip_history.proofs.Places.{ended-is}
 use Rattle.eip_history.proofs.Unborn.{birth-stays}
 use Rattle.eip_plan.specs.Plan.{plan_of}
 use Rattle.eip_plan.specs.Simple.{IsSimple}
-use Rattle.eip_plan.proofs.Items.{bears, outside-simple, fits-simple, outside-unqueued, outside-unborn, outside-wakeful, unborn-births, outside-ungrouped}
+use Rattle.eip_plan.proofs.Items.{bears, outside-simple, fits-simple, outside-unqueued, outside-unborn, outside-wakeful, unborn-births, outside-ungrouped, outside-unclaimed}
 use Rattle.eip_meaning.proofs.Laws.{asked-finish}
 use Rattle.eip_progress.specs.declared.cursor.Cursor.{Cursor}
 use Rattle.eip_seda.specs.Consuming.{QueueView}
+use Rattle.eip_idempotent.specs.Keys.{Table as KeyTable}
 use Rattle.eip_join.specs.Parts.{Open}
 use Rattle.eip_tables.specs.declared.row.Born.TheVariants as made
 use Rattle.eip_tables.specs.declared.row.Stage.{Stage}
@@ -54,6 +56,7 @@ use Rattle.eip_tables.specs.Outside.{is_among, unlooked_numbers, IsAsked}
 use Rattle.eip_tables.specs.Queues.{QueuesStand, MayLeave, Leaves}
 use Rattle.eip_tables.specs.Parts.{rows_behind, ready_behind}
 use Rattle.eip_tables.specs.Joins.{JoinsStand, MayTell, Tells, Wakes}
+use Rattle.eip_tables.specs.Keys.{Settles, ending_by}
 use Rattle.eip_tables.specs.Rows.{Keeps, IsAsking, HasAnswer, HasEnded, StateStands, RowStands, closed_end, row_ready, row_held, row_live, state_ready, state_held, state_live}
 use Rattle.eip_tables.specs.Stands.{Tables, Stands}
 use Rattle.eip_table_laws.proofs.RowNumbers.{numbers-stay, numbers-leave, numbers-join, count-set}
@@ -65,6 +68,7 @@ use Rattle.eip_table_laws.proofs.Leaving.{ends-some, may-leave, queues-ended}
 use Rattle.eip_table_laws.proofs.PartFacts.{IsNoJoin, unopened, stands-alive}
 use Rattle.eip_table_laws.proofs.JoinsKept.{joins-stay, joins-on}
 use Rattle.eip_table_laws.proofs.SleepersKept.{sleepers-stay}
+use Rattle.eip_table_laws.proofs.KeysKept.{keys-stay, keys-on, keys-over, keys-starved}
 use Rattle.eip_table_laws.proofs.Telling.{IsShut, shut-none, may-tell, joins-alone, joins-ended, moves-alone, also-moves, woken-within, starved-end, starved-told}
 use Rattle.eip_table_laws.proofs.OwnEvents.{AlsoMoves, StandsApart, stands-one, apart-quiet, apart-lives, notes_in, of-take, of-answer, of-starve}
 use Rattle.eip_table_laws.proofs.Ending.{stands-end}
@@ -213,6 +217,14 @@ closing_by : End → Reply → Closing
 closing_by e reply.CommitFailed = closing.NotCommitted
 closing_by e _ = closing_of e
 
+-- an end as its source took it is settled so
+ending-over : (b : Birth) (e : End) (a : Reply) → ending_of (closed_end b (closing_by e a)) ≡ ending_by e a
+unfolding closing_by
+ending-over b e reply.CommitFailed = refl
+ending-over b end.Completed _ = refl
+ending-over b end.Handled _ = refl
+ending-over b (end.Failed f) _ = refl
+
 ended-state : (e : End) (r : Row) → state_of (finished e r) ≡ state.Ended (closing_of e)
 ended-state end.Completed r = refl
 ended-state end.Handled r = refl
@@ -321,7 +333,7 @@ module _ {routes : RouteSet} {workers limit : ℕ} {past : Past} (t : Tables) (w
         let b' : row_held (held w r) ≡ true = ap state_held now-held in
         let l' : row_live (held w r) ≡ true = ap state_live now-held in
         rw (append-nil t.notes, add-zero t.turns) at
-        (stands-one routes workers limit past t w x (x - 1) (Take x) r (held w r) (without x t.ready) (t.taken + 1) t.live t.queues t.joins t.sleepers st lw (may-take below) (of-take w x) refl (above place_is.Ready ready) row
+        (stands-one routes workers limit past t w x (x - 1) (Take x) r (held w r) (without x t.ready) (t.taken + 1) t.live t.queues t.joins t.sleepers t.keys st lw (may-take below) (of-take w x) refl (above place_is.Ready ready) row
         (λ legal. apart-quiet routes workers limit w x (Take x) past legal (of-take w x) refl refl)
         (λ d d_at h.
         row-on routes (record { worker = w; kind = Take x }) past d r (held w r) h refl refl refl (l ∙ sym l')
@@ -331,7 +343,7 @@ module _ {routes : RouteSet} {workers limit : ℕ} {past : Past} (t : Tables) (w
         (rw (b, b') (omega arith)) (rw (l, l') refl)
         (λ legal. queues-stay routes workers limit w (Take x) past t.queues legal refl refl st.queues)
         (λ legal. joins-stay routes workers limit w (Take x) past t.joins legal refl st.joins)
-        (λ legal. sleepers-stay routes workers limit w (Take x) past t.sleepers legal refl st.sleepers) refl)
+        (λ legal. sleepers-stay routes workers limit w (Take x) past t.sleepers legal refl st.sleepers) refl (keys-stay routes w (Take x) past t.keys refl st.keys))
 
   -- it is in this worker's hand
   module _ (placed : place (plan_of routes) past x ≡ Some (place_is.InHand w)) where
@@ -443,14 +455,15 @@ module _ {routes : RouteSet} {workers limit : ℕ} {past : Past} (t : Tables) (w
         let l : row_live (answered (length past) r) ≡ true = ap state_live now in
         let n = taken-above in
         rw (no-notes q a k, append-nil t.notes) at
-        (stands-one routes workers limit past t w x (x - 1) (Answer x a) r (answered (length past) r) (put_in x t.ready) (t.taken - 1) t.live t.queues t.joins t.sleepers st lw (may-answer q a k fit)
+        (stands-one routes workers limit past t w x (x - 1) (Answer x a) r (answered (length past) r) (put_in x t.ready) (t.taken - 1) t.live t.queues t.joins t.sleepers t.keys st lw (may-answer q a k fit)
         (of-answer w x a (fits-simple q a k.simple fit)) (unborn-births (plan_of routes) past x a (outside-unborn q a k.outside fit)) (above (place_is.InHand w) placed) row
         (λ legal. apart-lives routes workers limit w x (Answer x a) past legal (of-answer w x a (fits-simple q a k.simple fit)) (lives-on q a asks fit goes))
         (λ d d_at h. row-on routes (record { worker = w; kind = Answer x a }) past d r (answered (length past) r) h refl refl refl (was-live ∙ sym l) (rw now (gets q a asks fit goes d d_at)))
         (ap (put_in x) st.ready ∙ sym (rw number at (numbers-join row_ready 1 t.rows (x - 1) r (answered (length past) r) row (ap state_ready in-hand.1) (ap state_ready now))))
         (rw (was-held, b) (omega (arith, n))) (rw (was-live, l) refl) (same-queues q a asks fit goes)
         (λ legal. joins-on routes workers limit w x a past legal (lives-on q a asks fit goes) (outside-closes q a k.outside fit) (unopened routes past x (record { birth = (here (place_is.InHand w) placed).birth; request = q; at = k.asking.at }) k.asked_is (outside-other q k.outside)) st.joins)
-        (λ legal. sleepers-stay routes workers limit w (Answer x a) past t.sleepers legal (outside-wakeful q a k.outside fit) st.sleepers) (outside-ungrouped q a k.outside fit))
+        (λ legal. sleepers-stay routes workers limit w (Answer x a) past t.sleepers legal (outside-wakeful q a k.outside fit) st.sleepers) (outside-ungrouped q a k.outside fit)
+        (keys-on routes w x a past t.keys (outside-unclaimed q a k.outside fit) (lives-on q a asks fit goes) st.keys))
 
     -- it ends as its source took it
     module _ (q : Request) (e : End) (a : Reply) (asks : IsAsked (plan_of routes) past x q) (fit : fits q a ≡ true) (ends : end_asked (Some q) ≡ Some e) where
@@ -516,23 +529,25 @@ module _ {routes : RouteSet} {workers limit : ℕ} {past : Past} (t : Tables) (w
           moves-alone workers limit w x (Answer x a) h.birth (record { end = closed_end h.birth (closing_by e a); message = is-over-here.message }) legal st.simple (eq-eqb x x refl) (λ y ne. not-same y x ne) (λ n. refl)
           h.at held-alive (over-so is-over-here) st.joins st.joins.calls (held-shut q told-end) t.joins st.joins.stands end-alone
 
-      pub stands-settle-end : (queues : List QueueView) → Leaves r.born t.queues queues
+      pub stands-settle-end : (queues : List QueueView) (keys : KeyTable) → Leaves r.born t.queues queues → Settles x (ending_by e a) t.keys keys
           → Stands routes workers limit ((record { worker = w; kind = Answer x a }) ∷ past)
-          (record t { rows = put_at t.rows (x - 1) (ended_by e a r); turns = t.turns + 1; taken = t.taken - 1; live = t.live - 1; queues = queues })
-      stands-settle-end queues leaves =
+          (record t { rows = put_at t.rows (x - 1) (ended_by e a r); turns = t.turns + 1; taken = t.taken - 1; live = t.live - 1; queues = queues; keys = keys })
+      stands-settle-end queues keys leaves settled =
           let h = here (place_is.InHand w) placed in
           let b : row_held (ended_by e a r) ≡ false = ap state_held now-over in
           let l : row_live (ended_by e a r) ≡ false = ap state_live now-over in
           let n = taken-above in
           let m = held-live in
           rw (no-notes q a told-end, append-nil t.notes) at
-          (stands-one routes workers limit past t w x (x - 1) (Answer x a) r (ended_by e a r) t.ready (t.taken - 1) (t.live - 1) queues t.joins t.sleepers st lw (may-answer q a told-end fit)
+          (stands-one routes workers limit past t w x (x - 1) (Answer x a) r (ended_by e a r) t.ready (t.taken - 1) (t.live - 1) queues t.joins t.sleepers keys st lw (may-answer q a told-end fit)
           (of-answer w x a (fits-simple q a told-end.simple fit)) (unborn-births (plan_of routes) past x a (outside-unborn q a told-end.outside fit)) (above (place_is.InHand w) placed) row over-moves
           (λ d d_at g. row-ended routes (record { worker = w; kind = Answer x a }) past d r (ended_by e a r) g (sym (ended-by-born e a r)) l (rw now-over (is-over d d_at)))
           (st.ready ∙ sym (numbers-stay row_ready 1 t.rows (x - 1) r (ended_by e a r) row (ap state_ready in-hand.1 ∙ sym (ap state_ready now-over))))
           (rw (was-held, b) (omega (arith, n))) (rw (was-live, l) (omega (arith, m)))
           (λ legal. queues-ended workers limit w x (Answer x a) h.birth t.queues (leaving-answer x a (outside-unqueued q a told-end.outside fit)) legal h.at over-some st.queues r.born queues h.stands.born leaves) joins-over
-          (λ legal. sleepers-stay routes workers limit w (Answer x a) past t.sleepers legal (outside-wakeful q a told-end.outside fit) st.sleepers) (outside-ungrouped q a told-end.outside fit))
+          (λ legal. sleepers-stay routes workers limit w (Answer x a) past t.sleepers legal (outside-wakeful q a told-end.outside fit) st.sleepers) (outside-ungrouped q a told-end.outside fit)
+          (keys-over routes workers limit past st.legal.entries w x (record { end = closed_end h.birth (closing_by e a); message = is-over-here.message }) held-alive t.keys keys
+          (subst (λ (d : Ending). Settles x d t.keys keys) (sym (ending-over h.birth e a)) settled) st.keys a (outside-unclaimed q a told-end.outside fit) (over-so is-over-here)))
 
     pub end-not-outside : (q : Request) (e : End) (a : Reply) → IsAsked (plan_of routes) past x q → fits q a ≡ true → end_asked (Some q) ≡ Some e → row_outside (ended_by e a r) ≡ false
     end-not-outside q e a asks fit ends =
@@ -597,23 +612,25 @@ module _ {routes : RouteSet} {workers limit : ℕ} {past : Past} (t : Tables) (w
           let legal = legal-add (plan_of routes) workers limit (record { worker = w; kind = Starve x }) past st.legal lw (inr placed) in
           woken-within t st (record { worker = w; kind = Starve x }) x behind y is (gone-moves legal.entries)
 
-      pub stands-give-up : Stands routes workers limit ((record { worker = w; kind = Starve x }) ∷ past) (record t {
+      pub stands-give-up : (keys : KeyTable) → Settles x (ending_of out_of_memory) t.keys keys → Stands routes workers limit ((record { worker = w; kind = Starve x }) ∷ past) (record t {
         rows = rows_behind behind (put_at t.rows (x - 1) (closed stage.Starved r));
         ready = ready_behind behind t.ready;
         taken = t.taken - 1;
         live = t.live - 1;
         queues = queues;
         joins = joins;
+        keys = keys;
       })
-      stands-give-up =
+      stands-give-up keys settled =
           let h = here (place_is.InHand w) placed in
           let n = taken-above in
           let m = held-live in
           rw (append-nil t.notes, add-zero t.turns) at
-          (stands-end routes workers limit past t w x (x - 1) (Starve x) r (closed stage.Starved r) t.ready (t.taken - 1) (t.live - 1) queues joins behind st lw (inr placed) (of-starve w x) refl (above (place_is.InHand w) placed) row gone-moves
+          (stands-end routes workers limit past t w x (x - 1) (Starve x) r (closed stage.Starved r) t.ready (t.taken - 1) (t.live - 1) queues joins keys behind st lw (inr placed) (of-starve w x) refl (above (place_is.InHand w) placed) row gone-moves
           (λ d d_at g.
           row-ended routes (record { worker = w; kind = Starve x }) past d r (closed stage.Starved r) g refl refl
           (subst (λ (n : ℕ). HasEnded routes ((record { worker = w; kind = Starve n }) ∷ past) d closing.Starved) (number-of (place_is.InHand w) placed d d_at) (has-starved routes past w d)))
           (st.ready ∙ sym (numbers-stay row_ready 1 t.rows (x - 1) r (closed stage.Starved r) row (ap state_ready in-hand.1)))
           (rw was-held (omega (arith, n))) (rw was-live (omega (arith, m)))
-          (λ legal. queues-ended workers limit w x (Starve x) h.birth t.queues (leaving-starve x) legal h.at gone-some st.queues r.born queues h.stands.born leaves) joins-gone refl refl)
+          (λ legal. queues-ended workers limit w x (Starve x) h.birth t.queues (leaving-starve x) legal h.at gone-some st.queues r.born queues h.stands.born leaves) joins-gone refl refl
+          (keys-starved routes workers limit past st.legal.entries w x (record { end = out_of_memory; message = h.birth.message }) held-alive t.keys keys settled st.keys gone-so))

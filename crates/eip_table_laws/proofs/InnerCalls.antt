@@ -18,7 +18,7 @@ use Rattle.eip_table_laws.proofs.LookCalls.{known-state}
 use Rattle.eip_table_laws.proofs.OwnCalls.{asked-there}
 use Rattle.eip_tables.specs.declared.asking.Asked.TheVariants as kind
 use Rattle.eip_tables.specs.Offers.{AsksOffer, AsksCall}
-use Rattle.eip_tables.specs.Asking.{asked_kind, is_outside_kind, AsksLine, AsksEnd, AsksParts, AsksEnds, AsksMoment, AsksGroup}
+use Rattle.eip_tables.specs.Asking.{asked_kind, is_outside_kind, AsksLine, AsksEnd, AsksParts, AsksEnds, AsksMoment, AsksGroup, AsksKey}
 
 pub kind-outside : (q : Request) → is_outside_kind (asked_kind q) ≡ is_outside q
 kind-outside (request.Finish e m true) = refl
@@ -101,6 +101,15 @@ kind-group known x (request.Send t m) at h = absurd (cc h)
 kind-group known x (request.Process n m) at h = absurd (cc h)
 kind-group known x (request.Test n m) at h = absurd (cc h)
 kind-group known x _ at h = absurd (cc h)
+
+pub kind-key : (known : List (Option Request)) (x : ℕ) (q : Request) → slice_get known (x - 1) ≡ Some (Some q) → asked_kind q ≡ kind.Key → AsksKey known x
+kind-key known x (request.Idem r key eager remove) at h = record { repository = r; key = key; eager = eager; remove = remove; asks = at }
+kind-key known x (request.Finish e m true) at h = absurd (cc h)
+kind-key known x (request.Finish e m false) at h = absurd (cc h)
+kind-key known x (request.Send t m) at h = absurd (cc h)
+kind-key known x (request.Process n m) at h = absurd (cc h)
+kind-key known x (request.Test n m) at h = absurd (cc h)
+kind-key known x _ at h = absurd (cc h)
 
 pub outside-of : (o : Option HasAsked) (k : HasAsked) (q : Request) → o ≡ Some k → k.request ≡ q → outside_asked o ≡ is_outside q
 outside-of o k q h e = rw h (ap is_outside e)

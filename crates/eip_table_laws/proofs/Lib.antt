@@ -25,6 +25,9 @@ pub mod OfferCalls
 pub mod AskedPlaces
 pub mod PartCalls
 pub mod GroupCalls
+pub mod KeyLaws
+pub mod KeysKept
+pub mod KeyCalls
 pub mod GroupRows
 pub mod SleepCalls
 pub mod InnerCalls

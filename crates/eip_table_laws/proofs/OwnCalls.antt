@@ -7,7 +7,7 @@ use Rattle.eip_exchange.specs.declared.message.Message.{Message}
 use Rattle.std.proofs.lemmas.List.{append-nil}
 use Rattle.eip_exchange.specs.declared.end.Fault.{Fault}
 use Rattle.eip_exchange.specs.declared.end.Ended.{Ended as Finished}
-use Rattle.eip_exchange.specs.Ends.{out_of_memory}
+use Rattle.eip_exchange.specs.Ends.{ending_of, out_of_memory}
 use Rattle.eip_exchange.specs.declared.end.End.{End}
 use Rattle.eip_exchange.specs.declared.end.End.TheVariants as end
 use Rattle.eip_route.specs.declared.route.RouteSet.{RouteSet}
@@ -30,6 +30,7 @@ use Rattle.eip_history.specs.Place.{place, place_of, ended, end_of, waiting, joi
 use Rattle.eip_history.specs.Rules.{IsBelow, KeepsRules, May, MayAct, Content}
 use Rattle.eip_history.specs.Tables.{without, bit}
 use Rattle.eip_history.specs.TableWords.{open_parts, born_by, is_sleep, is_arrival}
+use Rattle.eip_history.specs.Kept.{is_fresh}
 use Rattle.eip_history.proofs.Limit.{not-same, turns-more}
 use Rattle.eip_history.proofs.Lists.{related-at, related-length, related-push, numbered-at, slice_get-some}
 use Rattle.eip_history.proofs.Told.{births-more, births-numbered}
@@ -60,7 +61,9 @@ use Rattle.eip_tables.specs.State as state
 use Rattle.eip_tables.specs.State.{State, state_of, state_by}
 use Rattle.eip_tables.specs.Queues.{MayLeave, Leaves}
 use Rattle.eip_tables.specs.Groups.{GroupsStand}
+use Rattle.eip_tables.specs.Keys.{Settles, KeysStand}
 use Rattle.eip_aggregator.specs.Tables.{Table}
+use Rattle.eip_idempotent.specs.Keys.{Table as KeyTable}
 use Rattle.eip_tables.specs.Parts.{rows_behind, ready_behind}
 use Rattle.eip_tables.specs.Joins.{JoinsStand, MayTell, Tells, Wakes, Closes, closing as closing_calls}
 use Rattle.eip_tables.specs.Rows.{ComesFrom, Keeps, RowStands, IsAsking, HasAnswer, HasEnded, closed_end, row_ready, row_held, row_live, state_ready, state_held, state_live}
@@ -69,6 +72,7 @@ use Rattle.eip_table_laws.proofs.PartFacts.{IsNoJoin, unopened, answer-lives, jo
 use Rattle.eip_table_laws.proofs.JoinsKept.{opens, ends-are, ready-is, joins-on, joins-closed}
 use Rattle.eip_table_laws.proofs.SleepersKept.{sleepers-stay}
 use Rattle.eip_table_laws.proofs.GroupsKept.{groups-stay}
+use Rattle.eip_table_laws.proofs.KeysKept.{keys-on, keys-over, keys-starved}
 use Rattle.eip_table_laws.proofs.Telling.{IsShut, shut-none, shut-closing, may-tell, joins-ended, also-moves, woken-within, starved-end, starved-told}
 use Rattle.eip_table_laws.proofs.RowNumbers.{numbers-stay, numbers-leave, count-set, count-push, push-none}
 use Rattle.eip_table_laws.proofs.RowPlaces.{plan-mean, row-is_ready, row-on, row-ended, fate-asks}
@@ -224,22 +228,23 @@ module _ {routes : RouteSet} {workers limit : ℕ} {past : Past} (t : Tables) (w
     now-answered : state_of (answered (length past) r) ≡ state.Answered c (length past)
     now-answered = answered-state (length past) r c q asks
 
-    goes-on : ended (plan_of routes) ((record { worker = w; kind = Answer x a }) ∷ past) x ≡ None
+    pub goes-on : ended (plan_of routes) ((record { worker = w; kind = Answer x a }) ∷ past) x ≡ None
     goes-on =
         let e : Entry = record { worker = w; kind = Answer x a } in
         let at : slice_get (births (plan_of routes) past) (x - 1) ≡ Some here.birth = subst (λ (n : ℕ). numbered (births (plan_of routes) past) n ≡ Some here.birth) (sym above) here.at in
         ended-is (plan_of routes) (e ∷ past) x here.birth (birth-stays (plan_of routes) e past x here.birth here.at) ∙ (has-it q a asks (runs-simple a unborn wakeful) goes fit here.birth at here.stands).lives
 
-    pub stands-with : (joins : List (ℕ × Open)) (groups : Table) → IsBelow (plan_of routes) limit past → Content (plan_of routes) past (record { birth = here.birth; request = q; at = (asking q asks).at }) q a → notes_in (plan_of routes) past w (Answer x a) ≡ written
+    pub stands-with : (joins : List (ℕ × Open)) (groups : Table) (keys : KeyTable) → IsBelow (plan_of routes) limit past → Content (plan_of routes) past (record { birth = here.birth; request = q; at = (asking q asks).at }) q a → notes_in (plan_of routes) past w (Answer x a) ≡ written
         → (KeepsRules (plan_of routes) workers limit ((record { worker = w; kind = Answer x a }) ∷ past) → JoinsStand routes ((record { worker = w; kind = Answer x a }) ∷ past) joins)
         → GroupsStand routes ((record { worker = w; kind = Answer x a }) ∷ past) groups
+        → KeysStand routes ((record { worker = w; kind = Answer x a }) ∷ past) keys
         → Stands routes workers limit ((record { worker = w; kind = Answer x a }) ∷ past)
-        (record t { rows = put_at t.rows (x - 1) (answered (length past) r); turns = t.turns + 1; notes = t.notes ++ written; joins = joins; groups = groups })
-    stands-with joins groups below content written_is joins_are groups_are =
+        (record t { rows = put_at t.rows (x - 1) (answered (length past) r); turns = t.turns + 1; notes = t.notes ++ written; joins = joins; groups = groups; keys = keys })
+    stands-with joins groups keys below content written_is joins_are groups_are keys_are =
         let b : row_held (answered (length past) r) ≡ false = ap state_held now-answered in
         let l : row_live (answered (length past) r) ≡ true = ap state_live now-answered in
         rw written_is at
-        (stands-beside routes workers limit past t w x (x - 1) (Answer x a) r (answered (length past) r) t.ready t.taken t.live t.queues joins t.sleepers groups st lw
+        (stands-beside routes workers limit past t w x (x - 1) (Answer x a) r (answered (length past) r) t.ready t.taken t.live t.queues joins t.sleepers groups keys st lw
         (record {
           asks = record { birth = here.birth; request = q; at = (asking q asks).at };
           asked_is = asked-here q asks;
@@ -253,14 +258,14 @@ module _ {routes : RouteSet} {workers limit : ℕ} {past : Past} (t : Tables) (w
         (st.ready ∙ sym (numbers-stay row_ready 1 t.rows (x - 1) r (answered (length past) r) row (still-ready q asks ∙ sym (ap state_ready now-answered))))
         (rw (not-held q asks, b) refl) (rw (was-live q asks, l) refl)
         (λ legal. queues-on routes workers limit w x a past here.birth t.queues legal (unborn-unqueued a unborn) here.at goes-on st.queues) joins_are
-        (λ legal. sleepers-stay routes workers limit w (Answer x a) past t.sleepers legal wakeful st.sleepers) groups_are)
+        (λ legal. sleepers-stay routes workers limit w (Answer x a) past t.sleepers legal wakeful st.sleepers) groups_are keys_are)
 
     pub stands-on : (joins : List (ℕ × Open)) → IsBelow (plan_of routes) limit past → Content (plan_of routes) past (record { birth = here.birth; request = q; at = (asking q asks).at }) q a → notes_in (plan_of routes) past w (Answer x a) ≡ written
-        → (KeepsRules (plan_of routes) workers limit ((record { worker = w; kind = Answer x a }) ∷ past) → JoinsStand routes ((record { worker = w; kind = Answer x a }) ∷ past) joins) → is_arrival a ≡ false
+        → (KeepsRules (plan_of routes) workers limit ((record { worker = w; kind = Answer x a }) ∷ past) → JoinsStand routes ((record { worker = w; kind = Answer x a }) ∷ past) joins) → is_arrival a ≡ false → is_fresh a ≡ false
         → Stands routes workers limit ((record { worker = w; kind = Answer x a }) ∷ past)
         (record t { rows = put_at t.rows (x - 1) (answered (length past) r); turns = t.turns + 1; notes = t.notes ++ written; joins = joins })
-    stands-on joins below content written_is joins_are still =
-        stands-with joins t.groups below content written_is joins_are (groups-stay routes w (Answer x a) past t.groups still st.groups)
+    stands-on joins below content written_is joins_are still unclaimed =
+        stands-with joins t.groups t.keys below content written_is joins_are (groups-stay routes w (Answer x a) past t.groups still st.groups) (keys-on routes w x a past t.keys unclaimed goes-on st.keys)
 
     -- and its joins are as they were, where it asked for none
     pub same-joins : born_by a ≡ None → IsNoJoin q → KeepsRules (plan_of routes) workers limit ((record { worker = w; kind = Answer x a }) ∷ past) → JoinsStand routes ((record { worker = w; kind = Answer x a }) ∷ past) t.joins
@@ -275,7 +280,7 @@ module _ {routes : RouteSet} {workers limit : ℕ} {past : Past} (t : Tables) (w
       let q : Request = request.Log name text in
       let note : List Note = (record { number = x; name = name; text = text }) ∷ [] in
       let written : notes_in (plan_of routes) past w (Answer x reply.Noted) ≡ note = rw (asked-here q asks, here.number) refl in
-      stands-on q reply.Noted note asks refl tt refl refl tt refl t.joins below tt written (same-joins q reply.Noted note asks refl tt refl refl tt refl refl tt) refl
+      stands-on q reply.Noted note asks refl tt refl refl tt refl t.joins below tt written (same-joins q reply.Noted note asks refl tt refl refl tt refl refl tt) refl refl
 
   -- the block of the route that it calls runs
   pub stands-entered : (route : ℕ) → state_of r ≡ state.Asks c (request.Call route) → IsBelow (plan_of routes) limit past
@@ -283,7 +288,7 @@ module _ {routes : RouteSet} {workers limit : ℕ} {past : Past} (t : Tables) (w
       (record t { rows = put_at t.rows (x - 1) (answered (length past) r); turns = t.turns + 1 })
   stands-entered route asks below =
       let q : Request = request.Call route in
-      rw (append-nil t.notes) at (stands-on q reply.Entered [] asks refl tt refl refl tt refl t.joins below tt (rw (asked-here q asks) refl) (same-joins q reply.Entered [] asks refl tt refl refl tt refl refl tt) refl)
+      rw (append-nil t.notes) at (stands-on q reply.Entered [] asks refl tt refl refl tt refl t.joins below tt (rw (asked-here q asks) refl) (same-joins q reply.Entered [] asks refl tt refl refl tt refl refl tt) refl refl)
 
   -- the queue that it offers to is full
   pub stands-full : (queue size : ℕ) (m : Message) → state_of r ≡ state.Asks c (request.Offer queue false m) → IsBelow (plan_of routes) limit past
@@ -292,7 +297,7 @@ module _ {routes : RouteSet} {workers limit : ℕ} {past : Past} (t : Tables) (w
       (record t { rows = put_at t.rows (x - 1) (answered (length past) r); turns = t.turns + 1 })
   stands-full queue size m asks below many full =
       let q : Request = request.Offer queue false m in
-      rw (append-nil t.notes) at (stands-on q (reply.Full size) [] asks refl tt refl refl tt refl t.joins below (many, full) (rw (asked-here q asks) refl) (same-joins q (reply.Full size) [] asks refl tt refl refl tt refl refl tt) refl)
+      rw (append-nil t.notes) at (stands-on q (reply.Full size) [] asks refl tt refl refl tt refl t.joins below (many, full) (rw (asked-here q asks) refl) (same-joins q (reply.Full size) [] asks refl tt refl refl tt refl refl tt) refl refl)
 
   -- and drops the copy
   pub stands-dropped : (queue : ℕ) (m : Message) → state_of r ≡ state.Asks c (request.Offer queue true m) → IsBelow (plan_of routes) limit past
@@ -301,7 +306,7 @@ module _ {routes : RouteSet} {workers limit : ℕ} {past : Past} (t : Tables) (w
       (record t { rows = put_at t.rows (x - 1) (answered (length past) r); turns = t.turns + 1 })
   stands-dropped queue m asks below full =
       let q : Request = request.Offer queue true m in
-      rw (append-nil t.notes) at (stands-on q reply.Dropped [] asks refl tt refl refl tt refl t.joins below full (rw (asked-here q asks) refl) (same-joins q reply.Dropped [] asks refl tt refl refl tt refl refl tt) refl)
+      rw (append-nil t.notes) at (stands-on q reply.Dropped [] asks refl tt refl refl tt refl t.joins below full (rw (asked-here q asks) refl) (same-joins q reply.Dropped [] asks refl tt refl refl tt refl refl tt) refl refl)
 
   -- the copy is refused by the full queue
   pub stands-refused : (queue : ℕ) (discard : Bool) (size : ℕ) (m : Message) → state_of r ≡ state.Asks c (request.Offer queue discard m) → IsBelow (plan_of routes) limit past
@@ -345,7 +350,7 @@ module _ {routes : RouteSet} {workers limit : ℕ} {past : Past} (t : Tables) (w
         let fit : fits q (reply.Joined parts) ≡ true = eq-eqb (length parts) count (joined-many (plan_of routes) past first count parts all) in
         rw (append-nil t.notes) at
         (stands-on q (reply.Joined parts) [] asks refl tt refl refl tt fit joins below all (rw (asked-here q asks) refl)
-        (λ legal. joins-closed routes workers limit w x (reply.Joined parts) past legal (goes-on q (reply.Joined parts) [] asks refl tt refl refl tt fit) joins refl took st.joins) refl)
+        (λ legal. joins-closed routes workers limit w x (reply.Joined parts) past legal (goes-on q (reply.Joined parts) [] asks refl tt refl refl tt fit) joins refl took st.joins) refl refl)
 
   -- the queue that it offers to is one of the set's
   pub offer-within : (queue : ℕ) (discard : Bool) (m : Message) → state_of r ≡ state.Asks c (request.Offer queue discard m) → queue < (plan_of routes).routes
@@ -419,7 +424,7 @@ module _ {routes : RouteSet} {workers limit : ℕ} {past : Past} (t : Tables) (w
         let none : notes_in (plan_of routes) past w (Answer x a) ≡ [] = rw (asked-here q asks) refl in
         let lives = answer-lives routes w x a past k (asked-here q asks) (λ h. cc h) (λ h. cc h) in
         rw (none, append-nil t.notes) at
-        (stands-own routes workers limit past t w x (Answer x a) (put_at t.rows (x - 1) new ++ copy ∷ []) t.ready t.taken (t.live + 1) queues t.joins t.sleepers t.groups st lw may-offer (of-answer w x a tt)
+        (stands-own routes workers limit past t w x (Answer x a) (put_at t.rows (x - 1) new ++ copy ∷ []) t.ready t.taken (t.live + 1) queues t.joins t.sleepers t.groups t.keys st lw may-offer (of-answer w x a tt)
         (λ legal. rw copy-made
         (related-push (RowStands routes ((record { worker = w; kind = Answer x a }) ∷ past)) (births (plan_of routes) past) (put_at t.rows (x - 1) new) _ copy
         (rows-one routes workers limit past t w x (x - 1) (Answer x a) r new st legal (of-answer w x a tt) above row (apart-lives routes workers limit w x (Answer x a) past legal (of-answer w x a tt) lives)
@@ -431,7 +436,8 @@ module _ {routes : RouteSet} {workers limit : ℕ} {past : Past} (t : Tables) (w
         (λ legal. queues-offered routes workers limit w x (length t.rows + 1) past k queue discard m t.queues queues legal (asked-here q asks) refl offers st.queues)
         (λ legal. joins-on routes workers limit w x a past legal lives refl (unopened routes past x k (asked-here q asks) tt) st.joins)
         (λ legal. sleepers-stay routes workers limit w (Answer x a) past t.sleepers legal refl st.sleepers)
-        (groups-stay routes w (Answer x a) past t.groups refl st.groups))
+        (groups-stay routes w (Answer x a) past t.groups refl st.groups)
+        (keys-on routes w x a past t.keys refl lives st.keys))
 
   -- it ends
   module _ (e : End) (m : Message) (asks : state_of r ≡ state.Asks c (request.Finish e m false)) where
@@ -509,27 +515,29 @@ module _ {routes : RouteSet} {workers limit : ℕ} {past : Past} (t : Tables) (w
           let legal = legal-add (plan_of routes) workers limit (record { worker = w; kind = Answer x reply.Finished }) past st.legal lw (may-finish below) in
           woken-within t st (record { worker = w; kind = Answer x reply.Finished }) x behind y is (moves legal.entries)
 
-      pub stands-finish : Stands routes workers limit ((record { worker = w; kind = Answer x reply.Finished }) ∷ past) (record t {
+      pub stands-finish : (keys : KeyTable) → Settles x (ending_of e) t.keys keys → Stands routes workers limit ((record { worker = w; kind = Answer x reply.Finished }) ∷ past) (record t {
         rows = rows_behind behind (put_at t.rows (x - 1) (finished e r));
         ready = ready_behind behind (without x t.ready);
         turns = t.turns + 1;
         live = t.live - 1;
         queues = queues;
         joins = joins;
+        keys = keys;
       })
-      stands-finish =
+      stands-finish keys settled =
           let q : Request = request.Finish e m false in
           let number : 1 + (x - 1) ≡ x = omega (arith, above) in
           let none : notes_in (plan_of routes) past w (Answer x reply.Finished) ≡ [] = rw (asked-here q asks) refl in
           let b : row_held (finished e r) ≡ false = ap state_held now-ended in
           let l : row_live (finished e r) ≡ false = ap state_live now-ended in
           rw (none, append-nil t.notes) at
-          (stands-end routes workers limit past t w x (x - 1) (Answer x reply.Finished) r (finished e r) (without x t.ready) t.taken (t.live - 1) queues joins behind st lw (may-finish below)
+          (stands-end routes workers limit past t w x (x - 1) (Answer x reply.Finished) r (finished e r) (without x t.ready) t.taken (t.live - 1) queues joins keys behind st lw (may-finish below)
           (of-answer w x reply.Finished tt) refl above row moves
           (λ d d_at h. row-ended routes (record { worker = w; kind = Answer x reply.Finished }) past d r (finished e r) h refl l (rw now-ended (has-done d d_at h)))
           (ap (without x) st.ready ∙ sym (rw number at (numbers-leave row_ready 1 t.rows (x - 1) (finished e r) (ap state_ready now-ended))))
           (rw (not-held q asks, b) refl) (let n = live-counts q asks in rw (was-live q asks, l) (omega (arith, n)))
-          (λ legal. queues-ended workers limit w x (Answer x reply.Finished) here.birth t.queues (leaving-answer x reply.Finished refl) legal here.at done-some st.queues r.born queues here.stands.born leaves) joins-told refl refl)
+          (λ legal. queues-ended workers limit w x (Answer x reply.Finished) here.birth t.queues (leaving-answer x reply.Finished refl) legal here.at done-some st.queues r.born queues here.stands.born leaves) joins-told refl refl
+          (keys-over routes workers limit past st.legal.entries w x (record { end = e; message = m }) alive t.keys keys settled st.keys reply.Finished refl ended-so))
 
 -- a Ready exchange is starved
 module _ {routes : RouteSet} {workers limit : ℕ} {past : Past} (t : Tables) (w x : ℕ) (r : Row) (st : Stands routes workers limit past t) (lw : w ≤ workers)
@@ -585,14 +593,15 @@ module _ {routes : RouteSet} {workers limit : ℕ} {past : Past} (t : Tables) (w
           let legal = legal-add (plan_of routes) workers limit (record { worker = w; kind = Starve x }) past st.legal lw (inl ready) in
           woken-within t st (record { worker = w; kind = Starve x }) x behind y is (starve-moves legal.entries)
 
-      pub stands-starve : Stands routes workers limit ((record { worker = w; kind = Starve x }) ∷ past) (record t {
+      pub stands-starve : (keys : KeyTable) → Settles x (ending_of out_of_memory) t.keys keys → Stands routes workers limit ((record { worker = w; kind = Starve x }) ∷ past) (record t {
         rows = rows_behind behind (put_at t.rows (x - 1) (closed_row stage.Starved r));
         ready = ready_behind behind (without x t.ready);
         live = t.live - 1;
         queues = queues;
         joins = joins;
+        keys = keys;
       })
-      stands-starve =
+      stands-starve keys settled =
           let s = plan_of routes in
           let within = row-within t x place_is.Ready st ready in
           let above : suc (x - 1) ≡ x = omega (arith, within.0) in
@@ -602,10 +611,11 @@ module _ {routes : RouteSet} {workers limit : ℕ} {past : Past} (t : Tables) (w
           let count = count-set row_live t.rows (x - 1) r (closed_row stage.Starved r) row in
           let live = ap bit facts.1 in
           rw (append-nil t.notes, add-zero t.turns) at
-          (stands-end routes workers limit past t w x (x - 1) (Starve x) r (closed_row stage.Starved r) (without x t.ready) t.taken (t.live - 1) queues joins behind st lw (inl ready) (of-starve w x) refl above row starve-moves
+          (stands-end routes workers limit past t w x (x - 1) (Starve x) r (closed_row stage.Starved r) (without x t.ready) t.taken (t.live - 1) queues joins keys behind st lw (inl ready) (of-starve w x) refl above row starve-moves
           (λ d d_at h.
           row-ended routes (record { worker = w; kind = Starve x }) past d r (closed_row stage.Starved r) h refl refl
           (subst (λ (n : ℕ). HasEnded routes ((record { worker = w; kind = Starve n }) ∷ past) d closing.Starved) (numbered-at 1 (births s past) (x - 1) d (births-numbered s past) d_at ∙ number) (has-starved routes past w d)))
           (ap (without x) st.ready ∙ sym (rw number at (numbers-leave row_ready 1 t.rows (x - 1) (closed_row stage.Starved r) refl)))
           (rw facts.0 refl) (omega (arith, count, live, st.live))
-          (λ legal. queues-ended workers limit w x (Starve x) starving.birth t.queues (leaving-starve x) legal starving.at starved-some st.queues r.born queues starving.stands.born leaves) joins-starved refl refl)
+          (λ legal. queues-ended workers limit w x (Starve x) starving.birth t.queues (leaving-starve x) legal starving.at starved-some st.queues r.born queues starving.stands.born leaves) joins-starved refl refl
+          (keys-starved routes workers limit past st.legal.entries w x (record { end = out_of_memory; message = starving.birth.message }) starve-alive t.keys keys settled st.keys starved-so))

@@ -36,7 +36,9 @@ use Rattle.eip_tables.specs.Queues.{QueuesStand}
 use Rattle.eip_tables.specs.Joins.{JoinsStand}
 use Rattle.eip_tables.specs.Sleepers.{SleepersStand}
 use Rattle.eip_tables.specs.Groups.{GroupsStand}
+use Rattle.eip_tables.specs.Keys.{KeysStand}
 use Rattle.eip_aggregator.specs.Tables.{Table}
+use Rattle.eip_idempotent.specs.Keys.{Table as KeyTable}
 use Rattle.eip_history.specs.TableWords.{moves_groups}
 use Rattle.eip_tables.specs.Rows.{RowStands, row_ready, row_held, row_live}
 use Rattle.eip_tables.specs.Stands.{Tables, Stands}
@@ -71,7 +73,7 @@ abbrev pub notes_in : Plan → Past → ℕ → Kind → List Note
 notes_in s past w k = filter_map (λ (v : Served). note_for v.asked.birth.number v.asked.request v.answer) (served_in s past w k)
 
 -- the tables behind an entry of an exchange; the rows, and the Ready numbers and counts that follow from them, are told
-pub stands-own : (set : RouteSet) (workers limit : ℕ) (past : Past) (t : Tables) (w x : ℕ) (k : Kind) (rows : List Row) (ready : List ℕ) (taken live : ℕ) (queues : List QueueView) (joins : List (ℕ × Open)) (sleepers : List (ℕ × ℕ)) (groups : Table)
+pub stands-own : (set : RouteSet) (workers limit : ℕ) (past : Past) (t : Tables) (w x : ℕ) (k : Kind) (rows : List Row) (ready : List ℕ) (taken live : ℕ) (queues : List QueueView) (joins : List (ℕ × Open)) (sleepers : List (ℕ × ℕ)) (groups : Table) (keys : KeyTable)
     → Stands set workers limit past t → w ≤ workers → May (plan_of set) limit past w k → IsOfOne w x k
     → (KeepsRules (plan_of set) workers limit ((record { worker = w; kind = k }) ∷ past)
     → Related (RowStands set ((record { worker = w; kind = k }) ∷ past)) (births (plan_of set) ((record { worker = w; kind = k }) ∷ past)) rows)
@@ -80,9 +82,10 @@ pub stands-own : (set : RouteSet) (workers limit : ℕ) (past : Past) (t : Table
     → (KeepsRules (plan_of set) workers limit ((record { worker = w; kind = k }) ∷ past) → JoinsStand set ((record { worker = w; kind = k }) ∷ past) joins)
     → (KeepsRules (plan_of set) workers limit ((record { worker = w; kind = k }) ∷ past) → SleepersStand set ((record { worker = w; kind = k }) ∷ past) sleepers)
     → GroupsStand set ((record { worker = w; kind = k }) ∷ past) groups
+    → KeysStand set ((record { worker = w; kind = k }) ∷ past) keys
     → Stands set workers limit ((record { worker = w; kind = k }) ∷ past)
-    (record t { rows = rows; ready = ready; turns = t.turns + turns_in k; notes = t.notes ++ notes_in (plan_of set) past w k; taken = taken; live = live; queues = queues; joins = joins; sleepers = sleepers; groups = groups })
-stands-own routes workers limit past t w x k rows ready taken live queues joins sleepers groups st lw may of rows_are ready_is taken_is live_is queues_are joins_are sleepers_are groups_are =
+    (record t { rows = rows; ready = ready; turns = t.turns + turns_in k; notes = t.notes ++ notes_in (plan_of set) past w k; taken = taken; live = live; queues = queues; joins = joins; sleepers = sleepers; groups = groups; keys = keys })
+stands-own routes workers limit past t w x k rows ready taken live queues joins sleepers groups keys st lw may of rows_are ready_is taken_is live_is queues_are joins_are sleepers_are groups_are keys_are =
     let e : Entry = record { worker = w; kind = k } in
     let s = plan_of routes in
     let legal = legal-add s workers limit e past st.legal lw may in
@@ -103,6 +106,7 @@ stands-own routes workers limit past t w x k rows ready taken live queues joins 
       clock = st.clock ∙ sym (clock-same e past of.no_tick);
       sleepers = sleepers_are legal.entries;
       groups = groups_are;
+      keys = keys_are;
     }
 
 -- nobody but x stands elsewhere behind an entry
@@ -144,7 +148,7 @@ rows-one routes workers limit past t w x i k old new st legal of x_is at apart h
     (λ b b_at. here b b_at (related-at (RowStands routes past) (births s past) t.rows i b old st.rows b_at at)) st.rows
 
 -- the tables behind an entry of the exchange at i that moves nobody else and lets nobody be born; its row, and the Ready numbers and counts that follow from it, are told
-pub stands-beside : (set : RouteSet) (workers limit : ℕ) (past : Past) (t : Tables) (w x i : ℕ) (k : Kind) (old new : Row) (ready : List ℕ) (taken live : ℕ) (queues : List QueueView) (joins : List (ℕ × Open)) (sleepers : List (ℕ × ℕ)) (groups : Table)
+pub stands-beside : (set : RouteSet) (workers limit : ℕ) (past : Past) (t : Tables) (w x i : ℕ) (k : Kind) (old new : Row) (ready : List ℕ) (taken live : ℕ) (queues : List QueueView) (joins : List (ℕ × Open)) (sleepers : List (ℕ × ℕ)) (groups : Table) (keys : KeyTable)
     → Stands set workers limit past t → w ≤ workers → May (plan_of set) limit past w k → IsOfOne w x k → simple_births (plan_of set) past k ≡ [] → suc i ≡ x
     → slice_get t.rows i ≡ Some old
     → (KeepsRules (plan_of set) workers limit ((record { worker = w; kind = k }) ∷ past) → StandsApart set past (record { worker = w; kind = k }) x)
@@ -154,20 +158,21 @@ pub stands-beside : (set : RouteSet) (workers limit : ℕ) (past : Past) (t : Ta
     → (KeepsRules (plan_of set) workers limit ((record { worker = w; kind = k }) ∷ past) → JoinsStand set ((record { worker = w; kind = k }) ∷ past) joins)
     → (KeepsRules (plan_of set) workers limit ((record { worker = w; kind = k }) ∷ past) → SleepersStand set ((record { worker = w; kind = k }) ∷ past) sleepers)
     → GroupsStand set ((record { worker = w; kind = k }) ∷ past) groups
+    → KeysStand set ((record { worker = w; kind = k }) ∷ past) keys
     → Stands set workers limit ((record { worker = w; kind = k }) ∷ past)
-    (record t { rows = put_at t.rows i new; ready = ready; turns = t.turns + turns_in k; notes = t.notes ++ notes_in (plan_of set) past w k; taken = taken; live = live; queues = queues; joins = joins; sleepers = sleepers; groups = groups })
-stands-beside routes workers limit past t w x i k old new ready taken live queues joins sleepers groups st lw may of none x_is at apart here ready_is taken_is live_is queues_are joins_are sleepers_are groups_are =
+    (record t { rows = put_at t.rows i new; ready = ready; turns = t.turns + turns_in k; notes = t.notes ++ notes_in (plan_of set) past w k; taken = taken; live = live; queues = queues; joins = joins; sleepers = sleepers; groups = groups; keys = keys })
+stands-beside routes workers limit past t w x i k old new ready taken live queues joins sleepers groups keys st lw may of none x_is at apart here ready_is taken_is live_is queues_are joins_are sleepers_are groups_are keys_are =
     let e : Entry = record { worker = w; kind = k } in
     let s = plan_of routes in
-    stands-own routes workers limit past t w x k (put_at t.rows i new) ready taken live queues joins sleepers groups st lw may of
+    stands-own routes workers limit past t w x k (put_at t.rows i new) ready taken live queues joins sleepers groups keys st lw may of
     (λ legal. rw (births-same routes workers limit e past legal (st.simple, of.simple) none) (rows-one routes workers limit past t w x i k old new st legal of x_is at (apart legal) here))
     ready_is
     (let c = count-set row_held t.rows i old new at in omega (arith, c, taken_is, st.taken))
     (let c = count-set row_live t.rows i old new at in omega (arith, c, live_is, st.live))
-    queues_are joins_are sleepers_are groups_are
+    queues_are joins_are sleepers_are groups_are keys_are
 
 -- and one by which no group grows or closes
-pub stands-one : (set : RouteSet) (workers limit : ℕ) (past : Past) (t : Tables) (w x i : ℕ) (k : Kind) (old new : Row) (ready : List ℕ) (taken live : ℕ) (queues : List QueueView) (joins : List (ℕ × Open)) (sleepers : List (ℕ × ℕ))
+pub stands-one : (set : RouteSet) (workers limit : ℕ) (past : Past) (t : Tables) (w x i : ℕ) (k : Kind) (old new : Row) (ready : List ℕ) (taken live : ℕ) (queues : List QueueView) (joins : List (ℕ × Open)) (sleepers : List (ℕ × ℕ)) (keys : KeyTable)
     → Stands set workers limit past t → w ≤ workers → May (plan_of set) limit past w k → IsOfOne w x k → simple_births (plan_of set) past k ≡ [] → suc i ≡ x
     → slice_get t.rows i ≡ Some old
     → (KeepsRules (plan_of set) workers limit ((record { worker = w; kind = k }) ∷ past) → StandsApart set past (record { worker = w; kind = k }) x)
@@ -176,12 +181,12 @@ pub stands-one : (set : RouteSet) (workers limit : ℕ) (past : Past) (t : Table
     → (KeepsRules (plan_of set) workers limit ((record { worker = w; kind = k }) ∷ past) → QueuesStand set ((record { worker = w; kind = k }) ∷ past) queues)
     → (KeepsRules (plan_of set) workers limit ((record { worker = w; kind = k }) ∷ past) → JoinsStand set ((record { worker = w; kind = k }) ∷ past) joins)
     → (KeepsRules (plan_of set) workers limit ((record { worker = w; kind = k }) ∷ past) → SleepersStand set ((record { worker = w; kind = k }) ∷ past) sleepers)
-    → moves_groups k ≡ false
+    → moves_groups k ≡ false → KeysStand set ((record { worker = w; kind = k }) ∷ past) keys
     → Stands set workers limit ((record { worker = w; kind = k }) ∷ past)
-    (record t { rows = put_at t.rows i new; ready = ready; turns = t.turns + turns_in k; notes = t.notes ++ notes_in (plan_of set) past w k; taken = taken; live = live; queues = queues; joins = joins; sleepers = sleepers })
-stands-one routes workers limit past t w x i k old new ready taken live queues joins sleepers st lw may of none x_is at apart here ready_is taken_is live_is queues_are joins_are sleepers_are still =
-    stands-beside routes workers limit past t w x i k old new ready taken live queues joins sleepers t.groups st lw may of none x_is at apart here ready_is taken_is live_is queues_are joins_are sleepers_are
-    (groups-stay routes w k past t.groups still st.groups)
+    (record t { rows = put_at t.rows i new; ready = ready; turns = t.turns + turns_in k; notes = t.notes ++ notes_in (plan_of set) past w k; taken = taken; live = live; queues = queues; joins = joins; sleepers = sleepers; keys = keys })
+stands-one routes workers limit past t w x i k old new ready taken live queues joins sleepers keys st lw may of none x_is at apart here ready_is taken_is live_is queues_are joins_are sleepers_are still keys_are =
+    stands-beside routes workers limit past t w x i k old new ready taken live queues joins sleepers t.groups keys st lw may of none x_is at apart here ready_is taken_is live_is queues_are joins_are sleepers_are
+    (groups-stay routes w k past t.groups still st.groups) keys_are
 
 -- behind an entry of x the parent y, which has waited for parts, is ready again, and nobody else moves
 pub record IsWoken (set : RouteSet) (past : Past) (e : Entry) (x y : ℕ) : Type 0 where
@@ -220,4 +225,5 @@ stands-look routes workers limit past t i old new st at here ready held live =
       clock = st.clock;
       sleepers = st.sleepers;
       groups = st.groups;
+      keys = st.keys;
     }

@@ -49,6 +49,7 @@ use Rattle.eip_table_laws.proofs.JoinsKept.{awaits, unborn-lives, joins-born}
 use Rattle.eip_table_laws.proofs.QueueCalls.{queues-on}
 use Rattle.eip_table_laws.proofs.SleepersKept.{sleepers-stay}
 use Rattle.eip_table_laws.proofs.GroupsKept.{groups-stay}
+use Rattle.eip_table_laws.proofs.KeysKept.{keys-on}
 use Rattle.eip_table_laws.proofs.OwnEvents.{stands-own, rows-one, apart-lives, notes_in, of-answer}
 use Rattle.eip_table_laws.proofs.OwnCalls.{IsAt, is-at, row-within, rows-many, asked-by-fate, asks-fields, hops-told}
 use Rattle.eip_table_laws.proofs.OfferCalls.{few-asked}
@@ -282,7 +283,7 @@ module _ {routes : RouteSet} {workers limit : ℕ} {past : Past} (t : Tables) (w
         let l' : row_live new ≡ true = ap state_live now-joining in
         let hops = hops-here in
         rw (none, append-nil t.notes) at
-        (stands-own routes workers limit past t w x (Answer x a) (rows ++ parts) (without x t.ready ++ numbers_from n (length seeds)) t.taken (t.live + length seeds) t.queues joins t.sleepers t.groups st lw may-born (of-answer w x a tt)
+        (stands-own routes workers limit past t w x (Answer x a) (rows ++ parts) (without x t.ready ++ numbers_from n (length seeds)) t.taken (t.live + length seeds) t.queues joins t.sleepers t.groups t.keys st lw may-born (of-answer w x a tt)
         (λ legal. rw born-now
         (related-behind (RowStands routes (e ∷ past)) (births s past) (seed_births p n i seeds) rows parts
         (rows-one routes workers limit past t w x (x - 1) (Answer x a) r new st legal (of-answer w x a tt) above row (apart-lives routes workers limit w x (Answer x a) past legal (of-answer w x a tt) born-lives)
@@ -296,4 +297,5 @@ module _ {routes : RouteSet} {workers limit : ℕ} {past : Past} (t : Tables) (w
         (λ legal. queues-on routes workers limit w x a past here.birth t.queues legal refl here.at born-lives st.queues)
         (λ legal. joins-born routes workers limit w x a past legal born-lives n (length seeds) joins refl (sym next-is) began (let q = within in let all = rows-many t st in omega (arith, q.1, all)) st.joins)
         (λ legal. sleepers-stay routes workers limit w (Answer x a) past t.sleepers legal refl st.sleepers)
-        (groups-stay routes w (Answer x a) past t.groups refl st.groups))
+        (groups-stay routes w (Answer x a) past t.groups refl st.groups)
+        (keys-on routes w x a past t.keys refl born-lives st.keys))

@@ -33,6 +33,7 @@ use Rattle.eip_table_laws.proofs.RowSteps.{has-answer}
 use Rattle.eip_table_laws.proofs.PartFacts.{unopened, answer-lives}
 use Rattle.eip_table_laws.proofs.JoinsKept.{joins-on}
 use Rattle.eip_table_laws.proofs.SleepersKept.{is-awake, sleepers-asleep, sleepers-awake}
+use Rattle.eip_table_laws.proofs.KeysKept.{keys-on}
 use Rattle.eip_table_laws.proofs.QueueCalls.{queues-on}
 use Rattle.eip_table_laws.proofs.OwnEvents.{stands-one, apart-lives, notes_in, of-answer}
 use Rattle.eip_table_laws.proofs.OwnCalls.{IsAt, is-at, row-within, asked-by-fate, asks-fields}
@@ -122,14 +123,14 @@ module _ {routes : RouteSet} {workers limit : ℕ} {past : Past} (t : Tables) (w
         let l : row_live new ≡ true = ap state_live now-asleep in
         let lives = slept-lives due in
         rw (none-written, append-nil t.notes) at
-        (stands-one routes workers limit past t w x (x - 1) (Answer x a) r new (without x t.ready) t.taken t.live t.queues t.joins sleepers st lw may-sleep (of-answer w x a tt) refl above row
+        (stands-one routes workers limit past t w x (x - 1) (Answer x a) r new (without x t.ready) t.taken t.live t.queues t.joins sleepers t.keys st lw may-sleep (of-answer w x a tt) refl above row
         (λ legal. apart-lives routes workers limit w x (Answer x a) past legal (of-answer w x a tt) lives)
         (λ d d_at g. row-on routes (record { worker = w; kind = Answer x a }) past d r new g refl refl refl (was-live ∙ sym l) (rw now-asleep (has-slept due (place_is.Retry due) d d_at (rw later refl) g)))
         (ap (without x) st.ready ∙ sym (rw number at (numbers-leave row_ready 1 t.rows (x - 1) new (ap state_ready now-asleep))))
         (rw (was-held, h) refl) (rw (was-live, l) refl)
         (λ legal. queues-on routes workers limit w x a past here.birth t.queues legal refl here.at lives st.queues)
         (λ legal. joins-on routes workers limit w x a past legal lives refl (unopened routes past x waits asked-here tt) st.joins)
-        (λ legal. sleepers-asleep routes workers limit w x due past legal lives sleepers later slept st.sleepers) refl)
+        (λ legal. sleepers-asleep routes workers limit w x due past legal lives sleepers later slept st.sleepers) refl (keys-on routes w x a past t.keys refl lives st.keys))
 
     -- its moment is not beyond the clock, so it goes on
     now-awake : state_of (answered (length past) r) ≡ state.Answered c (length past)
@@ -146,11 +147,11 @@ module _ {routes : RouteSet} {workers limit : ℕ} {past : Past} (t : Tables) (w
         let l : row_live new ≡ true = ap state_live now-awake in
         let lives = slept-lives due in
         rw (none-written, append-nil t.notes) at
-        (stands-one routes workers limit past t w x (x - 1) (Answer x a) r new t.ready t.taken t.live t.queues t.joins t.sleepers st lw may-sleep (of-answer w x a tt) refl above row
+        (stands-one routes workers limit past t w x (x - 1) (Answer x a) r new t.ready t.taken t.live t.queues t.joins t.sleepers t.keys st lw may-sleep (of-answer w x a tt) refl above row
         (λ legal. apart-lives routes workers limit w x (Answer x a) past legal (of-answer w x a tt) lives)
         (λ d d_at g. row-on routes (record { worker = w; kind = Answer x a }) past d r new g refl refl refl (was-live ∙ sym l) (rw now-awake (has-slept due place_is.Ready d d_at (rw passed refl) g)))
         (st.ready ∙ sym (numbers-stay row_ready 1 t.rows (x - 1) r new row (was-ready ∙ sym (ap state_ready now-awake))))
         (rw (was-held, h) refl) (rw (was-live, l) refl)
         (λ legal. queues-on routes workers limit w x a past here.birth t.queues legal refl here.at lives st.queues)
         (λ legal. joins-on routes workers limit w x a past legal lives refl (unopened routes past x waits asked-here tt) st.joins)
-        (λ legal. sleepers-awake routes workers limit w x due past legal lives passed ready st.sleepers) refl)
+        (λ legal. sleepers-awake routes workers limit w x due past legal lives passed ready st.sleepers) refl (keys-on routes w x a past t.keys refl lives st.keys))

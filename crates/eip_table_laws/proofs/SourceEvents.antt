@@ -42,6 +42,8 @@ use Rattle.eip_table_laws.proofs.QueueCalls.{queues-stay}
 use Rattle.eip_table_laws.proofs.JoinsKept.{joins-stay}
 use Rattle.eip_table_laws.proofs.SleepersKept.{sleepers-stay}
 use Rattle.eip_table_laws.proofs.GroupsKept.{groups-stay}
+use Rattle.eip_table_laws.proofs.KeysKept.{keys-stay}
+use Rattle.eip_history.specs.Kept.{moves_keys}
 use Rattle.eip_table_laws.proofs.RowPlaces.{row-other, entry-new}
 
 pub get-set-same : {A : Type 0} (xs : List A) (i : ℕ) (x : A) → i < length xs → slice_get (put_at xs i x) i ≡ Some x
@@ -107,6 +109,7 @@ pub record IsOfSource (w t : ℕ) (k : Kind) : Type 0 where
   pub joins : moves_joins k ≡ false
   pub wakeful : moves_sleepers k ≡ false
   pub still : moves_groups k ≡ false
+  pub keyless : moves_keys k ≡ false
   pub silent : answer_in k ≡ []
   pub fed : is_starve k ≡ false
   pub no_tick : (n : ℕ) → ticked k n ≡ n
@@ -163,22 +166,23 @@ stands-source routes workers limit past t w r k was after pulled st lw may withi
       clock = st.clock ∙ sym (clock-same e past of.no_tick);
       sleepers = sleepers-stay routes workers limit w k past t.sleepers legal.entries of.wakeful st.sleepers;
       groups = groups-stay routes w k past t.groups of.still st.groups;
+      keys = keys-stay routes w k past t.keys of.keyless st.keys;
     }
 
 pub of-pull : (w t : ℕ) → IsOfSource w t (Pull t)
-of-pull w t = record { nobody = λ x. refl; others = λ u was ne. rw (not-same u t ne) refl; simple = tt; waits = refl; works = refl; joins = refl; wakeful = refl; still = refl; silent = refl; fed = refl; no_tick = λ n. refl }
+of-pull w t = record { nobody = λ x. refl; others = λ u was ne. rw (not-same u t ne) refl; simple = tt; waits = refl; works = refl; joins = refl; wakeful = refl; still = refl; keyless = refl; silent = refl; fed = refl; no_tick = λ n. refl }
 
 pub of-accept : (w t : ℕ) (item : List ℕ) (m : Message) → IsOfSource w t (Accept t item m)
-of-accept w t item m = record { nobody = λ x. refl; others = λ u was ne. rw (not-same u t ne) refl; simple = tt; waits = refl; works = refl; joins = refl; wakeful = refl; still = refl; silent = refl; fed = refl; no_tick = λ n. refl }
+of-accept w t item m = record { nobody = λ x. refl; others = λ u was ne. rw (not-same u t ne) refl; simple = tt; waits = refl; works = refl; joins = refl; wakeful = refl; still = refl; keyless = refl; silent = refl; fed = refl; no_tick = λ n. refl }
 
 pub of-refuse : (w t : ℕ) (item : List ℕ) (c : Refused) → IsOfSource w t (Refuse t item c)
-of-refuse w t item c = record { nobody = λ x. refl; others = λ u was ne. rw (not-same u t ne) refl; simple = tt; waits = refl; works = refl; joins = refl; wakeful = refl; still = refl; silent = refl; fed = refl; no_tick = λ n. refl }
+of-refuse w t item c = record { nobody = λ x. refl; others = λ u was ne. rw (not-same u t ne) refl; simple = tt; waits = refl; works = refl; joins = refl; wakeful = refl; still = refl; keyless = refl; silent = refl; fed = refl; no_tick = λ n. refl }
 
 pub of-end : (w t : ℕ) → IsOfSource w t (SourceEnd t)
-of-end w t = record { nobody = λ x. refl; others = λ u was ne. rw (not-same u t ne) refl; simple = tt; waits = refl; works = refl; joins = refl; wakeful = refl; still = refl; silent = refl; fed = refl; no_tick = λ n. refl }
+of-end w t = record { nobody = λ x. refl; others = λ u was ne. rw (not-same u t ne) refl; simple = tt; waits = refl; works = refl; joins = refl; wakeful = refl; still = refl; keyless = refl; silent = refl; fed = refl; no_tick = λ n. refl }
 
 pub of-fault : (w t : ℕ) → IsOfSource w t (SourceFault t)
-of-fault w t = record { nobody = λ x. refl; others = λ u was ne. rw (not-same u t ne) refl; simple = tt; waits = refl; works = refl; joins = refl; wakeful = refl; still = refl; silent = refl; fed = refl; no_tick = λ n. refl }
+of-fault w t = record { nobody = λ x. refl; others = λ u was ne. rw (not-same u t ne) refl; simple = tt; waits = refl; works = refl; joins = refl; wakeful = refl; still = refl; keyless = refl; silent = refl; fed = refl; no_tick = λ n. refl }
 
 -- the row of a newborn stands for it
 newborn-row : (set : RouteSet) (workers limit : ℕ) (past : Past) (w r : ℕ) (item : List ℕ) (m : Message) → KeepsRules (plan_of set) workers limit ((record { worker = w; kind = Accept r item m }) ∷ past)
@@ -229,4 +233,5 @@ stands-accept routes workers limit past t w r item m st lw may =
       clock = st.clock ∙ sym (clock-same e past of.no_tick);
       sleepers = sleepers-stay routes workers limit w k past t.sleepers legal.entries refl st.sleepers;
       groups = groups-stay routes w k past t.groups refl st.groups;
+      keys = keys-stay routes w k past t.keys refl st.keys;
     }

@@ -42,6 +42,7 @@ use Rattle.eip_table_laws.proofs.RowTicks.{rows-ticked, count-roused, roused-hel
 use Rattle.eip_table_laws.proofs.GroupLists.{only-one}
 use Rattle.eip_table_laws.proofs.GroupLaws.{gathers}
 use Rattle.eip_table_laws.proofs.GroupsKept.{later, groups-ticked, groups-forced}
+use Rattle.eip_table_laws.proofs.KeysKept.{keys-stay}
 use Rattle.eip_table_laws.proofs.GroupShut.{shut_group, are-shut, groups-stand}
 use Rattle.eip_table_laws.proofs.GroupRows.{groups-ready, groups-live, groups-free, told-more}
 
@@ -154,6 +155,7 @@ module _ {set : RouteSet} {workers limit : ℕ} {past : Past} (t : Tables) (w : 
           clock = sym (clock-ticked w now past);
           sleepers = told-stand set (ticks ∷ past) (roused_rows now t.rows ++ group_rows set (length t.rows + 1) closed) sleepers tick-rows (told-more set (length t.rows + 1) closed (roused_rows now t.rows) sleepers told);
           groups = groups-ticked set w now past t.groups kept ticked st.groups;
+          keys = keys-stay set w (Tick now) past t.keys refl st.keys;
         }
 
   module _ (closed : List Closed) (kept : Table) (may : May (plan_of set) limit past w Force)
@@ -200,4 +202,5 @@ module _ {set : RouteSet} {workers limit : ℕ} {past : Past} (t : Tables) (w : 
           clock = st.clock ∙ sym (clock-same forces past (λ n. refl));
           sleepers = sleepers-stay set workers limit w Force past t.sleepers force-legal refl st.sleepers;
           groups = groups-forced set w past t.groups kept forced st.groups;
+          keys = keys-stay set w Force past t.keys refl st.keys;
         }

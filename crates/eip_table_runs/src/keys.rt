@@ -1,4 +1,4 @@
-use eip_exchange::End;
+use eip_exchange::Ending;
 use eip_idempotent::{Offered, Repo};
 use eip_text::{NoMemory, Text, decimal};
 use std::alloc::Global;
@@ -30,9 +30,9 @@ fn end_all(repo: &mut Repo, count: u64) {
     for turn in 0..count {
         let number = mixed(turn, count);
         if number % 2 == 0 {
-            repo.settle(number, &End::Completed);
+            repo.settle(number, Ending::Completed);
         } else {
-            repo.settle(number, &End::Handled);
+            repo.settle(number, Ending::Handled);
         }
     }
 }
@@ -70,7 +70,7 @@ pub fn wrong_holder(alloc: Global, count: u64) -> Result<Option<u64>, NoMemory> 
     }
     for turn in 0..count {
         let number = count - 1 - turn;
-        repo.settle(number, &End::Completed);
+        repo.settle(number, Ending::Completed);
         if repo.offer(&repository, &key, count, false, true)? != Offered::Duplicate(number) {
             return Ok(Some(number));
         }

@@ -1,4 +1,4 @@
-use eip_exchange::{End, Fault};
+use eip_exchange::Ending;
 use eip_idempotent::{Offered, Repo};
 use eip_table_runs::keys::{first_wrong, wrong_holder};
 use eip_text::{NoMemory, Text};
@@ -14,18 +14,9 @@ enum Step {
     Fail(u64),
 }
 
-/// The end of an exchange that couldn't send.
-fn failed(alloc: Global) -> Result<End, NoMemory> {
-    Ok(End::Failed(Fault {
-        kind: Text::of_str(alloc, "SendFailed")?,
-        text: Text::of_str(alloc, "lane:x")?,
-    }))
-}
-
 /// What the offers of one key are answered among these steps.
 fn answers(alloc: Global, eager: bool, remove: bool, steps: &[Step]) -> Result<String, NoMemory> {
     let (repository, key) = (Text::of_str(alloc, "in")?, Text::of_str(alloc, "k")?);
-    let failure = failed(alloc)?;
     let mut repo = Repo::new(alloc);
     let mut answers = Vec::new(alloc);
     for step in steps {
@@ -33,9 +24,9 @@ fn answers(alloc: Global, eager: bool, remove: bool, steps: &[Step]) -> Result<S
             Step::Offer(number) => {
                 answers.push(repo.offer(&repository, &key, *number, eager, remove)?)?;
             }
-            Step::Complete(number) => repo.settle(*number, &End::Completed),
-            Step::Handle(number) => repo.settle(*number, &End::Handled),
-            Step::Fail(number) => repo.settle(*number, &failure),
+            Step::Complete(number) => repo.settle(*number, Ending::Completed),
+            Step::Handle(number) => repo.settle(*number, Ending::Handled),
+            Step::Fail(number) => repo.settle(*number, Ending::Failed),
         }
     }
     Ok(format!(in alloc; "{answers:?}")?)

@@ -16,9 +16,10 @@ inner_kind (request.Offer q discard m) = asked.Copy
 inner_kind (request.Spawn seeds) = asked.Parts
 inner_kind (request.Join first count) = asked.Ends
 inner_kind (request.Arrive a key m) = asked.Group
+inner_kind (request.Idem r k eager remove) = asked.Key
 inner_kind (request.Wait ticks) = asked.Moment
 inner_kind (request.Finish e m commit) = asked.End
-inner_kind _ = asked.Other
+inner_kind _ = asked.Outside
 
 -- the kind of answer that a request waits for
 abbrev pub asked_kind : Request → Asked
@@ -58,6 +59,14 @@ pub record AsksGroup (known : List (Option Request)) (x : ℕ) : Type 0 where
   pub key : List ℕ
   pub message : Message
   pub asks : slice_get known (x - 1) ≡ Some (Some (request.Arrive aggregator key message))
+
+-- it offers a key
+pub record AsksKey (known : List (Option Request)) (x : ℕ) : Type 0 where
+  pub repository : List ℕ
+  pub key : List ℕ
+  pub eager : Bool
+  pub remove : Bool
+  pub asks : slice_get known (x - 1) ≡ Some (Some (request.Idem repository key eager remove))
 
 -- it asks to wait
 pub record AsksMoment (known : List (Option Request)) (x : ℕ) : Type 0 where

@@ -10,6 +10,7 @@ pub mod Queues
 pub mod Joins
 pub mod Sleepers
 pub mod Groups
+pub mod Keys
 pub mod Stands
 pub mod Asking
 pub mod Outside

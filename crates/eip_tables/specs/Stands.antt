@@ -14,6 +14,7 @@ use Rattle.eip_plan.specs.Simple.{AnswersSimply}
 use Rattle.eip_seda.specs.Consuming.{QueueView}
 use Rattle.eip_join.specs.Parts.{Open}
 use Rattle.eip_aggregator.specs.Tables.{Table}
+use Rattle.eip_idempotent.specs.Keys.{Table as KeyTable}
 use Rattle.eip_tables.specs.declared.row.Row.{Row}
 use Rattle.eip_tables.specs.declared.row.SourceState.{SourceState}
 use Rattle.eip_tables.specs.Numbers.{row_numbers, row_count}
@@ -21,6 +22,7 @@ use Rattle.eip_tables.specs.Queues.{QueuesStand}
 use Rattle.eip_tables.specs.Joins.{JoinsStand}
 use Rattle.eip_tables.specs.Sleepers.{SleepersStand}
 use Rattle.eip_tables.specs.Groups.{GroupsStand}
+use Rattle.eip_tables.specs.Keys.{KeysStand}
 use Rattle.eip_tables.specs.Rows.{RowStands, SourcesStand, row_ready, row_held, row_live}
 
 pub record Tables : Type 0 where
@@ -51,11 +53,13 @@ pub record Tables : Type 0 where
   pub sleepers : List (ℕ × ℕ)
   -- the open groups of the aggregators
   pub groups : Table
+  -- who claimed and who holds each key
+  pub keys : KeyTable
 
 -- the tables stand for the history of a set, a fact for each table
 pub record Stands (set : RouteSet) (workers limit : ℕ) (past : Past) (t : Tables) : Type 0 where
   pub legal : IsLegal (plan_of set) workers limit past
-  -- nothing but requests that take no key is answered yet
+  -- nothing but requests whose answers the tables know is answered
   pub simple : AnswersSimply past
   pub rows : Related (RowStands set past) (births (plan_of set) past) t.rows
   pub ready : t.ready ≡ row_numbers row_ready 1 t.rows
@@ -71,3 +75,4 @@ pub record Stands (set : RouteSet) (workers limit : ℕ) (past : Past) (t : Tabl
   pub clock : t.clock ≡ clock past
   pub sleepers : SleepersStand set past t.sleepers
   pub groups : GroupsStand set past t.groups
+  pub keys : KeysStand set past t.keys

@@ -19,14 +19,14 @@ pub enum Asked {
     Ends,
     /// A group is to be joined.
     Group,
+    /// A key is offered.
+    Key,
     /// A moment is to come.
     Moment,
     /// It is to end.
     End,
     /// Somebody outside is to answer.
     Outside,
-    /// Something else is to be done, which is not done yet.
-    Other,
     /// There is no request.
     Unknown,
 }
@@ -51,9 +51,10 @@ fn kind_of(request: &Request) -> Asked
         Request::Spawn { .. } => Asked::Parts,
         Request::Join { .. } => Asked::Ends,
         Request::Arrive { .. } => Asked::Group,
+        Request::Idem { .. } => Asked::Key,
         Request::Wait { .. } => Asked::Moment,
         Request::Finish { .. } => Asked::End,
-        _ => Asked::Other,
+        _ => Asked::Outside,
     }
 }
 

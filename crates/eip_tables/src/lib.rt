@@ -6,6 +6,7 @@ pub mod around;
 pub mod asking;
 pub mod groups;
 pub mod joins;
+pub mod keys;
 pub mod notes;
 pub mod origin;
 pub mod parts;

@@ -1,7 +1,7 @@
 use Rattle.std.proofs.Common.{◌≡◌, Some, arith}
 use Rattle.std.proofs.lemmas.Grind.{common_steps}
 use Rattle.eip_command.specs.Words.{command_of}
-use Rattle.eip_command.proofs.Paths.{command_is}
+use Rattle.eip_command.proofs.Commands.{command_is}
 use Rattle.eip_command.proofs.words.read_words.Goals as goal
 
 pub returns-clause-file : goal.returns-clause-file

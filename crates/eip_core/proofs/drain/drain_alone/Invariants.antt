@@ -9,7 +9,7 @@ abbrev pub invariant-loop-stop : goal.invariant-loop-stop
 invariant-loop-stop g l =
     record {
       home : hands (plan l.hub) l.hub.journal.past ≡ 0;
-      drains : Drains l.initial.hub l.hub (g.L.Lanes.views l.initial.lanes) (g.L.Lanes.views l.lanes) (g.I.Inlets.views l.initial.inlets) (g.I.Inlets.views l.inlets);
+      drains : Drains l.initial.hub l.hub (g.L.Lanes.views l.initial.lanes) (g.L.Lanes.views l.lanes) (g.I.Inlets.views l.initial.inlets) (g.I.Inlets.views l.inlets) (g.R.Registered.view l.registry);
     }
 
 abbrev pub decreases-loop-stop : goal.decreases-loop-stop

@@ -1,7 +1,12 @@
 use Rattle.eip_core.proofs.Acts.{pulled, pulled-out, drains-pull, drains-pulled, acts-pulled, ends-accept, ends-refuse, ends-source_end, ends-source_fault, no-acts}
 use Rattle.eip_core.proofs.Compose.{drains-still}
 use Rattle.eip_endpoint.proofs.LaneLaws.{LanesGrew-none}
+use Rattle.eip_core.proofs.Handed.{runs-inlets}
 use Rattle.eip_core.proofs.drain.pull_once.Goals as goal
+
+pub pull_source-requires : goal.pull_source-requires
+pull_source-requires g c =
+    rw (c.set.ensures, c.in-Some.ensures.enters.adds.same.set) (runs-inlets c.requires.can_run c.in-Some.source c.in-Some.ensures.may.0)
 
 pub move_on-requires-clause-no_source : goal.move_on-requires-clause-no_source
 move_on-requires-clause-no_source g c = rw c.in_default.ensures.none c.in_default.ensures.exact

@@ -12,7 +12,7 @@ unreachable-requires g c =
 pub answer_of-requires-clause-can_run : goal.answer_of-requires-clause-can_run
 answer_of-requires-clause-can_run g c =
     let t = taken c.requires.chosen c.requires.known c.in-Some.ensures.may.0 c.in-Some.ensures.least c.in-Some.ensures.enters.adds c.in-Some.ensures.place c.in-Some.ensures.asked c.take.ensures.legal in
-    still-runs (drains-taken _ _ t) c.requires.can_run
+    still-runs {r = g.R.Registered.view c.args.registry.now} (drains-taken _ _ t) c.requires.can_run
 
 pub settle-requires-clause-fits : goal.settle-requires-clause-fits
 settle-requires-clause-fits g c =

@@ -11,7 +11,7 @@ invariant-loop-stop g l =
     record {
       home : hands (plan l.hub) l.hub.journal.past ≡ 0;
       turns_same : turns l.hub.journal.past ≡ l.before;
-      drains : Drains l.initial.hub l.hub (g.L.Lanes.views l.initial.lanes) (g.L.Lanes.views l.lanes) (g.I.Inlets.views l.initial.inlets) (g.I.Inlets.views l.inlets);
+      drains : Drains l.initial.hub l.hub (g.L.Lanes.views l.initial.lanes) (g.L.Lanes.views l.lanes) (g.I.Inlets.views l.initial.inlets) (g.I.Inlets.views l.inlets) (g.R.Registered.view l.registry);
     }
 
 abbrev pub decreases-loop-stop : goal.decreases-loop-stop

@@ -6,4 +6,4 @@ drain_alone-stop-requires-clause-home c = none-out c.args.hub.now c.requires.pas
 
 pub drain_alone-stop-requires-clause-can_run : goal.drain_alone-stop-requires-clause-can_run
 drain_alone-stop-requires-clause-can_run c =
-    rw (c.new-lanes.ensures.items, c.in_ok-inlets.ensures) c.requires.can_run
+    rw (c.new-lanes.ensures.items, c.in_ok-inlets.ensures, c.new-registry.ensures.processors, c.new-registry.ensures.predicates) c.requires.can_run

@@ -1,5 +1,5 @@
 use Rattle.std.proofs.Common.{Some, is_some, ap, sym, ◌∙◌}
-use Rattle.eip_exchange.specs.declared.end.End.{End}
+use Rattle.eip_exchange.specs.declared.end.Ending.{Ending}
 use Rattle.std.specs.Prelude.{Bool}
 use Rattle.eip_idempotent.specs.Keys.{settled, is_held}
 use Rattle.eip_idempotent.proofs.Lookups.{row_settled}
@@ -7,7 +7,7 @@ use Rattle.eip_idempotent.proofs.keys.settle_claim.Goals as goal
 
 pub returns-in-Some : goal.returns-in-Some
 returns-in-Some c =
-    row_settled c.args.keys.now.entries (c.get_mut.follows.lender c.settle.new.self).entries c.args.number c.args.end.now c.args.claim.now c.key.result.now c.in-Some.holders.now c.settle.new.self
+    row_settled c.args.keys.now.entries (c.get_mut.follows.lender c.settle.new.self).entries c.args.number c.args.ending c.args.claim.now c.key.result.now c.in-Some.holders.now c.settle.new.self
     c.key.ensures
     c.in-Some.ensures.value
     (c.settle.ensures

@@ -1,4 +1,7 @@
-use Rattle.std.proofs.Common.{arith, ◌≡◌, ◌-◌, false, ap, ◌∙◌}
+use Rattle.std.proofs.Common.{arith, ◌≡◌, ◌-◌, false, Some, sym, ap, subst, ◌∙◌}
+use Rattle.eip_exchange.specs.declared.end.Ending.{Ending}
+use Rattle.eip_exchange.specs.Ends.{ending_of}
+use Rattle.eip_tables.specs.Keys.{Settles, ending_asked}
 use Rattle.eip_ledger.specs.declared.place.Place.TheVariants.{Ready}
 use Rattle.eip_frames.specs.declared.request.Request.TheVariants as request
 use Rattle.eip_tables.specs.Moves.{finished, finished_asked, finished_by, end_asked}
@@ -85,12 +88,14 @@ invariant_of-self-2 c =
     let q = known-request c.self.inside.rows.items (c.args.number - 1) c.get-row.result.now (request.Finish c.requires.end.end c.requires.end.message false) c.get-row.ensures asks in
     let ended : finished_asked c.get-row.result.now ≡ finished c.requires.end.end c.get-row.result.now = ap (λ o. finished_by (end_asked o) c.get-row.result.now) q in
     let tells = rw (c.finish_asked-ended.ensures.ended c.get-row.result.now c.get-row.ensures, c.in_ok-told.ensures) at c.tell-woken.ensures.tells in
+    let told : Some c.in-Some.ending ≡ Some (ending_of c.requires.end.end) = sym c.in-Some.is ∙ (c.ending_asked.ensures ∙ ap ending_asked q) in
+    let ending : c.in-Some.ending ≡ ending_of c.requires.end.end = cc in
     let room = c.in_ok-make_room.ensures.journal in
     let more = c.in_ok-reserve.ensures.ok in
     record {
       stands = rw (c.append_answer.ensures.past, c.append_answer.ensures.workers, c.append_answer.ensures.turns, c.make_room.ensures.past, c.make_room.ensures.workers, c.make_room.ensures.turns, c.make_room.ensures.items, c.wake.ensures.rows, c.finish_asked-ended.ensures.items c.get-row.result.now c.get-row.ensures, c.wake.ensures.numbers, c.remove.ensures.numbers, c.reserve.ensures.numbers, ended)
           (stands-finish (tables_of c.self.inside) c.args.worker c.args.number c.self.invariant.stands (rw (← c.self.view_is) at c.requires.worker) k.0 c.get-row.result.now (rw (← c.self.view_is) at c.requires.ready) c.get-row.ensures
-          c.requires.end.end c.requires.end.message k.1 c.leave.new.queues c.tell-woken.new.joins c.tell-woken.result (rw (← c.self.view_is) at c.requires.below) c.leave.ensures.leaves tells c.tell-woken.ensures.woken);
+          c.requires.end.end c.requires.end.message k.1 c.leave.new.queues c.tell-woken.new.joins c.tell-woken.result (rw (← c.self.view_is) at c.requires.below) c.leave.ensures.leaves tells c.tell-woken.ensures.woken c.settle.new.self (subst (λ (v : Ending). Settles c.args.number v c.self.inside.keys c.settle.new.self) ending c.settle.ensures));
       few = c.self.invariant.few;
       room_small = c.self.invariant.room_small;
       room_journal = omega (arith, room, c.append_answer.ensures.spare);

@@ -73,7 +73,7 @@ invariant_of-self c =
     record {
       stands = rw (c.append_reserved.ensures.past, c.append_reserved.ensures.workers, c.append_reserved.ensures.turns, c.wake.ensures.rows, c.starve-ended.ensures.items c.get-row.result.now c.get-row.ensures, c.wake.ensures.numbers)
           (stands-give-up (tables_of c.self.inside) c.args.ticket.worker c.args.ticket.number c.self.invariant.stands (rw (← c.self.view_is) at c.requires.worker) c.get-row.result.now c.get-row.ensures placed
-          c.leave.new.queues c.tell-woken.new.joins c.tell-woken.result c.leave.ensures.leaves tells c.tell-woken.ensures.woken);
+          c.leave.new.queues c.tell-woken.new.joins c.tell-woken.result c.leave.ensures.leaves tells c.tell-woken.ensures.woken c.settle.new.self c.settle.ensures);
       few = c.self.invariant.few;
       room_small = c.self.invariant.room_small;
       room_journal = omega (arith, n, c.append_reserved.ensures.spare, c.self.invariant.room_journal);

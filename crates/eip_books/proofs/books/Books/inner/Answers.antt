@@ -1,5 +1,5 @@
 use Rattle.std.proofs.Common.{◌∙◌, sym}
-use Rattle.eip_table_laws.proofs.InnerCalls.{kind-line, kind-route, kind-copy, kind-parts, kind-ends, kind-moment, kind-group, kind-end}
+use Rattle.eip_table_laws.proofs.InnerCalls.{kind-line, kind-route, kind-copy, kind-parts, kind-ends, kind-moment, kind-group, kind-key, kind-end}
 use Rattle.eip_books.proofs.books.Books.inner.Goals as goal
 
 pub note-requires-clause-line : goal.note-requires-clause-line
@@ -25,3 +25,6 @@ wait-requires-clause-moment c = let known = c.in_ok-look.ensures.known in kind-m
 
 pub arrive-requires-clause-group : goal.arrive-requires-clause-group
 arrive-requires-clause-group c = let known = c.in_ok-look.ensures.known in kind-group c.look.new.self.known c.args.number known.0 known.1 (sym (c.asked.ensures.kind known.0 known.1) ∙ c.in-Group.is)
+
+pub claim-requires-clause-key : goal.claim-requires-clause-key
+claim-requires-clause-key c = let known = c.in_ok-look.ensures.known in kind-key c.look.new.self.known c.args.number known.0 known.1 (sym (c.asked.ensures.kind known.0 known.1) ∙ c.in-Key.is)

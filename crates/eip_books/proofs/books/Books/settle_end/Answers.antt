@@ -1,4 +1,6 @@
-use Rattle.std.proofs.Common.{arith, ◌-◌, sym, ◌∙◌}
+use Rattle.std.proofs.Common.{arith, ◌-◌, sym, subst, ◌∙◌}
+use Rattle.eip_exchange.specs.declared.end.Ending.{Ending}
+use Rattle.eip_tables.specs.Keys.{Settles}
 use Rattle.eip_ledger.specs.declared.place.Place.TheVariants.{InHand}
 use Rattle.eip_books.specs.Facts.{tables_of}
 use Rattle.eip_tables.specs.State.{row_outside}
@@ -16,7 +18,7 @@ invariant_of-self c =
     let n = taken-above (tables_of c.self.inside) c.args.worker c.args.number c.self.invariant.stands (rw (← c.self.view_is) at c.requires.worker) c.get.result.now c.get.ensures placed in
     record {
       stands = rw (c.append_answer.ensures.past, c.append_answer.ensures.workers, c.append_answer.ensures.turns, c.end_by.ensures.items c.get.result.now c.get.ensures)
-          (stands-settle-end (tables_of c.self.inside) c.args.worker c.args.number c.self.invariant.stands (rw (← c.self.view_is) at c.requires.worker) c.get.result.now c.get.ensures placed asked.0 c.args.end c.args.answer asked.1 asked.2 asked.3 c.leave.new.queues c.leave.ensures.leaves);
+          (stands-settle-end (tables_of c.self.inside) c.args.worker c.args.number c.self.invariant.stands (rw (← c.self.view_is) at c.requires.worker) c.get.result.now c.get.ensures placed asked.0 c.args.end c.args.answer asked.1 asked.2 asked.3 c.leave.new.queues c.settle.new.self c.leave.ensures.leaves (subst (λ (v : Ending). Settles c.args.number v c.self.inside.keys c.settle.new.self) c.ending_by.ensures c.settle.ensures));
       few = c.self.invariant.few;
       room_small = c.self.invariant.room_small;
       room_journal = omega (arith, n);

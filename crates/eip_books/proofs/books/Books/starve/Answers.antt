@@ -63,7 +63,7 @@ invariant_of-self c =
     record {
       stands = rw (c.append_reserved.ensures.past, c.append_reserved.ensures.workers, c.append_reserved.ensures.turns, c.wake.ensures.rows, c.starve-ended.ensures.items c.get-row.result.now c.get-row.ensures, c.wake.ensures.numbers, c.remove.ensures.numbers)
           (stands-starve (tables_of c.self.inside) c.args.worker c.args.number c.get-row.result.now c.self.invariant.stands (rw (← c.self.view_is) at c.requires.worker) (rw (← c.self.view_is) at c.requires.ready) c.get-row.ensures
-          c.close.new.joins c.close.ensures c.leave.new.queues c.tell-woken.new.joins c.tell-woken.result c.leave.ensures.leaves tells c.tell-woken.ensures.woken);
+          c.close.new.joins c.close.ensures c.leave.new.queues c.tell-woken.new.joins c.tell-woken.result c.leave.ensures.leaves tells c.tell-woken.ensures.woken c.settle.new.self c.settle.ensures);
       few = c.self.invariant.few;
       room_small = omega (arith, room, c.self.invariant.room_small);
       room_journal = omega (arith, room, c.append_reserved.ensures.spare, c.self.invariant.room_journal);

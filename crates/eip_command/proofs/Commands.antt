@@ -1,0 +1,139 @@
+-- Words that are a command are those of that command.
+use Rattle.std.proofs.Common.{◌≡◌, ℕ, ◌≤◌, Bool, true, false, cond, List, [], ◌∷◌, Option, Some, None, refl, sym, ap, ◌∙◌, arith, codes, drop, subst}
+use Rattle.std.specs.Prelude.{nat_le, unwrap_or}
+use Rattle.std.specs.Fmt.{digits, decimal}
+use Rattle.std.proofs.lemmas.Bool.{and_parts, leb-true}
+use Rattle.std.proofs.lemmas.Option.{same_Some}
+use Rattle.std.specs.Str.{bytes_eq}
+use Rattle.std.proofs.lemmas.Slice.Eq.{bytes_eq-Decides}
+use Rattle.eip_text.specs.Counts.{count_of}
+use Rattle.eip_text.proofs.CountLemmas.{count_is}
+use Rattle.eip_text.proofs.Cutting.{guarded}
+use Rattle.eip_command.specs.declared.words.Command.{Command}
+use Rattle.eip_command.specs.declared.words.Command.TheVariants as command
+use Rattle.eip_command.specs.declared.words.Verb.TheVariants as verb
+use Rattle.eip_command.specs.Forms.{Options, is_path, is_between, fits, are_pairs, follow}
+use Rattle.eip_command.specs.declared.forms.Rule.TheVariants as rule
+use Rattle.eip_command.specs.Words.{drain_options, turns_in, journal_in, items_in, command_by, first_file, command_of, IsOn, SaysOptions, IsDrain, IsLoad, IsCommand, IsFile}
+use Rattle.eip_command.proofs.Paths.{file_is}
+use Rattle.eip_command.proofs.Said.{Says, options-said}
+
+-- ---- the words are those of the command
+
+-- a path, and these words behind it
+pub record IsPath (behind words : List (List ℕ)) : Type 0 where
+  pub path : List ℕ
+  pub said : words ≡ path ∷ behind
+  pub fit : is_path path ≡ true
+
+one-path : (os : Options) (words : List (List ℕ)) → follow (rule.Path ∷ []) os words ≡ true → (behind : List (List ℕ)) × IsPath behind words × (are_pairs os behind ≡ true)
+one-path os [] h = absurd cc
+one-path os (path ∷ behind) h =
+    let both = and_parts (is_path path) (are_pairs os behind) h in
+    (behind, record { path = path; said = refl; fit = both.0 }, both.1)
+
+no-pairs : (words : List (List ℕ)) → are_pairs [] words ≡ true → words ≡ []
+no-pairs [] h = refl
+no-pairs (w ∷ []) h = absurd (cc h)
+no-pairs (w ∷ (v ∷ words)) h = absurd (cc h)
+
+is-on : (first word : List ℕ) (behind words : List (List ℕ)) → bytes_eq first word ≡ true → IsPath behind words → IsOn first behind (word ∷ words) (first_file words)
+is-on first word behind words e is = record {
+  path = is.path;
+  said = ap (λ (w : List ℕ). w ∷ words) (sym ((bytes_eq-Decides first word).0 e)) ∙ ap (λ (ws : List (List ℕ)). first ∷ ws) is.said;
+  fit = is.fit;
+  file = subst (IsFile is.path) (sym (ap first_file is.said)) (file_is is.path);
+}
+
+is-drain : (word : List ℕ) (words : List (List ℕ)) → bytes_eq (codes "drain") word ≡ true → follow (rule.Path ∷ []) drain_options words ≡ true
+    → IsDrain (word ∷ words) (first_file words) (turns_in (drop 1 words)) (journal_in (drop 1 words))
+is-drain word words e h =
+    let p = one-path drain_options words h in
+    let same : drop 1 words ≡ p.0 = ap (λ (ws : List (List ℕ)). drop 1 ws) p.1.said in
+    let t : Says (drop 1 words) (turns_in (drop 1 words)) (journal_in (drop 1 words)) =
+    subst (λ (ws : List (List ℕ)). Says ws (turns_in ws) (journal_in ws)) (sym same) (options-said p.0 p.2) in
+    record {
+      behind = p.0;
+      on = is-on (codes "drain") word p.0 words e p.1;
+      says = subst (λ (ws : List (List ℕ)). SaysOptions ws (turns_in (drop 1 words)) (journal_in (drop 1 words))) same t.says;
+      some = t.some;
+      most = t.most;
+    }
+
+is-check : (word : List ℕ) (words : List (List ℕ)) → bytes_eq (codes "check") word ≡ true → follow (rule.Path ∷ []) [] words ≡ true
+    → IsOn (codes "check") [] (word ∷ words) (first_file words)
+is-check word words e h =
+    let p = one-path [] words h in
+    subst (λ (ws : List (List ℕ)). IsOn (codes "check") ws (word ∷ words) (first_file words)) (no-pairs p.0 p.2) (is-on (codes "check") word p.0 words e p.1)
+
+zero-digit : decimal 0 ≡ codes "0"
+unfolding digits
+zero-digit = refl
+
+-- a load's number of items, and of workers
+record IsLoadOf (words : List (List ℕ)) : Type 0 where
+  pub said : words ≡ decimal (items_in words) ∷ (codes "0" ∷ [])
+  pub some : 1 ≤ items_in words
+  pub most : items_in words ≤ 20000
+
+-- a word that is a number from the first to the second is its decimal text
+counted : (least most : ℕ) (word : List ℕ) → fits (rule.Count least most) word ≡ true → (n : ℕ) × (count_of word ≡ Some n) × (word ≡ decimal n) × (least ≤ n) × (n ≤ most)
+counted least most word h = by_count (count_of word) refl h
+  where
+    by_count : (o : Option ℕ) → count_of word ≡ o → is_between least most o ≡ true
+        → (n : ℕ) × (count_of word ≡ Some n) × (word ≡ decimal n) × (least ≤ n) × (n ≤ most)
+    by_count None e f = absurd (cc f)
+    by_count (Some n) e f =
+        let both = and_parts (nat_le least n) (nat_le n most) f in
+        (n, e, (count_is word n e).1, leb-true least n both.0, leb-true n most both.1)
+
+two-counts : (words : List (List ℕ)) → follow (rule.Count 1 20000 ∷ rule.Count 0 0 ∷ []) [] words ≡ true → IsLoadOf words
+two-counts [] h = absurd (cc h)
+two-counts (word ∷ []) h = absurd (cc (and_parts (fits (rule.Count 1 20000) word) false h).1)
+two-counts (word ∷ (workers ∷ rest)) h =
+    let first = and_parts (fits (rule.Count 1 20000) word) _ h in
+    let second = and_parts (fits (rule.Count 0 0) workers) _ first.1 in
+    let n = counted 1 20000 word first.0 in
+    let m = counted 0 0 workers second.0 in
+    let items : items_in (word ∷ (workers ∷ rest)) ≡ n.0 = ap (λ (o : Option ℕ). unwrap_or o 0) n.1 in
+    let none : m.0 ≡ 0 = omega (arith, m.4) in
+    let zero_word : workers ≡ codes "0" = m.2 ∙ ap decimal none ∙ zero-digit in
+    record {
+      said = ap (λ (w : List ℕ). w ∷ (workers ∷ rest)) (n.2 ∙ ap decimal (sym items))
+          ∙ ap (λ (w : List ℕ). decimal (items_in (word ∷ (workers ∷ rest))) ∷ (w ∷ rest)) zero_word
+          ∙ ap (λ (ws : List (List ℕ)). decimal (items_in (word ∷ (workers ∷ rest))) ∷ (codes "0" ∷ ws)) (no-pairs rest second.1);
+      some = omega (arith, items, n.3);
+      most = omega (arith, items, n.4);
+    }
+
+is-load : (word : List ℕ) (words : List (List ℕ)) → bytes_eq (codes "load") word ≡ true → follow (rule.Count 1 20000 ∷ rule.Count 0 0 ∷ []) [] words ≡ true
+    → IsLoad (word ∷ words) (items_in words)
+is-load word words e h =
+    let p = two-counts words h in
+    record {
+      said = ap (λ (w : List ℕ). w ∷ words) (sym ((bytes_eq-Decides (codes "load") word).0 e)) ∙ ap (λ (ws : List (List ℕ)). codes "load" ∷ ws) p.said;
+      some = p.some;
+      most = p.most;
+    }
+
+asked-by : (b d l : Bool) (word : List ℕ) (words : List (List ℕ)) (c : Command) → bytes_eq (codes "drain") word ≡ b → bytes_eq (codes "check") word ≡ d
+    → bytes_eq (codes "load") word ≡ l
+    → command_by (cond b (Some verb.Drain) (cond d (Some verb.Check) (cond l (Some verb.Load) None))) words ≡ Some c → IsCommand (word ∷ words) c
+asked-by true d l word words c is_drain is_check is_load e =
+    let made : Command = command.Drain (first_file words) (turns_in (drop 1 words)) (journal_in (drop 1 words)) in
+    let g = guarded (follow (rule.Path ∷ []) drain_options words) (Some made) c e in
+    subst (IsCommand (word ∷ words)) (same_Some made c g.1) (is-drain word words is_drain g.0)
+asked-by false true l word words c is_drain is_check is_load e =
+    let made : Command = command.Check (first_file words) in
+    let g = guarded (follow (rule.Path ∷ []) [] words) (Some made) c e in
+    subst (IsCommand (word ∷ words)) (same_Some made c g.1) (is-check word words is_check g.0)
+asked-by false false true word words c is_drain is_check is_load e =
+    let made : Command = command.Load (items_in words) in
+    let g = guarded (follow (rule.Count 1 20000 ∷ rule.Count 0 0 ∷ []) [] words) (Some made) c e in
+    subst (IsCommand (word ∷ words)) (same_Some made c g.1) (is-load word words is_load g.0)
+asked-by false false false word words c is_drain is_check is_load e = absurd (cc e)
+
+pub command_is : (words : List (List ℕ)) (c : Command) → command_of words ≡ Some c → IsCommand words c
+command_is [] c e = absurd cc
+command_is (word ∷ words) c e =
+    asked-by (bytes_eq (codes "drain") word) (bytes_eq (codes "check") word) (bytes_eq (codes "load") word) word words c refl refl refl e

@@ -1,0 +1,8 @@
+use Rattle.std.proofs.Common.{◌≡◌, ◌-◌, length, take}
+use Rattle.eip_core.proofs.served.names_of_predicates.Given as goal
+
+abbrev pub invariant-loop-name : goal.invariant-loop-name
+invariant-loop-name g l = l.names.items ≡ take (length l.names.items) (g.R.Registered.view l.registry).predicates
+
+abbrev pub decreases-loop-name : goal.decreases-loop-name
+decreases-loop-name g l = length (g.R.Registered.view l.registry).predicates - length l.names.items

@@ -1,0 +1,5 @@
+pub mod Draws
+pub mod Items
+pub mod Sources
+pub mod Routes
+pub mod Example
