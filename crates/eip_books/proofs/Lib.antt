@@ -1,3 +1,4 @@
 pub mod Waking
 pub mod Rousing
 pub mod OpenGroups
+pub mod OwnedCalls

@@ -1,9 +1,9 @@
 ghost use Rattle.std.specs.Prelude.{◌≡◌, ◌+◌, ◌-◌, ◌<◌, ◌≤◌, [], ℕ, length, IfOk, OnOk, OnErr, Some, slice_get, IfSome, IfNone, IsTrue, ◌↔◌, ◌≢◌, ◌==◌, None, true, false};
-ghost use Rattle.eip_ledger.specs.declared.entry.Kind.TheVariants.{Pull, Accept, Refuse, SourceEnd, SourceFault, Take, Answer as Answered};
+ghost use Rattle.eip_ledger.specs.declared.entry.Kind.TheVariants.{Pull, Accept, Refuse, SourceEnd, SourceFault, Start, Take, Answer as Answered};
 ghost use Rattle.eip_history.specs.Births.{births, groups, asked};
 ghost use Rattle.eip_history.specs.Own.{turns};
 ghost use Rattle.eip_ledger.specs.declared.place.Place.TheVariants.{Ready, InHand};
-ghost use Rattle.eip_history.specs.Place.{ready_numbers, place};
+ghost use Rattle.eip_history.specs.Place.{ready_numbers, place, is_startable};
 ghost use Rattle.eip_history.specs.Rules.{May, first, startable, IsBelow, outside_asked, any_group};
 ghost use Rattle.eip_history.specs.Stop.{stop_of, is_over, will_close};
 ghost use Rattle.eip_plan.specs.Simple.{AnswersSimply};
@@ -487,6 +487,33 @@ impl Books {
         let queue = self.queues.first_startable()? as u32;
         let Some(number) = self.queues.start(queue) else {
             unreachable!()
+        };
+        self.rows.start(number);
+        self.ready.put_in(number);
+        self.journal.append_reserved(Entry {
+            worker,
+            kind: Kind::Start { queue, number },
+        });
+        self.room -= 1;
+        Some(number)
+    }
+
+    /// The first exchange that waits in this queue leaves it. None exactly where nobody waits there or each of its consumers is at work.
+    pub fn start_in(&mut self, worker: u32, queue: u32) -> Option<u64>
+        requires worker { worker ≤ self.old.journal.workers }
+        requires queue { queue < length self.old.set.routes }
+        requires below { IsBelow (plan self.old) self.old.journal.turns self.old.journal.past }
+        requires room { 1 ≤ self.old.room }
+        ensures may { IfSome result (λ x. May (plan self.old) self.old.journal.turns self.old.journal.past worker (Start queue x)) }
+        ensures adds { IfSome result (λ x. Adds self.old self.new worker (Start queue x)) }
+        ensures room { IfSome result (λ _. self.new.room + 1 ≡ self.old.room) }
+        ensures none { IfNone result (self.new ≡ self.old) }
+        ensures exact { IfNone result (is_startable (plan self.old) self.old.journal.past queue ≡ false) }
+        ensures outside { self.new.outside ≡ self.old.outside }
+        ensures legal { IsLegalRun self.new }
+    {
+        let Some(number) = self.queues.start(queue) else {
+            return None;
         };
         self.rows.start(number);
         self.ready.put_in(number);

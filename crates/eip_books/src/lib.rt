@@ -5,6 +5,7 @@ pub mod books;
 mod ends;
 mod groups;
 mod keys;
+mod owned;
 mod parts;
 mod sleep;
 pub mod ticket;

@@ -2,14 +2,19 @@ ghost use Rattle.eip_line.specs.Lanes.{untold_calls};
 ghost use Rattle.eip_line.specs.Sources.{untold_items, untold_commits};
 ghost use Rattle.eip_cli.specs.Doors.{lane_faults_of, inlet_faults_of};
 
-use eip_endpoint::{CommitFault, Endpoint, Files, Mover, PullFault, Pulled, SendFault, Source};
+use eip_endpoint::{
+    CommitFault, Endpoint, Files, Mover, PullFault, Pulled, SendFault, Sink, SinkFault, Source,
+};
 use eip_exchange::{End, Message};
 use eip_file::{FileLane, FileSource};
 use eip_frames::Target;
+use eip_host::SharedProgress;
 use eip_line::{LineLane, LineSource, Link};
 use eip_load::LoadSource;
 use eip_text::Text;
 use eip_uri::Uri;
+use std::io::Write;
+use std::time::Clock;
 
 // The host's lanes and inlets, each kind as one type.
 
@@ -74,5 +79,32 @@ impl<A: Link + Send + Drop, F: Mover + Send + Drop, K: Link + Send + Drop> Sourc
             HostInlet::Lines(source) => source.commit(from, item, end),
             HostInlet::Loads(source) => source.commit(from, item, end),
         }
+    }
+}
+
+/// An output before whose writes the count of taken items is wiped, where there is one. It writes what it writes without that.
+#[derive(Drop)]
+pub struct Wiping<O, C, W> {
+    pub out: O,
+    pub progress: Option<SharedProgress<C, W>>,
+}
+
+impl<O: Sink, C: Clock, W: Write> Sink for Wiping<O, C, W> {
+    ghost bytes = { λ w. O.bytes w.out };
+
+    ghost sink_faults = { λ w. O.sink_faults w.out };
+
+    fn write(&mut self, piece: &[u8]) -> Result<(), SinkFault> {
+        if let Some(progress) = &self.progress {
+            wipe(progress);
+        }
+        self.out.write(piece)
+    }
+}
+
+/// Wipes a count. One that is in use is left as it is.
+fn wipe<C: Clock, W: Write>(progress: &SharedProgress<C, W>) {
+    if let Some(mut progress) = progress.try_lock() {
+        progress.wipe();
     }
 }

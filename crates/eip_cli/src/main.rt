@@ -6,6 +6,7 @@ mod doors;
 mod objects;
 
 use answer::answer;
+use doors::Wiping;
 use eip_host::{
     HostFileSystem, HostFiles, HostNetwork, Output, Progress, ReaderLink, SharedProgress, words_of,
 };
@@ -33,18 +34,16 @@ fn main(rt: HostRuntime) -> ExitCode {
     let taken = HostFiles::new(alloc, HostFileSystem { runtime: rt });
     let called = PeerLink::new(alloc, HostNetwork::new(alloc, rt));
     let heard = PeerLink::new(alloc, HostNetwork::new(alloc, rt));
+    let progress = progress(rt);
     answer(
         alloc,
         words_of(alloc, env::args(&rt)),
-        handed_in(
-            alloc,
-            input,
-            (written, taken),
-            (called, heard),
-            &progress(rt),
-        ),
+        handed_in(alloc, input, (written, taken), (called, heard), &progress),
         &mut HostFiles::new(alloc, HostFileSystem { runtime: rt }),
         &mut patterns(alloc),
-        &mut Output::new(rt.stdout()),
+        &mut Wiping {
+            out: Output::new(rt.stdout()),
+            progress,
+        },
     )
 }

@@ -14,7 +14,7 @@ use Rattle.eip_command.specs.declared.words.Command.TheVariants as command
 use Rattle.eip_command.specs.declared.words.Verb.TheVariants as verb
 use Rattle.eip_command.specs.Forms.{Options, is_path, is_between, fits, are_pairs, follow}
 use Rattle.eip_command.specs.declared.forms.Rule.TheVariants as rule
-use Rattle.eip_command.specs.Words.{drain_options, turns_in, journal_in, items_in, command_by, first_file, command_of, IsOn, SaysOptions, IsDrain, IsLoad, IsCommand, IsFile}
+use Rattle.eip_command.specs.Words.{drain_options, turns_in, journal_in, items_in, command_by, file_at, first_file, second_file, command_of, IsOn, IsOnTwo, SaysOptions, IsDrain, IsLoad, IsCommand, IsFile}
 use Rattle.eip_command.proofs.Paths.{file_is}
 use Rattle.eip_command.proofs.Said.{Says, options-said}
 
@@ -66,6 +66,26 @@ is-check word words e h =
     let p = one-path [] words h in
     subst (λ (ws : List (List ℕ)). IsOn (codes "check") ws (word ∷ words) (first_file words)) (no-pairs p.0 p.2) (is-on (codes "check") word p.0 words e p.1)
 
+-- two paths, and nothing behind them
+two-paths : (words : List (List ℕ)) → follow (rule.Path ∷ rule.Path ∷ []) [] words ≡ true
+    → (second : List ℕ) × IsPath (second ∷ []) words × (is_path second ≡ true) × (second_file words ≡ file_at second)
+two-paths [] h = absurd (cc h)
+two-paths (one ∷ words) h =
+    let both = and_parts (is_path one) _ h in
+    let p = one-path [] words both.1 in
+    let said : words ≡ p.1.path ∷ [] = p.1.said ∙ ap (λ (ws : List (List ℕ)). p.1.path ∷ ws) (no-pairs p.0 p.2) in (
+      p.1.path,
+      record { path = one; said = ap (λ (ws : List (List ℕ)). one ∷ ws) said; fit = both.0 },
+      p.1.fit,
+      ap first_file said,
+    )
+
+is-on-two : (first word : List ℕ) (words : List (List ℕ)) → bytes_eq first word ≡ true → follow (rule.Path ∷ rule.Path ∷ []) [] words ≡ true
+    → IsOnTwo first (word ∷ words) (first_file words) (second_file words)
+is-on-two first word words e h =
+    let p = two-paths words h in
+    record { path = p.0; on = is-on first word (p.0 ∷ []) words e p.1; fit = p.2; file = subst (IsFile p.0) (sym p.3) (file_is p.0) }
+
 zero-digit : decimal 0 ≡ codes "0"
 unfolding digits
 zero-digit = refl
@@ -116,24 +136,34 @@ is-load word words e h =
       most = p.most;
     }
 
-asked-by : (b d l : Bool) (word : List ℕ) (words : List (List ℕ)) (c : Command) → bytes_eq (codes "drain") word ≡ b → bytes_eq (codes "check") word ≡ d
-    → bytes_eq (codes "load") word ≡ l
-    → command_by (cond b (Some verb.Drain) (cond d (Some verb.Check) (cond l (Some verb.Load) None))) words ≡ Some c → IsCommand (word ∷ words) c
-asked-by true d l word words c is_drain is_check is_load e =
+asked-by : (b d a l m : Bool) (word : List ℕ) (words : List (List ℕ)) (c : Command) → bytes_eq (codes "drain") word ≡ b → bytes_eq (codes "check") word ≡ d
+    → bytes_eq (codes "audit") word ≡ a → bytes_eq (codes "load") word ≡ l → bytes_eq (codes "migrate") word ≡ m
+    → command_by (cond b (Some verb.Drain) (cond d (Some verb.Check) (cond a (Some verb.Audit) (cond l (Some verb.Load) (cond m (Some verb.Migrate) None))))) words ≡ Some c
+    → IsCommand (word ∷ words) c
+asked-by true d a l m word words c is_drain is_check is_audit is_load is_move e =
     let made : Command = command.Drain (first_file words) (turns_in (drop 1 words)) (journal_in (drop 1 words)) in
     let g = guarded (follow (rule.Path ∷ []) drain_options words) (Some made) c e in
     subst (IsCommand (word ∷ words)) (same_Some made c g.1) (is-drain word words is_drain g.0)
-asked-by false true l word words c is_drain is_check is_load e =
+asked-by false true a l m word words c is_drain is_check is_audit is_load is_move e =
     let made : Command = command.Check (first_file words) in
     let g = guarded (follow (rule.Path ∷ []) [] words) (Some made) c e in
     subst (IsCommand (word ∷ words)) (same_Some made c g.1) (is-check word words is_check g.0)
-asked-by false false true word words c is_drain is_check is_load e =
+asked-by false false true l m word words c is_drain is_check is_audit is_load is_move e =
+    let made : Command = command.Audit (first_file words) (second_file words) in
+    let g = guarded (follow (rule.Path ∷ rule.Path ∷ []) [] words) (Some made) c e in
+    subst (IsCommand (word ∷ words)) (same_Some made c g.1) (is-on-two (codes "audit") word words is_audit g.0)
+asked-by false false false true m word words c is_drain is_check is_audit is_load is_move e =
     let made : Command = command.Load (items_in words) in
     let g = guarded (follow (rule.Count 1 20000 ∷ rule.Count 0 0 ∷ []) [] words) (Some made) c e in
     subst (IsCommand (word ∷ words)) (same_Some made c g.1) (is-load word words is_load g.0)
-asked-by false false false word words c is_drain is_check is_load e = absurd (cc e)
+asked-by false false false false true word words c is_drain is_check is_audit is_load is_move e =
+    let made : Command = command.Migrate (first_file words) (second_file words) in
+    let g = guarded (follow (rule.Path ∷ rule.Path ∷ []) [] words) (Some made) c e in
+    subst (IsCommand (word ∷ words)) (same_Some made c g.1) (is-on-two (codes "migrate") word words is_move g.0)
+asked-by false false false false false word words c is_drain is_check is_audit is_load is_move e = absurd (cc e)
 
 pub command_is : (words : List (List ℕ)) (c : Command) → command_of words ≡ Some c → IsCommand words c
 command_is [] c e = absurd cc
 command_is (word ∷ words) c e =
-    asked-by (bytes_eq (codes "drain") word) (bytes_eq (codes "check") word) (bytes_eq (codes "load") word) word words c refl refl refl e
+    asked-by (bytes_eq (codes "drain") word) (bytes_eq (codes "check") word) (bytes_eq (codes "audit") word) (bytes_eq (codes "load") word)
+    (bytes_eq (codes "migrate") word) word words c refl refl refl refl refl e

@@ -43,10 +43,12 @@ drain_options = (codes "--turns", rule.Count 1 1000000) ∷ (codes "--journal", 
 abbrev pub form : Verb → CommandForm
 form verb.Drain = record { word = codes "drain"; operands = rule.Path ∷ []; options = drain_options }
 form verb.Check = record { word = codes "check"; operands = rule.Path ∷ []; options = [] }
+form verb.Audit = record { word = codes "audit"; operands = rule.Path ∷ rule.Path ∷ []; options = [] }
 form verb.Load = record { word = codes "load"; operands = rule.Count 1 20000 ∷ rule.Count 0 0 ∷ []; options = [] }
+form verb.Migrate = record { word = codes "migrate"; operands = rule.Path ∷ rule.Path ∷ []; options = [] }
 
 abbrev pub verbs : List Verb
-verbs = verb.Drain ∷ verb.Check ∷ verb.Load ∷ []
+verbs = verb.Drain ∷ verb.Check ∷ verb.Audit ∷ verb.Load ∷ verb.Migrate ∷ []
 
 -- the first of these verbs whose word this is
 abbrev pub verb_among : List Verb → List ℕ → Option Verb
@@ -60,6 +62,11 @@ verb_of word = verb_among verbs word
 abbrev pub first_file : List (List ℕ) → Path
 first_file [] = file_at []
 first_file (path ∷ words) = file_at path
+
+-- and the second
+abbrev pub second_file : List (List ℕ) → Path
+second_file [] = file_at []
+second_file (path ∷ words) = first_file words
 
 -- the limit on turns of a drain whose words name none
 abbrev pub default_turns : ℕ
@@ -86,7 +93,9 @@ items_in (word ∷ words) = unwrap_or (count_of word) 0
 abbrev pub asked : Verb → List (List ℕ) → Command
 asked verb.Drain words = command.Drain (first_file words) (turns_in (drop 1 words)) (journal_in (drop 1 words))
 asked verb.Check words = command.Check (first_file words)
+asked verb.Audit words = command.Audit (first_file words) (second_file words)
 asked verb.Load words = command.Load (items_in words)
+asked verb.Migrate words = command.Migrate (first_file words) (second_file words)
 
 abbrev pub command_by : Option Verb → List (List ℕ) → Option Command
 command_by None words = None
@@ -97,17 +106,21 @@ abbrev pub command_of : List (List ℕ) → Option Command
 command_of [] = None
 command_of (word ∷ words) = command_by (verb_of word) words
 
--- the path of the route file that a command names; a load names none
+-- the path of the route file that a command names; the routes of a load are built in, and a migration has none
 abbrev pub path_in : Command → Option Path
 path_in (command.Drain routes turns journal) = Some routes
 path_in (command.Check routes) = Some routes
+path_in (command.Audit routes journal) = Some routes
 path_in (command.Load items) = None
+path_in (command.Migrate old new) = None
 
 -- the file that a command names for the journal of its run
 abbrev pub journal_of : Command → Option Path
 journal_of (command.Drain routes turns journal) = journal
 journal_of (command.Check routes) = None
+journal_of (command.Audit routes journal) = None
 journal_of (command.Load items) = None
+journal_of (command.Migrate old new) = None
 
 -- ---- the same said without cutting
 
@@ -127,6 +140,13 @@ pub record IsOn (first : List ℕ) (behind words : List (List ℕ)) (routes : Pa
   pub said : words ≡ first ∷ (path ∷ behind)
   pub fit : is_path path ≡ true
   pub file : IsFile path routes
+
+-- a word and two paths
+pub record IsOnTwo (first : List ℕ) (words : List (List ℕ)) (one other : Path) : Type 0 where
+  pub path : List ℕ
+  pub on : IsOn first (path ∷ []) words one
+  pub fit : is_path path ≡ true
+  pub file : IsFile path other
 
 -- an option and its value say the limit on turns
 pub record SaysTurns (word value : List ℕ) (turns : ℕ) : Type 0 where
@@ -168,7 +188,9 @@ pub record IsLoad (words : List (List ℕ)) (items : ℕ) : Type 0 where
 abbrev pub IsCommand : List (List ℕ) → Command → Type 0
 IsCommand words (command.Drain routes turns journal) = IsDrain words routes turns journal
 IsCommand words (command.Check routes) = IsOn (codes "check") [] words routes
+IsCommand words (command.Audit routes journal) = IsOnTwo (codes "audit") words routes journal
 IsCommand words (command.Load items) = IsLoad words items
+IsCommand words (command.Migrate old new) = IsOnTwo (codes "migrate") words old new
 
 -- ---- worked rows
 
@@ -280,3 +302,27 @@ row-a_worker = refl
 pub row-no_workers : command_of (codes "load" ∷ codes "10" ∷ []) ≡ None
 unfolding count_of digits
 row-no_workers = refl
+
+-- the routes of `r.json`, and the dump of `j/one`
+pub row-audit : command_of (codes "audit" ∷ codes "r.json" ∷ codes "j/one" ∷ [])
+    ≡ Some (command.Audit (record { folder = codes "."; name = codes "r.json" }) (record { folder = codes "j"; name = codes "one" }))
+row-audit = refl
+
+pub row-no_dump : command_of (codes "audit" ∷ codes "r.json" ∷ []) ≡ None
+row-no_dump = refl
+
+pub row-audit_folder : command_of (codes "audit" ∷ codes "r.json" ∷ codes "j/" ∷ []) ≡ None
+row-audit_folder = refl
+
+pub row-audit_with_turns : command_of (codes "audit" ∷ codes "r.json" ∷ codes "j" ∷ codes "--turns" ∷ codes "5" ∷ []) ≡ None
+row-audit_with_turns = refl
+
+pub row-migrate : command_of (codes "migrate" ∷ codes "j/one" ∷ codes "two" ∷ [])
+    ≡ Some (command.Migrate (record { folder = codes "j"; name = codes "one" }) (record { folder = codes "."; name = codes "two" }))
+row-migrate = refl
+
+pub row-no_new_dump : command_of (codes "migrate" ∷ codes "j" ∷ []) ≡ None
+row-no_new_dump = refl
+
+pub row-three_dumps : command_of (codes "migrate" ∷ codes "j" ∷ codes "k" ∷ codes "l" ∷ []) ≡ None
+row-three_dumps = refl

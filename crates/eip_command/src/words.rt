@@ -1,4 +1,4 @@
-ghost use Rattle.std.specs.Prelude.{◌≡◌, ◌↔◌, true, Some, None, IfOk, IsErrOf, option_map};
+ghost use Rattle.std.specs.Prelude.{◌≡◌, ◌↔◌, true, Some, None, IfOk, IsErrOf};
 ghost use Rattle.eip_command.specs.Forms.{admits, form_seen};
 ghost use Rattle.eip_command.specs.Words as spec;
 ghost use Rattle.eip_command.specs.declared.words.Verb.TheVariants as verb;
@@ -39,22 +39,20 @@ pub enum Command {
     Check {
         routes: Path,
     },
+    /// `audit ROUTES JOURNAL`: the journal in this dump is judged by the rules of a run of the routes of this file.
+    Audit {
+        routes: Path,
+        journal: Path,
+    },
     /// `load N 0`: the built-in routes of the load test run with so many items, without workers.
     Load {
         items: u32,
     },
-}
-
-impl Command {
-    /// The route file that the command names. A load names none: its routes are built in.
-    pub fn routes(&self) -> Option<&Path>
-        ensures { option_map (λ p. p.now) result ≡ spec.path_in self.now }
-    {
-        match self {
-            Command::Drain { routes, .. } | Command::Check { routes } => Some(routes),
-            Command::Load { .. } => None,
-        }
-    }
+    /// `migrate OLD NEW`: the journal in the old dump, of whichever version, is written to the new one in the latest version.
+    Migrate {
+        old: Path,
+        new: Path,
+    },
 }
 
 /// Why words are no command.
@@ -83,10 +81,30 @@ impl From<NoMemory> for WordsFault {
 enum Verb {
     Drain,
     Check,
+    Audit,
     Load,
+    Migrate,
 }
 
-const VERBS: [Verb; 3] = [Verb::Drain, Verb::Check, Verb::Load];
+const VERBS: [Verb; 5] = [
+    Verb::Drain,
+    Verb::Check,
+    Verb::Audit,
+    Verb::Load,
+    Verb::Migrate,
+];
+
+/// The options of a drain.
+const DRAIN_OPTIONS: [OptionRule; 2] = [
+    OptionRule {
+        word: "--turns",
+        value: Rule::Count(1, 1_000_000),
+    },
+    OptionRule {
+        word: "--journal",
+        value: Rule::Path,
+    },
+];
 
 impl Verb {
     /// The form of the verb's words.
@@ -97,25 +115,26 @@ impl Verb {
             Verb::Drain => Form {
                 word: "drain",
                 operands: &[Rule::Path],
-                options: &[
-                    OptionRule {
-                        word: "--turns",
-                        value: Rule::Count(1, 1_000_000),
-                    },
-                    OptionRule {
-                        word: "--journal",
-                        value: Rule::Path,
-                    },
-                ],
+                options: &DRAIN_OPTIONS,
             },
             Verb::Check => Form {
                 word: "check",
                 operands: &[Rule::Path],
                 options: &[],
             },
+            Verb::Audit => Form {
+                word: "audit",
+                operands: &[Rule::Path, Rule::Path],
+                options: &[],
+            },
             Verb::Load => Form {
                 word: "load",
                 operands: &[Rule::Count(1, MOST_ITEMS), Rule::Count(0, MOST_WORKERS)],
+                options: &[],
+            },
+            Verb::Migrate => Form {
+                word: "migrate",
+                operands: &[Rule::Path, Rule::Path],
                 options: &[],
             },
         }
@@ -153,12 +172,30 @@ impl Verb {
                 let routes = Path::read(alloc, words[0].as_str())?;
                 Ok(Command::Check { routes })
             }
+            Verb::Audit => {
+                let (routes, journal) = two_files(alloc, words)?;
+                Ok(Command::Audit { routes, journal })
+            }
             Verb::Load => {
                 let items = items_in(words);
                 Ok(Command::Load { items })
             }
+            Verb::Migrate => {
+                let (old, new) = two_files(alloc, words)?;
+                Ok(Command::Migrate { old, new })
+            }
         }
     }
+}
+
+/// The files that the words behind `audit` or `migrate` name.
+fn two_files(alloc: Global, words: &[Text]) -> Result<(Path, Path), NoMemory>
+    requires form { admits (spec.form verb.Migrate) words.now ≡ true }
+    ensures { IfOk result (λ f. (f.0 ≡ spec.first_file words.now) × (f.1 ≡ spec.second_file words.now)) }
+{
+    let first = Path::read(alloc, words[0].as_str())?;
+    let second = Path::read(alloc, words[1].as_str())?;
+    Ok((first, second))
 }
 
 /// How many items the words behind `load` name.
@@ -192,12 +229,12 @@ fn journal_in(alloc: Global, options: &[Text]) -> Result<Option<Path>, NoMemory>
     }
 }
 
-/// The command that words give, by the form of each: `drain ROUTES [--turns N] [--journal FILE]` or `check ROUTES`, where
-/// ROUTES and FILE are paths and N a number from 1 to 1,000,000, or `load N 0`, where N is a number from 1 to 20,000. The
-/// options stand in any order, each once at most. A path isn't empty, doesn't begin with `-` and doesn't end with `/`. Its
-/// folder is what stands before its last `/`, or `.` without one, or `/` where nothing stands before it; the name is what
-/// stands behind. A drain without `--turns` has 100,000 turns; one without `--journal` writes no file.
-/// `Refused` exactly for every other list of words.
+/// The command that words give, by the form of each: `drain ROUTES [--turns N] [--journal FILE]`, `check ROUTES`,
+/// `audit ROUTES JOURNAL` or `migrate OLD NEW`, where N is a number from 1 to 1,000,000 and all others are paths, or `load N 0`,
+/// where N is a number from 1 to 20,000. The options stand in any order, each once at most. A path isn't empty, doesn't begin
+/// with `-` and doesn't end with `/`. Its folder is what stands before its last `/`, or `.` without one, or `/` where nothing
+/// stands before it; the name is what stands behind. A drain without `--turns` has 100,000 turns; one without `--journal` writes
+/// no file. `Refused` exactly for every other list of words.
 pub fn read_words(alloc: Global, words: &[Text]) -> Result<Command, WordsFault>
     ensures command { IfOk result (λ c. spec.command_of words.now ≡ Some c) }
     ensures file { IfOk result (λ c. spec.IsCommand words.now c) }

@@ -11,7 +11,7 @@ use Rattle.eip_frames.specs.declared.answer.Answer.{Answer as Reply}
 use Rattle.eip_frames.specs.Fits.{is_outside}
 use Rattle.eip_ledger.specs.declared.entry.Entry.{Entry}
 use Rattle.eip_ledger.specs.declared.entry.Kind.{Kind}
-use Rattle.eip_ledger.specs.declared.entry.Kind.TheVariants.{Pull, Accept, Refuse, SourceEnd, SourceFault, Start, Answer, Tick, Force, Starve, Return}
+use Rattle.eip_ledger.specs.declared.entry.Kind.TheVariants.{Pull, Accept, Refuse, SourceEnd, SourceFault, Start, Answer, Tick, Force, Starve}
 use Rattle.eip_ledger.specs.declared.place.Place.TheVariants as place_is
 use Rattle.eip_endpoint.specs.Lanes.{LaneView, LanesGrew}
 use Rattle.eip_exchange.specs.declared.message.Message.{Message}
@@ -132,7 +132,6 @@ pub record EndsPull (t : ℕ) (k : Kind) (acts : List Act) : Type 0 where
   pub nobody : (x : ℕ) → concerns x k ≡ false
   pub others : (u : ℕ) (was : SourceState) → u ≢ t → moved 0 u k was ≡ was
   pub back : (was : SourceState) → is_out (moved 0 t k was) ≡ false
-  pub stays : (x : ℕ) → k ≢ Return x
 
 -- the drain behind a pull and what came of it
 pub drains-pulled : {u v w : BooksView} {t : ℕ} {r : RegistryView} (k : Kind) (acts : List Act) (l : List LaneView) (i j : List InletView) → Pulled u v t → Adds v w 0 k
@@ -164,8 +163,8 @@ acts-pulled {u} {v} {w} {t} k acts p a legal ends =
     (hand-pull (plan u) u.journal.workers u.journal.turns 0 u.journal.past t (pulled-legal p) p.rests.home p.may.0) in
     let home = back-pull (plan v) v.journal.workers v.journal.turns 0 v.journal.past t k here one out.0 out.1 ends.nobody ends.others (ends.back (source_state t v.journal.past)) in
     let first_step = pulled-back (λ s q. Progresses s u.journal.past q) p
-    (progress-one (plan u) (plan-laws u.set) u.journal.workers u.journal.turns 0 (Pull t) u.journal.past (pulled-legal p) (λ x h. cc h)) in
-    let second_step = progress-one (plan v) (plan-laws v.set) v.journal.workers v.journal.turns 0 k v.journal.past here ends.stays in
+    (progress-one (plan u) (plan-laws u.set) u.journal.workers u.journal.turns 0 (Pull t) u.journal.past (pulled-legal p)) in
+    let second_step = progress-one (plan v) (plan-laws v.set) v.journal.workers v.journal.turns 0 k v.journal.past here in
     record {
       home = rw (a.same.set, a.past) home;
       progress = rw (a.same.set, a.past) (progress-trans first_step second_step);
@@ -180,7 +179,6 @@ ends-accept t item m = record {
   nobody = λ x. refl;
   others = λ u was ne. rw (not-same u t ne) refl;
   back = λ was. rw (eq-eqb t t refl) refl;
-  stays = λ x h. cc h;
 }
 
 pub ends-refuse : (t : ℕ) (item : List ℕ) (c : Cause) → EndsPull t (Refuse t item c) (Gave (Refused item (refusal_of c)) ∷ [])
@@ -191,7 +189,6 @@ ends-refuse t item c = record {
   nobody = λ x. refl;
   others = λ u was ne. rw (not-same u t ne) refl;
   back = λ was. rw (eq-eqb t t refl) refl;
-  stays = λ x h. cc h;
 }
 
 pub ends-source_end : (t : ℕ) → EndsPull t (SourceEnd t) (Gave End ∷ [])
@@ -202,7 +199,6 @@ ends-source_end t = record {
   nobody = λ x. refl;
   others = λ u was ne. rw (not-same u t ne) refl;
   back = λ was. rw (eq-eqb t t refl) refl;
-  stays = λ x h. cc h;
 }
 
 pub ends-source_fault : (t : ℕ) → EndsPull t (SourceFault t) (Failed ∷ [])
@@ -213,7 +209,6 @@ ends-source_fault t = record {
   nobody = λ x. refl;
   others = λ u was ne. rw (not-same u t ne) refl;
   back = λ was. rw (eq-eqb t t refl) refl;
-  stays = λ x h. cc h;
 }
 
 -- a pull that found no memory is no act
@@ -289,7 +284,7 @@ acts-ticked {u} {v} t =
     record {
       home = rw (t.adds.same.set, t.adds.past) (home-tick (plan u) u.journal.workers u.journal.turns 0 u.journal.past t.moment here t.home);
       progress = rw (t.adds.same.set, t.adds.past)
-          (progress-one (plan u) (plan-laws u.set) u.journal.workers u.journal.turns 0 (Tick t.moment) u.journal.past here (λ x h. cc h));
+          (progress-one (plan u) (plan-laws u.set) u.journal.workers u.journal.turns 0 (Tick t.moment) u.journal.past here);
     }
 
 pub acts-forced : {u v : BooksView} → Forced u v → Acts u v
@@ -298,7 +293,7 @@ acts-forced {u} {v} f =
     record {
       home = rw (f.adds.same.set, f.adds.past) (home-force (plan u) u.journal.workers u.journal.turns 0 u.journal.past here f.home);
       progress = rw (f.adds.same.set, f.adds.past)
-          (progress-one (plan u) (plan-laws u.set) u.journal.workers u.journal.turns 0 Force u.journal.past here (λ x h. cc h));
+          (progress-one (plan u) (plan-laws u.set) u.journal.workers u.journal.turns 0 Force u.journal.past here);
     }
 
 -- ---- a queue that starts its first exchange
@@ -328,7 +323,7 @@ acts-started {v} {w} {x} s =
       home = rw (adds.same.set, adds.past)
           (home-start (plan v) v.journal.workers v.journal.turns 0 v.journal.past s.starts.queue x here s.rests.home);
       progress = rw (adds.same.set, adds.past)
-          (progress-one (plan v) (plan-laws v.set) v.journal.workers v.journal.turns 0 (Start s.starts.queue x) v.journal.past here (λ y h. cc h));
+          (progress-one (plan v) (plan-laws v.set) v.journal.workers v.journal.turns 0 (Start s.starts.queue x) v.journal.past here);
     }
 
 -- ---- an answer
@@ -378,7 +373,7 @@ acts-inner {u} {v} {x} a c adds legal =
     record {
       home = rw (adds.same.set, adds.past) (home-answer (plan u) u.journal.workers u.journal.turns 0 u.journal.past x a place_is.Ready here c.rests.home (chosen-ready c));
       progress = rw (adds.same.set, adds.past)
-          (progress-one (plan u) (plan-laws u.set) u.journal.workers u.journal.turns 0 (Answer x a) u.journal.past here (λ y h. cc h));
+          (progress-one (plan u) (plan-laws u.set) u.journal.workers u.journal.turns 0 (Answer x a) u.journal.past here);
     }
 
 pub drains-starved : {u v w : BooksView} {x : ℕ} {r : RegistryView} (l : List LaneView) (i : List InletView) → Chosen u x → AddsNone u v → Adds v w 0 (Starve x) → Drains u w l l i i r
@@ -391,7 +386,7 @@ acts-starved {u} {v} {w} {x} c none adds legal =
     let here = added-legal adds legal in
     let chosen = chosen-none none c in
     let progress : Progresses (plan v) v.journal.past ((record { worker = 0; kind = Starve x }) ∷ v.journal.past) =
-    progress-one (plan v) (plan-laws v.set) v.journal.workers v.journal.turns 0 (Starve x) v.journal.past here (λ y h. cc h) in
+    progress-one (plan v) (plan-laws v.set) v.journal.workers v.journal.turns 0 (Starve x) v.journal.past here in
     let home = home-starve (plan v) v.journal.workers v.journal.turns 0 v.journal.past x place_is.Ready here chosen.rests.home (chosen-ready chosen) in
     record {
       home = rw (adds.same.set, adds.past) home;

@@ -1,29 +1,26 @@
 -- How drains follow one another.
-use Rattle.std.proofs.Common.{◌≡◌, ℕ, IsTrue, List, [], ◌∷◌, ◌++◌, Option, Some, None, refl, sym, ap, subst, ◌∙◌, append_assoc, arith}
-use Rattle.std.proofs.lemmas.Grind.{common_steps}
+use Rattle.std.proofs.Common.{◌≡◌, ℕ, IsTrue, List, [], ◌∷◌, ◌++◌, refl, sym, ap, subst, ◌∙◌, append_assoc}
 use Rattle.std.proofs.lemmas.List.{append-nil, map-append}
 use Rattle.eip_ledger.specs.declared.entry.Kind.{Kind}
-use Rattle.eip_ledger.specs.declared.entry.Kind.TheVariants.{Accept, Refuse, SourceEnd, SourceFault}
 use Rattle.eip_ledger.specs.declared.entry.Entry.{Entry}
-use Rattle.eip_endpoint.specs.declared.source.Pulled.{Pulled as Gift}
-use Rattle.eip_endpoint.specs.declared.source.Pulled.TheVariants.{Item, Refused, End}
 use Rattle.eip_endpoint.specs.Lanes.{LaneView, LaneCall, LanesGrew, lane_names}
-use Rattle.eip_endpoint.specs.Inlets.{InletView, InletAct, Gave, Failed, InletsGrew, inlet_names, commits_at}
-use Rattle.eip_endpoint.specs.Outside.{Doors, calls, commits, acts_by}
+use Rattle.eip_endpoint.specs.Inlets.{InletView, InletAct, InletsGrew, inlet_names, commits_at}
+use Rattle.eip_endpoint.specs.Outside.{Doors, calls, commits}
 use Rattle.eip_endpoint.proofs.LaneLaws.{LanesGrew-none, LanesGrew-trans, LanesGrew-names}
-use Rattle.eip_endpoint.proofs.InletLaws.{InletsGrew-none, InletsGrew-trans, InletsGrew-names, commits_at-append}
-use Rattle.eip_endpoint.proofs.OutsideLaws.{calls-append, commits-append, commits-give, InletsGrew-mix}
+use Rattle.eip_endpoint.proofs.InletLaws.{InletsGrew-none, InletsGrew-trans, InletsGrew-names}
+use Rattle.eip_endpoint.proofs.OutsideLaws.{calls-append}
 use Rattle.eip_history.specs.Plan.{Plan}
 use Rattle.eip_history.specs.Own.{Past}
 use Rattle.eip_history.specs.Rules.{Served, served, served_in}
 use Rattle.eip_history.specs.Stop.{IsPlain, is_of, actor}
 use Rattle.eip_history.proofs.ServedSteps.{served-more}
 use Rattle.eip_history.proofs.Steps.{plain-add}
+use Rattle.eip_owners.proofs.Pulled.{pulls-none, pulls-more, pulls-append, pulls-tell, kind-tells, acts-follow}
 use Rattle.eip_plan.specs.Plan.{plan_of}
 use Rattle.eip_books.specs.View.{BooksView, plan, IsSameRun, Adds, AddsNone}
 use Rattle.eip_processor.specs.Registered.{RegistryView}
 use Rattle.eip_core.specs.Doors.{doors_of}
-use Rattle.eip_core.specs.Outside.{AreTheirs, answered_by, seen_answers, refusal_of, pulls, pulls_in, inlet_acts}
+use Rattle.eip_core.specs.Outside.{AreTheirs, seen_answer, seen_answers, pulls, pulls_in, inlet_acts}
 use Rattle.eip_core.specs.Drain.{Drains, IsPlainBehind, doors}
 
 pub same-refl : (v : BooksView) → IsSameRun v v
@@ -32,57 +29,16 @@ same-refl v = record { set = refl; workers = refl; turns = refl }
 pub same-trans : {u v w : BooksView} → IsSameRun u v → IsSameRun v w → IsSameRun u w
 same-trans a b = record { set = b.set ∙ a.set; workers = b.workers ∙ a.workers; turns = b.turns ∙ a.turns }
 
-pulls-none : (d : Doors) → pulls d [] ≡ []
-unfolding pulls
-pulls-none d = refl
-
-pulls-more : (d : Doors) (e : Entry) (behind : Past) → pulls d (e ∷ behind) ≡ pulls d behind ++ pulls_in d e.kind
-unfolding pulls
-pulls-more d e behind = refl
-
-pulls-append : (d : Doors) (p q : Past) → pulls d (p ++ q) ≡ pulls d q ++ pulls d p
-pulls-append d [] q = sym (append-nil (pulls d q)) ∙ ap (λ xs. pulls d q ++ xs) (sym (pulls-none d))
-pulls-append d (e ∷ p) q =
-    pulls-more d e (p ++ q) ∙ (ap (λ xs. xs ++ pulls_in d e.kind) (pulls-append d p q)
-    ∙ (append_assoc (pulls d q) (pulls d p) (pulls_in d e.kind) ∙ ap (λ xs. pulls d q ++ xs) (sym (pulls-more d e p))))
-
--- what pulls came to tells no inlet of an end
-door-tells : (k : ℕ) (u v : List ℕ) (o : Option ℕ) (p : Gift) → commits_at k u (acts_by o v (Gave p ∷ [])) ≡ []
-door-tells k u v None p = refl
-door-tells k u v (Some i) p = grind (arith, common_steps)
-
-fault-tells : (k : ℕ) (u v : List ℕ) (o : Option ℕ) → commits_at k u (acts_by o v (Failed ∷ [])) ≡ []
-fault-tells k u v None = refl
-fault-tells k u v (Some i) = grind (arith, common_steps)
-
-kind-tells : (d : Doors) (k : ℕ) (u : List ℕ) (n : Kind) → commits_at k u (pulls_in d n) ≡ []
-kind-tells d k u (Accept t item m) = door-tells k u (d.uri t) (d.inlet t) (Item item m)
-kind-tells d k u (Refuse t item c) = door-tells k u (d.uri t) (d.inlet t) (Refused item (refusal_of c))
-kind-tells d k u (SourceEnd t) = door-tells k u (d.uri t) (d.inlet t) End
-kind-tells d k u (SourceFault t) = fault-tells k u (d.uri t) (d.inlet t)
-kind-tells d k u _ = refl
-
-pulls-tell : (d : Doors) (p : Past) (k : ℕ) (u : List ℕ) → commits_at k u (pulls d p) ≡ []
-pulls-tell d [] k u = ap (commits_at k u) (pulls-none d)
-pulls-tell d (e ∷ p) k u =
-    ap (commits_at k u) (pulls-more d e p) ∙ (commits_at-append k u (pulls d p) (pulls_in d e.kind)
-    ∙ (ap (λ xs. xs ++ commits_at k u (pulls_in d e.kind)) (pulls-tell d p k u) ∙ kind-tells d k u e.kind))
-
 -- the calls of lanes by more answers
 served-calls : (d : Doors) (vs ws : List Served) → calls d (seen_answers (vs ++ ws)) ≡ calls d (seen_answers vs) ++ calls d (seen_answers ws)
-served-calls d vs ws = ap (calls d) (map-append answered_by vs ws) ∙ calls-append d (seen_answers vs) (seen_answers ws)
-
-served-commits : (d : Doors) (vs ws : List Served) → commits d (seen_answers (vs ++ ws)) ≡ commits d (seen_answers vs) ++ commits d (seen_answers ws)
-served-commits d vs ws = ap (commits d) (map-append answered_by vs ws) ∙ commits-append d (seen_answers vs) (seen_answers ws)
+served-calls d vs ws = ap (calls d) (map-append seen_answer vs ws) ∙ calls-append d (seen_answers vs) (seen_answers ws)
 
 -- acts of inlets follow acts of inlets
-acts-follow : (d : Doors) (p q : Past) (vs ws : List Served) (more : List InletAct) (i j k : List InletView) → ((n : ℕ) (u : List ℕ) → commits_at n u more ≡ [])
-    → InletsGrew 0 (inlet_acts d q vs) i j → InletsGrew 0 (more ++ commits d (seen_answers ws)) j k → pulls d (p ++ q) ≡ pulls d q ++ more
-    → InletsGrew 0 (inlet_acts d (p ++ q) (vs ++ ws)) i k
-acts-follow d p q vs ws more i j k tells first second are =
-    rw (are, served-commits d vs ws)
-    (InletsGrew-mix 0 (pulls d q) (commits d (seen_answers vs)) more (commits d (seen_answers ws)) i k (commits-give d (seen_answers vs)) tells
-    (InletsGrew-trans 0 _ _ i j k first second))
+inlets-follow : (d : Doors) (p q : Past) (vs ws : List Served) (more : List InletAct) (i j k : List InletView) → ((n : ℕ) (u : List ℕ) → commits_at n u more ≡ [])
+    → InletsGrew 0 (inlet_acts d q (seen_answers vs)) i j → InletsGrew 0 (more ++ commits d (seen_answers ws)) j k → pulls d (p ++ q) ≡ pulls d q ++ more
+    → InletsGrew 0 (inlet_acts d (p ++ q) (seen_answers (vs ++ ws))) i k
+inlets-follow d p q vs ws more i j k tells first second are =
+    rw (map-append seen_answer vs ws) (acts-follow d p q (seen_answers vs) (seen_answers ws) more i j k tells first second are)
 
 -- a plain past stays plain behind such entries
 pub plain-behind : (s : Plan) (past behind : Past) → IsPlain s past → IsPlainBehind s past behind → IsPlain s (behind ++ past)
@@ -143,7 +99,7 @@ drains-still {u} {v} {l} {m} {n} {i} {j} {k} d lanes inlets = record {
   same = d.same;
   plain = d.plain;
   lanes = subst (λ js. LanesGrew 0 js l n) (append-nil (calls (doors u l i) (seen_answers d.answered))) (LanesGrew-trans 0 _ [] l m n d.lanes lanes);
-  inlets = subst (λ js. InletsGrew 0 js i k) (append-nil (inlet_acts (doors u l i) d.behind d.answered)) (InletsGrew-trans 0 _ [] i j k d.inlets inlets);
+  inlets = subst (λ js. InletsGrew 0 js i k) (append-nil (inlet_acts (doors u l i) d.behind (seen_answers d.answered))) (InletsGrew-trans 0 _ [] i j k d.inlets inlets);
   theirs = d.theirs;
 }
 
@@ -170,7 +126,7 @@ drains-add {u} {v} {w} {l} {m} {n} {i} {j} {k} {kind} {r} d a lanes inlets acts 
           (LanesGrew-trans 0 _ _ l m n d.lanes
           (subst (λ x. LanesGrew 0 (calls (doors u l i) (seen_answers (served_in x v.journal.past 0 kind))) m n) p
           (subst (λ x. LanesGrew 0 (calls x (seen_answers (served_in (plan v) v.journal.past 0 kind))) m n) s lanes)));
-      inlets = acts-follow (doors u l i) (e ∷ []) d.behind d.answered more (pulls_in (doors u l i) kind) i j k
+      inlets = inlets-follow (doors u l i) (e ∷ []) d.behind d.answered more (pulls_in (doors u l i) kind) i j k
           (λ x y. kind-tells (doors u l i) x y kind) d.inlets
           (subst (λ x. InletsGrew 0 (pulls_in (doors u l i) kind ++ commits (doors u l i) (seen_answers (served_in x v.journal.past 0 kind))) j k) p
           (subst (λ x. InletsGrew 0 (pulls_in x kind ++ commits x (seen_answers (served_in (plan v) v.journal.past 0 kind))) j k) s inlets))
@@ -195,8 +151,8 @@ drains-trans {u} {v} {w} {l} {m} {n} {i} {j} {k} {r} d e =
           (subst (λ (q : Past). IsPlainBehind (plan u) q e.behind) d.past (subst (λ (x : Plan). IsPlainBehind x v.journal.past e.behind) p e.plain));
       lanes = rw (served-calls (doors u l i) d.answered e.answered)
           (LanesGrew-trans 0 _ _ l m n d.lanes (subst (λ x. LanesGrew 0 (calls x (seen_answers e.answered)) m n) s e.lanes));
-      inlets = acts-follow (doors u l i) e.behind d.behind d.answered e.answered (pulls (doors u l i) e.behind) i j k
+      inlets = inlets-follow (doors u l i) e.behind d.behind d.answered e.answered (pulls (doors u l i) e.behind) i j k
           (pulls-tell (doors u l i) e.behind) d.inlets
-          (subst (λ x. InletsGrew 0 (inlet_acts x e.behind e.answered) j k) s e.inlets) (pulls-append (doors u l i) e.behind d.behind);
+          (subst (λ x. InletsGrew 0 (inlet_acts x e.behind (seen_answers e.answered)) j k) s e.inlets) (pulls-append (doors u l i) e.behind d.behind);
       theirs = theirs-append r d.answered e.answered d.theirs e.theirs;
     }

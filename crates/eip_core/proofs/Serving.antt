@@ -141,7 +141,7 @@ one-hand {u} {v} {n} t =
 first-progress : {u v : BooksView} {n : ℕ} {q : Request} → Taken u v n q → Progresses (plan v) u.journal.past v.journal.past
 first-progress {u} {v} {n} t =
     behind (λ s p. Progresses s u.journal.past p) t
-    (progress-one (plan u) (plan-laws u.set) u.journal.workers u.journal.turns 0 (Take n) u.journal.past (added-legal t.adds t.legal) (λ x h. cc h))
+    (progress-one (plan u) (plan-laws u.set) u.journal.workers u.journal.turns 0 (Take n) u.journal.past (added-legal t.adds t.legal))
 
 -- ---- answered
 
@@ -184,7 +184,7 @@ acts-answered {u} {v} {w} {n} a t adds legal =
     record {
       home = rw (adds.same.set, adds.past) (back-answer (plan v) v.journal.workers v.journal.turns 0 v.journal.past n 0 a here (one-hand t) t.held);
       progress = rw (adds.same.set, adds.past)
-          (progress-trans (first-progress t) (progress-one (plan v) (plan-laws v.set) v.journal.workers v.journal.turns 0 (Answer n a) v.journal.past here (λ y h. cc h)));
+          (progress-trans (first-progress t) (progress-one (plan v) (plan-laws v.set) v.journal.workers v.journal.turns 0 (Answer n a) v.journal.past here));
     }
 
 -- the answer fits what was asked
@@ -207,7 +207,7 @@ acts-given_up {u} {v} {w} {n} t adds legal =
     record {
       home = rw (adds.same.set, adds.past) (back-starve (plan v) v.journal.workers v.journal.turns 0 v.journal.past n 0 here (one-hand t) t.held);
       progress = rw (adds.same.set, adds.past)
-          (progress-trans (first-progress t) (progress-one (plan v) (plan-laws v.set) v.journal.workers v.journal.turns 0 (Starve n) v.journal.past here (λ y h. cc h)));
+          (progress-trans (first-progress t) (progress-one (plan v) (plan-laws v.set) v.journal.workers v.journal.turns 0 (Starve n) v.journal.past here));
     }
 
 -- what a take gave, where the least Ready exchange is known to wait for somebody outside

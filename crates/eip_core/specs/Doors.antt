@@ -1,39 +1,15 @@
--- By which inlet the source of a route is read, and by which lane a target is sent to.
-use Rattle.std.specs.Prelude.{ℕ, ◌≡◌, true, List, [], Option, Some, None, IsSome, slice_get}
-use Rattle.eip_uri.specs.Inlets.{inlet_of}
-use Rattle.eip_uri.specs.Printed.{printed}
+-- What is handed in for a set: an inlet for each source, and a lane for each target.
+use Rattle.std.specs.Prelude.{ℕ, ◌≡◌, true, List, IsSome, slice_get}
 use Rattle.eip_route.specs.Goals.{is_among}
 use Rattle.eip_route.specs.Valid.{IsValid}
 use Rattle.eip_route.specs.declared.route.Names.{Names}
-use Rattle.eip_route.specs.declared.route.Route.{Route}
 use Rattle.eip_route.specs.declared.route.RouteSet.{RouteSet}
 use Rattle.eip_endpoint.specs.Inlets.{InletView, inlet_names}
 use Rattle.eip_endpoint.specs.Lanes.{LaneView, first_named, lane_names}
-use Rattle.eip_endpoint.specs.Outside.{Doors, lane_of}
+use Rattle.eip_endpoint.specs.Outside.{Doors}
+pub use Rattle.eip_outlets.specs.Doors.{inlet_named, inlet_at, uri_at, doors_of}
 use Rattle.eip_history.specs.Rules.{IsSource}
 use Rattle.eip_plan.specs.Plan.{plan_of}
-
--- the first inlet of this name, if there is a name
-abbrev pub inlet_named : List (List ℕ) → Option (List ℕ) → Option ℕ
-inlet_named names (Some name) = first_named name names
-inlet_named names None = None
-
--- the first inlet that has the name that the route's source asks for
-abbrev pub inlet_at : List (List ℕ) → Option Route → Option ℕ
-inlet_at names (Some r) = inlet_named names (inlet_of r.from)
-inlet_at names None = None
-
-abbrev pub uri_at : Option Route → List ℕ
-uri_at (Some r) = printed r.from
-uri_at None = []
-
--- the doors of a set among lanes and inlets of these names: the first of a name counts
-abbrev pub doors_of : RouteSet → List (List ℕ) → List (List ℕ) → Doors
-doors_of set lanes inlets = record {
-  inlet = λ t. inlet_at inlets (slice_get set.routes t);
-  uri = λ t. uri_at (slice_get set.routes t);
-  lane = λ t. first_named (lane_of t) lanes;
-}
 
 -- the doors of a set among these lanes and inlets
 abbrev pub doors_among : RouteSet → List LaneView → List InletView → Doors

@@ -65,7 +65,7 @@ pub record Drains (old new : BooksView) (lanes_old lanes_new : List LaneView) (i
   pub same : IsSameRun old new
   pub plain : IsPlainBehind (plan old) old.journal.past behind
   pub lanes : LanesGrew 0 (calls (doors old lanes_old inlets_old) (seen_answers answered)) lanes_old lanes_new
-  pub inlets : InletsGrew 0 (inlet_acts (doors old lanes_old inlets_old) behind answered) inlets_old inlets_new
+  pub inlets : InletsGrew 0 (inlet_acts (doors old lanes_old inlets_old) behind (seen_answers answered)) inlets_old inlets_new
   pub theirs : AreTheirs registry answered
 
 -- from one past to a later one no turn is lost, and where none was taken there is less left to do

@@ -28,12 +28,12 @@ pub pair_calls : map (λ (c : LaneCall). c.call.outcome) (calls pair_doors (seen
 unfolding own story fate ended served
 pair_calls = refl
 
-pub second_gave : given_at 1 (codes "u") (inlet_acts pair_doors pair_past (served pair pair_past))
+pub second_gave : given_at 1 (codes "u") (inlet_acts pair_doors pair_past (seen_answers (served pair pair_past)))
     ≡ Item (codes "b1") (plain (codes "b")) ∷ Refused (codes "b2") refusal.TooLong ∷ []
 unfolding own story fate ended served pulls
 second_gave = refl
 
-pub second_failed : faults_at 1 (inlet_acts pair_doors pair_past (served pair pair_past)) ≡ 1
+pub second_failed : faults_at 1 (inlet_acts pair_doors pair_past (seen_answers (served pair pair_past))) ≡ 1
 unfolding own story fate ended served pulls
 second_failed = refl
 

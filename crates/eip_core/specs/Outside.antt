@@ -1,5 +1,5 @@
--- What the entries of a journal say that inlets and lanes did.
-use Rattle.std.specs.Prelude.{ℕ, ◌≡◌, List, [], ◌∷◌, ◌++◌, Option, Some, None, IsSome, IfOk, Result, Ok, Err, Bool, true, false, bytes_eq, map, slice_get}
+-- What one call of whoever stands outside does.
+use Rattle.std.specs.Prelude.{ℕ, ◌≡◌, List, [], ◌∷◌, IsSome, IfOk, Result, Ok, Err, true, slice_get}
 use Rattle.eip_text.specs.declared.memory.NoMemory.{NoMemory}
 use Rattle.eip_exchange.specs.declared.birth.Origin.{Origin}
 use Rattle.eip_exchange.specs.declared.birth.Origin.TheVariants as from
@@ -14,54 +14,16 @@ use Rattle.eip_frames.specs.declared.request.Request.{Request}
 use Rattle.eip_frames.specs.declared.request.Request.TheVariants.{Send, Process, Test, Finish}
 use Rattle.eip_frames.specs.declared.request.Target.{Target}
 use Rattle.eip_frames.specs.Fits.{fits}
-use Rattle.eip_ledger.specs.declared.entry.Kind.{Kind}
-use Rattle.eip_ledger.specs.declared.entry.Kind.TheVariants.{Accept, Refuse, SourceEnd, SourceFault}
-use Rattle.eip_ledger.specs.declared.entry.Refused.{Refused as Cause}
-use Rattle.eip_ledger.specs.declared.entry.Refused.TheVariants as cause
 use Rattle.eip_endpoint.specs.declared.endpoint.Call.{Call}
-use Rattle.eip_endpoint.specs.declared.source.Refusal.{Refusal}
-use Rattle.eip_endpoint.specs.declared.source.Refusal.TheVariants as refusal
-use Rattle.eip_endpoint.specs.declared.source.Pulled.TheVariants.{Item, Refused, End as NoMore}
 use Rattle.eip_endpoint.specs.Lanes.{LaneCall, LaneView, LanesGrew, first_named}
-use Rattle.eip_endpoint.specs.Inlets.{Act, Gave, Failed, InletAct, InletView, InletsGrew}
-use Rattle.eip_endpoint.specs.Outside.{Answered, Doors, lane_of, call_by, calls_for, acts_by, acts_of, told_by, commits_for, commits}
+use Rattle.eip_endpoint.specs.Inlets.{Act, InletAct, InletView, InletsGrew}
+use Rattle.eip_endpoint.specs.Outside.{Doors, lane_of, call_by, calls_for, acts_by, told_by, commits_for}
 use Rattle.eip_processor.specs.Registered.{RegistryView}
 use Rattle.eip_processor.specs.declared.processor.ProcessFault.TheVariants as fault
-use Rattle.eip_history.specs.Own.{Past}
 use Rattle.eip_history.specs.Rules.{Served}
+pub use Rattle.eip_owners.specs.Acts.{seen_answer, seen_answers, refusal_of, pulls_in, inlet_acts}
+unfoldable pub use Rattle.eip_owners.specs.Acts.{pulls}
 use Rattle.eip_core.specs.Doors.{HasInlet, doors_among, inlet_at, uri_at}
-
--- an answer of the journal as lanes and inlets see it
-abbrev pub answered_by : Served → Answered
-answered_by v = record { worker = v.worker; origin = v.asked.birth.origin; request = v.asked.request; answer = v.answer }
-
--- the answers of a journal as lanes and inlets see them
-abbrev pub seen_answers : List Served → List Answered
-seen_answers vs = map answered_by vs
-
--- the cause of a refusal in the words of a source
-abbrev pub refusal_of : Cause → Refusal
-refusal_of cause.NotText = refusal.NotText
-refusal_of cause.TooLong = refusal.TooLong
-
--- what an entry says that a pull came to: the inlet gave an item, an item that was refused or its end, or it failed
-abbrev pub pulls_in : Doors → Kind → List InletAct
-pulls_in d (Accept t item m) = acts_of d t (Gave (Item item m) ∷ [])
-pulls_in d (Refuse t item c) = acts_of d t (Gave (Refused item (refusal_of c)) ∷ [])
-pulls_in d (SourceEnd t) = acts_of d t (Gave NoMore ∷ [])
-pulls_in d (SourceFault t) = acts_of d t (Failed ∷ [])
-pulls_in d _ = []
-
--- what the entries say that pulls came to, the oldest first
-unfoldable pub pulls : Doors → Past → List InletAct
-pulls d [] = []
-pulls d (e ∷ behind) = pulls d behind ++ pulls_in d e.kind
-
--- what inlets did by these entries and answers: for each inlet what came of its pulls, and what it was told of ends
-abbrev pub inlet_acts : Doors → Past → List Served → List InletAct
-inlet_acts d behind vs = pulls d behind ++ commits d (seen_answers vs)
-
--- ---- one call
 
 -- the source that an exchange came from has its inlet
 abbrev pub HasSource : RouteSet → (inlets : List (List ℕ)) → Origin → Type 0
@@ -125,8 +87,3 @@ pub record Asks (set : RouteSet) (o : Origin) (q : Request) (r : Result Reply No
   pub theirs : IfOk r (λ a. IsTheirs registry q a)
   pub lanes : LanesGrew 0 (calls_told (doors_among set lanes_old inlets_old) q r) lanes_old lanes_new
   pub inlets : InletsGrew 0 (commits_told (doors_among set lanes_old inlets_old) o q r) inlets_old inlets_new
-
--- what stands behind the word is this name
-abbrev pub is_rest : Option (List ℕ) → List ℕ → Bool
-is_rest None name = false
-is_rest (Some rest) name = bytes_eq rest name

@@ -6,4 +6,5 @@ mod outside;
 mod served;
 
 pub use drain::drain_alone;
+pub use outside::{ask, pull_source, refused};
 pub use served::names_of;

@@ -1,4 +1,4 @@
-ghost use Rattle.std.specs.Prelude.{◌≡◌, ◌<◌, IfOk, IfSome, IsSome, Some, length, slice_get, bytes_eq, option_map, true};
+ghost use Rattle.std.specs.Prelude.{◌≡◌, ◌<◌, IfOk, IfSome, IsSome, Some, length, slice_get, true};
 ghost use Rattle.eip_uri.specs.Printed.{printed};
 ghost use Rattle.eip_exchange.specs.declared.message.Message.{Message as AMessage};
 ghost use Rattle.eip_frames.specs.Fits.{fits};
@@ -11,16 +11,16 @@ ghost use Rattle.eip_endpoint.specs.Outside.{calls_by, lane_of};
 ghost use Rattle.eip_tables.specs.Origin.{origin_seen};
 ghost use Rattle.eip_core.specs.Doors.{HasInlet, inlet_at, uri_at};
 ghost use Rattle.eip_core.specs.Served.{names_of};
-ghost use Rattle.eip_core.specs.Outside.{Asks, HasSource, IsAskable, IsTheirs, acts_from, is_rest, refusal_of, sent_by, source_told};
+ghost use Rattle.eip_core.specs.Outside.{Asks, HasSource, IsAskable, IsTheirs, acts_from, refusal_of, sent_by, source_told};
 
 use eip_endpoint::{CommitFault, Inlets, Lanes, PullFault, Pulled, Refusal, SendFault, find_inlet};
 use eip_exchange::{End, Message};
 use eip_frames::{Answer, Request, Target};
 use eip_hub::OriginView;
 use eip_ledger::Refused;
+use eip_outlets::serves;
 use eip_processor::{ProcessFault, Registered};
 use eip_route::RouteSet;
-use eip_text::cuts::behind;
 use eip_text::{NoMemory, Text};
 use eip_uri::Uri;
 
@@ -78,27 +78,6 @@ fn tell<I: Inlets>(
         Ok(()) => Ok(Answer::Finished),
         Err(CommitFault::Failed) => Ok(Answer::CommitFailed),
         Err(CommitFault::NoMemory) => Err(NoMemory),
-    }
-}
-
-/// Whether a lane of this name is the one that a target is sent on.
-fn serves(name: &Text, target: &Target) -> bool
-    ensures { result ≡ bytes_eq name.now (lane_of target.now) }
-{
-    match target {
-        Target::File { .. } => name.as_str() == "file",
-        Target::Line { .. } => name.as_str() == "line",
-        Target::Lane(lane) => is_rest(behind(name.as_str(), "lane:"), lane.as_str()),
-    }
-}
-
-/// Whether what stands behind the word is this name.
-fn is_rest(rest: Option<&str>, name: &str) -> bool
-    ensures { result ≡ is_rest (option_map (λ r. r.now) rest.entry) name.now }
-{
-    match rest {
-        Some(rest) => rest == name,
-        None => false,
     }
 }
 

@@ -56,7 +56,7 @@ entry-actor s limit past w x (Answer n a) may c f = by_side (is_outside may.asks
     by_side false act e = actor-at s past n x _ e (place-born s past n _ act.0) refl
 entry-actor s limit past w x (Starve n) (inl h) c f = actor-at s past n x _ (eqb-true n x c) (place-born s past n _ h) refl
 entry-actor s limit past w x (Starve n) (inr h) c f = actor-at s past n x _ (eqb-true n x c) (place-born s past n _ h) refl
-entry-actor s limit past w x (Return n) may c f = actor-at s past n x _ (eqb-true n x c) (place-born s past n _ may.1.1) refl
+entry-actor s limit past w x (Return n) may c f = absurd may
 entry-actor s limit past w x _ may c f = absurd (cc c)
 
 queue-acting : (r : Origin) (v : Bool) (p : Place) → is_acting (queued r v p) ≡ true → (q : Place) → queued r v q ≡ q
@@ -187,22 +187,6 @@ taken-ready s w limit (e ∷ past) b v legal at h = by_test (concerns b.number e
         (by_kind e.kind refl (legal-may s w limit e past legal) c (rw (own-here b.number e past c) at h)))
     by_test false c ih =
         rw (own-other b.number e past c) (still (last_answer (own b.number past)) (ih (rw (own-other b.number e past c) at h)))
-
--- the same behind a Return
-pub held-ready : (s : Plan) (w limit : ℕ) (e : Entry) (past : Past) (b : Birth) (v : ℕ) → KeepsRules s w limit (e ∷ past)
-    → ((d : Birth) → numbered (births s past) b.number ≡ Some d → d ≡ b) → place_of s past b ≡ place_is.InHand v
-    → paused (clock past) (all_ended s (e ∷ past)) (pause_of (last_answer (own b.number past))) ≡ place_is.Ready
-held-ready s w limit e past b v legal at h =
-    paused-ready (clock past) (clock past) (all_ended s past) (all_ended s (e ∷ past)) (pause_of (last_answer (own b.number past))) (omega arith)
-    (λ f c t. joined-keeps s w limit e past f c legal t) (by_standing (standing s past b))
-  where
-    by_standing : Standing s past b → paused (clock past) (all_ended s past) (pause_of (last_answer (own b.number past))) ≡ place_is.Ready
-    by_standing (Held u t p) = taken-ready s w limit past b u (legal-tail s w limit e past legal) at t
-    by_standing (InEnd g p t) = absurd (let k = rw p at h in cc k)
-    by_standing (InQueue q o p) = absurd (let k = rw p at h in cc k)
-    by_standing (Asleep d l t p) = absurd (let k = rw p at h in cc k)
-    by_standing (Waits f c l t p) = absurd (let k = rw p at h in cc k)
-    by_standing (Able p) = absurd (let k = rw p at h in cc k)
 
 -- who is still in a queue has no entry
 pub queued-silent : (s : Plan) (w limit : ℕ) (past : Past) (b : Birth) (q : ℕ) → KeepsRules s w limit past

@@ -277,35 +277,35 @@ told-none : (s : Plan) (v : ℕ) (past : Past) (k : Kind) → made_at s past k �
 unfolding story
 told-none s v past k h g = record { same_births = ap (λ xs. births s past ++ xs) h ∙ append-nil (births s past); same_groups = g }
 
--- each legal entry that is no turn, no Tick and no Return lowers the work
+-- each legal entry that is no turn and no Tick lowers the work
 pub falls : (s : Plan) (laws : PlanLaws s) (w limit v : ℕ) (k : Kind) (past : Past) → KeepsRules s w limit ((record { worker = v; kind = k }) ∷ past)
-    → turns_in k ≡ 0 → ((t : ℕ) → k ≢ Tick t) → ((x : ℕ) → k ≢ Return x)
+    → turns_in k ≡ 0 → ((t : ℕ) → k ≢ Tick t)
     → work s ((record { worker = v; kind = k }) ∷ past) < work s past
-falls s laws w limit v (Pull t) past legal z nt nr =
+falls s laws w limit v (Pull t) past legal z nt =
     let may = legal-may s w limit _ past legal in
     falls-source s w limit v t (Pull t) past legal (told-none s v past (Pull t) refl refl) may.0 (λ x. refl) (λ n. refl)
     (λ u was ne. rw (not-same u t ne) refl) (rw (eq-eqb t t refl, may.1) (omega arith))
-falls s laws w limit v (SourceEnd t) past legal z nt nr =
+falls s laws w limit v (SourceEnd t) past legal z nt =
     let may = legal-may s w limit _ past legal in
     falls-source s w limit v t (SourceEnd t) past legal (told-none s v past (SourceEnd t) refl refl) may.0 (λ x. refl) (λ n. refl)
     (λ u was ne. rw (not-same u t ne) refl) (rw (eq-eqb t t refl, may.1) (omega arith))
-falls s laws w limit v (SourceFault t) past legal z nt nr =
+falls s laws w limit v (SourceFault t) past legal z nt =
     let may = legal-may s w limit _ past legal in
     falls-source s w limit v t (SourceFault t) past legal (told-none s v past (SourceFault t) refl refl) may.0 (λ x. refl) (λ n. refl)
     (λ u was ne. rw (not-same u t ne) refl) (rw (eq-eqb t t refl, may.1) (omega arith))
-falls s laws w limit v (Start q x) past legal z nt nr =
+falls s laws w limit v (Start q x) past legal z nt =
     let may = legal-may s w limit _ past legal in
     let b = first-placed s past (is_in q) x may.0 in
     let l = weight-start s v q x past b.0 (numbered-number s past x b.0 b.1) in
     let m = weight-queue q (place_of s past b.0) b.2 in
     falls-own s w limit v x (Start q x) past b.0 legal (told-none s v past (Start q x) refl refl) b.1 (λ y ne. not-same y x ne) (λ n. refl)
     (λ u was. refl) (omega (arith, l, m))
-falls s laws w limit v (Take x) past legal z nt nr =
+falls s laws w limit v (Take x) past legal z nt =
     let may = legal-may s w limit _ past legal in
     let b = place-born s past x _ may.0 in
     falls-own s w limit v x (Take x) past b.0 legal (told-none s v past (Take x) refl refl) b.1 (λ y ne. not-same y x ne) (λ n. refl)
     (λ u was. refl) (weight-take s v x past b.0 (numbered-number s past x b.0 b.1) b.2)
-falls s laws w limit v (Starve x) past legal z nt nr = by_side (legal-may s w limit _ past legal)
+falls s laws w limit v (Starve x) past legal z nt = by_side (legal-may s w limit _ past legal)
   where
     by_side : May s limit past v (Starve x) → work s ((record { worker = v; kind = Starve x }) ∷ past) < work s past
     by_side (inl h) = let b = place-born s past x _ h in let l = weight-starve s v x past b.0 (numbered-number s past x b.0 b.1) in
@@ -314,9 +314,9 @@ falls s laws w limit v (Starve x) past legal z nt nr = by_side (legal-may s w li
     by_side (inr h) = let b = place-born s past x _ h in let l = weight-starve s v x past b.0 (numbered-number s past x b.0 b.1) in
         falls-own s w limit v x (Starve x) past b.0 legal (told-none s v past (Starve x) refl refl) b.1 (λ y ne. not-same y x ne) (λ n. refl)
         (λ u was. refl) (rw (l, b.2) (omega arith))
-falls s laws w limit v Force past legal z nt nr = falls-force s laws w limit v past legal (legal-may s w limit _ past legal).3
-falls s laws w limit v (Accept t i m) past legal z nt nr = absurd (omega (arith, z))
-falls s laws w limit v (Refuse t i c) past legal z nt nr = absurd (omega (arith, z))
-falls s laws w limit v (Answer x a) past legal z nt nr = absurd (omega (arith, z))
-falls s laws w limit v (Tick t) past legal z nt nr = absurd (nt t refl)
-falls s laws w limit v (Return x) past legal z nt nr = absurd (nr x refl)
+falls s laws w limit v Force past legal z nt = falls-force s laws w limit v past legal (legal-may s w limit _ past legal).3
+falls s laws w limit v (Accept t i m) past legal z nt = absurd (omega (arith, z))
+falls s laws w limit v (Refuse t i c) past legal z nt = absurd (omega (arith, z))
+falls s laws w limit v (Answer x a) past legal z nt = absurd (omega (arith, z))
+falls s laws w limit v (Tick t) past legal z nt = absurd (nt t refl)
+falls s laws w limit v (Return x) past legal z nt = absurd (legal-may s w limit _ past legal)

@@ -49,8 +49,7 @@ entry-live s limit past w x (Starve n) (inl h) c =
     let e : n ≡ x = eqb-true n x c in let r = place-born s past n _ h in (r.0, rw (← e) r.1, is-ended-at s past r.0 _ r.2 refl)
 entry-live s limit past w x (Starve n) (inr h) c =
     let e : n ≡ x = eqb-true n x c in let r = place-born s past n _ h in (r.0, rw (← e) r.1, is-ended-at s past r.0 _ r.2 refl)
-entry-live s limit past w x (Return n) may c =
-    let e : n ≡ x = eqb-true n x c in let r = place-born s past n _ may.1.1 in (r.0, rw (← e) r.1, is-ended-at s past r.0 _ r.2 refl)
+entry-live s limit past w x (Return n) may c = absurd may
 entry-live s limit past w x _ may c = absurd (cc c)
 
 pub end-place : (s : Plan) (past : Past) (b : Birth) → is_some (end_of (fate s past b)) ≡ true → is_ended (place_of s past b) ≡ true

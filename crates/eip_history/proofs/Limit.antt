@@ -290,12 +290,4 @@ legal-within s w limit (e ∷ past) legal = step e.kind legal (legal-within s w 
           within-own s w limit e.worker x (Starve x) past r.0 l r.1
               (λ y ne. not-same y x ne) (eq-eqb x x refl) refl (λ u was. refl),
         )
-    step (Return x) l ih =
-        let r = entry-born s limit past e.worker x (Return x) l.2 (eq-eqb x x refl) in
-        omega (
-          arith,
-          turns-more (record { worker = e.worker; kind = Return x }) past,
-          ih,
-          within-own s w limit e.worker x (Return x) past r.0 l r.1
-              (λ y ne. not-same y x ne) (eq-eqb x x refl) refl (λ u was. refl),
-        )
+    step (Return x) l ih = absurd l.2

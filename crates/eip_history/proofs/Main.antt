@@ -17,25 +17,25 @@ use Rattle.eip_history.proofs.Falls.{falls}
 use Rattle.eip_history.proofs.Ticks.{falls-tick}
 use Rattle.eip_history.proofs.Clock.{clock-rises}
 
--- each legal entry but a Return is a turn or lowers the work
+-- each legal entry is a turn or lowers the work
 pub turns-or-falls : (s : Plan) (laws : PlanLaws s) (w limit v : ℕ) (k : Kind) (past : Past)
-    → KeepsRules s w limit ((record { worker = v; kind = k }) ∷ past) → ((x : ℕ) → k ≢ Return x)
+    → KeepsRules s w limit ((record { worker = v; kind = k }) ∷ past)
     → (turns ((record { worker = v; kind = k }) ∷ past) ≡ turns past + 1) ⊎ (work s ((record { worker = v; kind = k }) ∷ past) < work s past)
 unfolding turns
-turns-or-falls s laws w limit v (Accept t i m) past legal nr = inl refl
-turns-or-falls s laws w limit v (Refuse t i c) past legal nr = inl refl
-turns-or-falls s laws w limit v (Answer x a) past legal nr = inl refl
-turns-or-falls s laws w limit v (Tick t) past legal nr =
+turns-or-falls s laws w limit v (Accept t i m) past legal = inl refl
+turns-or-falls s laws w limit v (Refuse t i c) past legal = inl refl
+turns-or-falls s laws w limit v (Answer x a) past legal = inl refl
+turns-or-falls s laws w limit v (Tick t) past legal =
     let tail = legal-tail s w limit (record { worker = v; kind = Tick t }) past legal in
     inr (falls-tick s laws w limit v t past legal (clock-rises s w limit past t tail (legal-may s w limit _ past legal).2))
-turns-or-falls s laws w limit v (Return x) past legal nr = absurd (nr x refl)
-turns-or-falls s laws w limit v (Pull t) past legal nr = inr (falls s laws w limit v (Pull t) past legal refl (λ t e. cc e) nr)
-turns-or-falls s laws w limit v (SourceEnd t) past legal nr = inr (falls s laws w limit v (SourceEnd t) past legal refl (λ t e. cc e) nr)
-turns-or-falls s laws w limit v (SourceFault t) past legal nr = inr (falls s laws w limit v (SourceFault t) past legal refl (λ t e. cc e) nr)
-turns-or-falls s laws w limit v (Start q x) past legal nr = inr (falls s laws w limit v (Start q x) past legal refl (λ t e. cc e) nr)
-turns-or-falls s laws w limit v (Take x) past legal nr = inr (falls s laws w limit v (Take x) past legal refl (λ t e. cc e) nr)
-turns-or-falls s laws w limit v (Starve x) past legal nr = inr (falls s laws w limit v (Starve x) past legal refl (λ t e. cc e) nr)
-turns-or-falls s laws w limit v Force past legal nr = inr (falls s laws w limit v Force past legal refl (λ t e. cc e) nr)
+turns-or-falls s laws w limit v (Return x) past legal = absurd (legal-may s w limit _ past legal)
+turns-or-falls s laws w limit v (Pull t) past legal = inr (falls s laws w limit v (Pull t) past legal refl (λ t e. cc e))
+turns-or-falls s laws w limit v (SourceEnd t) past legal = inr (falls s laws w limit v (SourceEnd t) past legal refl (λ t e. cc e))
+turns-or-falls s laws w limit v (SourceFault t) past legal = inr (falls s laws w limit v (SourceFault t) past legal refl (λ t e. cc e))
+turns-or-falls s laws w limit v (Start q x) past legal = inr (falls s laws w limit v (Start q x) past legal refl (λ t e. cc e))
+turns-or-falls s laws w limit v (Take x) past legal = inr (falls s laws w limit v (Take x) past legal refl (λ t e. cc e))
+turns-or-falls s laws w limit v (Starve x) past legal = inr (falls s laws w limit v (Starve x) past legal refl (λ t e. cc e))
+turns-or-falls s laws w limit v Force past legal = inr (falls s laws w limit v Force past legal refl (λ t e. cc e))
 
 -- where no hand is out and the run is at no stop, it is below the limit and somebody may act
 pub somebody-acts : (s : Plan) (laws : PlanLaws s) (w limit : ℕ) (past : Past) → KeepsRules s w limit past → hands s past ≡ 0

@@ -27,7 +27,7 @@ use Rattle.eip_history.proofs.Parts.{numbered-number}
 use Rattle.eip_history.proofs.Places.{fate-other, clock-same, ended-is, place-tick, woken}
 use Rattle.eip_history.proofs.Clock.{clock-rises}
 use Rattle.eip_history.proofs.Numbers.{newborn-at}
-use Rattle.eip_history.proofs.Acting.{is_acting, Actor, place-here, newborn-silent, entry-actor, acting-out, held-ready, waiting-silent}
+use Rattle.eip_history.proofs.Acting.{is_acting, Actor, place-here, newborn-silent, entry-actor, acting-out, waiting-silent}
 
 -- ---- of a place the moment alone
 
@@ -185,17 +185,6 @@ starved-ends s v n past b c = ap (fate_by s b) (own-here b.number (record { work
 born-one : (s : Plan) (past : Past) (x : ℕ) (b : Birth) → numbered (births s past) x ≡ Some b → (d : Birth) → numbered (births s past) b.number ≡ Some d → d ≡ b
 born-one s past x b at d u = let n = numbered-number s past x b at in let g = rw n at u in cc
 
-return-ready : (s : Plan) (w limit v n : ℕ) (past : Past) (x : ℕ) (b : Birth) → KeepsRules s w limit ((record { worker = v; kind = Return n }) ∷ past)
-    → numbered (births s past) x ≡ Some b → concerns x (Return n) ≡ true
-    → paused (clock past) (all_ended s ((record { worker = v; kind = Return n }) ∷ past)) (pause_of (last_answer (own b.number past))) ≡ place_is.Ready
-return-ready s w limit v n past x b l at c =
-    let may = legal-may s w limit _ past l in
-    let p = place-born s past n _ may.1.1 in
-    let e : n ≡ x = eqb-true n x c in
-    let u : numbered (births s past) x ≡ Some p.0 = rw (← e) p.1 in
-    let same : p.0 ≡ b = cc in
-    held-ready s w limit _ past b may.1.0 l (born-one s past x b at) (subst (λ d. place_of s past d ≡ place_is.InHand may.1.0) same p.2)
-
 start-ready : (s : Plan) (w limit v q n : ℕ) (past : Past) (x : ℕ) (b : Birth) → KeepsRules s w limit ((record { worker = v; kind = Start q n }) ∷ past)
     → numbered (births s past) x ≡ Some b → concerns x (Start q n) ≡ true
     → paused (clock past) (all_ended s ((record { worker = v; kind = Start q n }) ∷ past)) (pause_of (last_answer (own b.number past))) ≡ place_is.Ready
@@ -245,10 +234,7 @@ sleeps-own s w limit v x k past legal c = by_kind k legal c
         let m = numbered-number s past x r.0 r.1 in
         none-here (Starve n) r.0 l r.1 c' refl
         (ap (λ f. retry_due (place_by (clock past) (all_ended s (behind (Starve n))) r.0 ((record { worker = v; kind = Starve n }) ∷ own r.0.number past) f)) (starved-ends s v n past r.0 (rw m c')))
-    by_kind (Return n) l c' =
-        let r = entry-born s limit past v x (Return n) (legal-may s w limit (record { worker = v; kind = Return n }) past l) c' in
-        none-here (Return n) r.0 l r.1 c' refl (moment-back (clock past) (all_ended s (behind (Return n))) r.0 (record { worker = v; kind = Return n }) (own r.0.number past) (fate s (behind (Return n)) r.0) refl
-        (return-ready s w limit v n past x r.0 l r.1 c'))
+    by_kind (Return n) l c' = absurd (legal-may s w limit (record { worker = v; kind = Return n }) past l)
     by_kind (Start q n) l c' =
         let r = entry-born s limit past v x (Start q n) (legal-may s w limit (record { worker = v; kind = Start q n }) past l) c' in
         none-here (Start q n) r.0 l r.1 c' refl (moment-back (clock past) (all_ended s (behind (Start q n))) r.0 (record { worker = v; kind = Start q n }) (own r.0.number past) (fate s (behind (Start q n)) r.0) refl
@@ -286,7 +272,7 @@ awake-before s limit past v x (Tick t) may c = absurd (cc c)
 awake-before s limit past v x (Take n) may c = actor-awake s past x (entry-actor s limit past v x (Take n) may c refl)
 awake-before s limit past v x (Answer n a) may c = actor-awake s past x (entry-actor s limit past v x (Answer n a) may c refl)
 awake-before s limit past v x (Starve n) may c = actor-awake s past x (entry-actor s limit past v x (Starve n) may c refl)
-awake-before s limit past v x (Return n) may c = actor-awake s past x (entry-actor s limit past v x (Return n) may c refl)
+awake-before s limit past v x (Return n) may c = absurd may
 awake-before s limit past v x _ may c = absurd (cc c)
 
 nobody-slept : (now : ℕ) (k : Kind) → moves_sleepers k ≡ false → slept_in now k ≡ None

@@ -76,7 +76,7 @@ entry-born s limit past w x (Take n) may c = let e : n ≡ x = eqb-true n x c in
 entry-born s limit past w x (Answer n a) may c = let e : n ≡ x = eqb-true n x c in let r = asked-born s past n _ may.asked_is in (r.0, rw (← e) r.1)
 entry-born s limit past w x (Starve n) (inl h) c = let e : n ≡ x = eqb-true n x c in let r = place-born s past n _ h in (r.0, rw (← e) r.1)
 entry-born s limit past w x (Starve n) (inr h) c = let e : n ≡ x = eqb-true n x c in let r = place-born s past n _ h in (r.0, rw (← e) r.1)
-entry-born s limit past w x (Return n) may c = let e : n ≡ x = eqb-true n x c in let r = place-born s past n _ may.1.1 in (r.0, rw (← e) r.1)
+entry-born s limit past w x (Return n) may c = absurd may
 entry-born s limit past w x _ may c = absurd (cc c)
 
 pub own-none : (x : ℕ) → own x [] ≡ []

@@ -115,11 +115,6 @@ unfolding own story fate ended place place_of clock
 no_starve_of_the_ended (inl ready) = cc ready
 no_starve_of_the_ended (inr held) = cc held
 
--- an exchange is returned by another worker than 0
-pub no_return_by_a_worker : May pair 100 (entry 1 (kind.Take 1) ∷ entry 2 (kind.Answer 1 reply.Fresh) ∷ reverse taken_in) 1 (kind.Return 1) → ⊥
-no_return_by_a_worker may = absurd (omega (arith, may.0))
-
--- an exchange is returned that nobody has in hand
-pub no_return_of_the_ready : May small 100 (past_of early) 0 (kind.Return 4) → ⊥
-unfolding own story fate ended place place_of clock
-no_return_of_the_ready may = cc may.1.1
+-- nobody hands an exchange back, not even who has it in hand
+pub no_return_of_the_held : May pair 100 (entry 1 (kind.Take 1) ∷ entry 2 (kind.Answer 1 reply.Fresh) ∷ reverse taken_in) 1 (kind.Return 1) → ⊥
+no_return_of_the_held may = may

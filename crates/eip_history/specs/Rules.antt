@@ -229,7 +229,7 @@ May s limit past w (Answer x a) = MayAnswer s limit past w x a
 May s limit past w (Tick t) = IsQuiet s past × IsBelow s limit past × (least (dues s past) ≡ Some t)
 May s limit past w Force = IsQuiet s past × IsBelow s limit past × (least (dues s past) ≡ None) × (any_group (is_forced s) (groups s past) ≡ true)
 May s limit past w (Starve x) = (place s past x ≡ Some place_is.Ready) ⊎ (place s past x ≡ Some (place_is.InHand w))
-May s limit past w (Return x) = (w ≡ 0) × ((v : ℕ) × (place s past x ≡ Some (place_is.InHand v)))
+May s limit past w (Return x) = ⊥
 
 -- each entry is of one of the workers, and meets its rule on the prefix before it
 unfoldable pub KeepsRules : Plan → ℕ → ℕ → Past → Type 0

@@ -7,7 +7,7 @@ use Rattle.eip_frames.specs.declared.request.Request.TheVariants.{Idem}
 use Rattle.eip_frames.specs.Fits.{is_outside}
 use Rattle.eip_ledger.specs.declared.entry.Entry.{Entry}
 use Rattle.eip_ledger.specs.declared.entry.Kind.{Kind}
-use Rattle.eip_ledger.specs.declared.entry.Kind.TheVariants.{Answer, Return}
+use Rattle.eip_ledger.specs.declared.entry.Kind.TheVariants.{Answer}
 use Rattle.eip_ledger.specs.declared.place.Place.TheVariants.{Ready}
 use Rattle.eip_history.specs.Counts.{completed_count, handled_count, failed_count, waiting_count, total_count}
 use Rattle.eip_history.specs.Laws.{PlanLaws}
@@ -35,10 +35,9 @@ abbrev pub InnerAnswered : Type 0
 InnerAnswered = (s : Plan) → PlanLaws s → (limit : ℕ) (past : Past) (x : ℕ) (k : Asked) → place s past x ≡ Some Ready → asked s past x ≡ Some k
     → is_outside k.request ≡ false → IsBelow s limit past → (a : Reply) × MayAnswer s limit past 0 x a
 
--- each entry but a Return is a turn, or there is less left to do behind it
+-- each entry is a turn, or there is less left to do behind it
 abbrev pub TurnOrProgress : Type 0
 TurnOrProgress = (s : Plan) → PlanLaws s → (workers limit worker : ℕ) (k : Kind) (past : Past) → KeepsRules s workers limit ((record { worker = worker; kind = k }) ∷ past)
-    → ((x : ℕ) → k ≢ Return x)
     → (turns ((record { worker = worker; kind = k }) ∷ past) ≡ turns past + 1) ⊎ (work s ((record { worker = worker; kind = k }) ∷ past) < work s past)
 
 -- who has ended has ended behind each further entry

@@ -11,7 +11,7 @@ pub fn answering_law()
     ensures { InnerAnswered }
 {}
 
-/// Each legal entry is a turn or leaves less to do, but for one that hands an exchange back. It does nothing.
+/// Each legal entry is a turn or leaves less to do. It does nothing.
 pub fn progress_law()
     ensures { TurnOrProgress }
 {}

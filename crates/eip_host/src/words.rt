@@ -23,18 +23,27 @@ lines of peers.
                      with FILE it writes the journal of the run to that file
   eip check ROUTES   prints the routes of ROUTES in their canonical form, or the
                      first fault of the file
+  eip audit ROUTES JOURNAL
+                     tells whether the journal in the file JOURNAL is a legal
+                     history of the routes of ROUTES, or the first entry that
+                     breaks its rule, and the rule's number
+  eip migrate OLD NEW
+                     writes the journal in the file OLD to the file NEW in the
+                     latest version, and tells how many entries it has
   eip load N 0       runs the built-in load test over N items, from 1 to 20000,
                      and prints the last three lines of its book
   eip --help         prints this page
   eip --version      prints the version
 
 The status tells how a run came out:
-  0  every exchange came to its end, or the routes were printed
-  1  the words or the route file were refused
+  0  every exchange came to its end, the routes were printed, or the journal
+     is legal or was migrated
+  1  the words, the route file or the dump were refused
   2  the files, a source or standard output failed
   3  groups are still open, and nothing will close them
   4  the turns were spent before the end
   5  there was no memory
+  6  the journal is not legal
 
 Example, with a file routes.json that holds
   [{\"from\": {\"uri\": \"stream:in\", \"steps\": [

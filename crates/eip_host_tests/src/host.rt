@@ -120,21 +120,25 @@ fn a_file_of_the_system_is_read(rt: HostRuntime) -> Result<(), Fail> {
 }
 
 /// What the page of help tells of each command and status.
-const TOLD: [&str; 14] = [
+const TOLD: [&str; 18] = [
     "\n  eip drain ROUTES [--turns N] [--journal FILE]\n",
     " N turns, from 1 to 1000000, ",
     " 100000 where N is not given ",
     " the journal of the run ",
     "\n  eip check ROUTES   ",
+    "\n  eip audit ROUTES JOURNAL\n",
+    "\n  eip migrate OLD NEW\n",
     "\n  eip load N 0       ",
     "\n  eip --help         ",
     "\n  eip --version      ",
-    "\n  0  every exchange came to its end, or the routes were printed\n",
-    "\n  1  the words or the route file were refused\n",
+    "\n  0  every exchange came to its end, the routes were printed, or the journal\n",
+    " is legal or was migrated\n",
+    "\n  1  the words, the route file or the dump were refused\n",
     "\n  2  the files, a source or standard output failed\n",
     "\n  3  ",
     "\n  4  the turns were spent before the end\n",
     "\n  5  there was no memory\n",
+    "\n  6  the journal is not legal\n",
 ];
 
 #[test]

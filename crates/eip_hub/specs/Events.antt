@@ -3,8 +3,11 @@ use Rattle.std.specs.Prelude.{ℕ, ◌≡◌, ◌+◌, List, [], Option}
 use Rattle.eip_route.specs.declared.route.RouteSet.{RouteSet}
 use Rattle.eip_ledger.specs.declared.entry.Kind.{Kind}
 use Rattle.eip_ledger.specs.declared.place.Place.{Place}
+use Rattle.eip_history.specs.Births.{asked}
+use Rattle.eip_history.specs.Owner.{owner, outlet_by, IsOwner}
 use Rattle.eip_history.specs.Place.{place}
 use Rattle.eip_history.specs.Rules.{May, IsBelow}
+use Rattle.eip_outlets.specs.Outlets.{outlets}
 use Rattle.eip_books.specs.View.{BooksView, plan, IsLegalRun, Adds}
 
 -- the rule of an entry on the journal so far
@@ -41,3 +44,11 @@ pub record UsesRoom (old new : BooksView) (w : ℕ) (k : Kind) (known : List ℕ
   pub legal : IsLegalRun new
   pub room : new.room + 1 ≡ old.room
   pub outside : new.outside ≡ known
+
+-- the inlet of a route's source belongs to worker w
+abbrev pub Owns : BooksView → (w t : ℕ) → Type 0
+Owns v w t = w ≡ owner v.journal.workers ((outlets v.set).inlet t)
+
+-- an exchange asks a lane or an inlet of worker w, or nobody's
+abbrev pub MayAsk : BooksView → (w x : ℕ) → Type 0
+MayAsk v w x = IsOwner v.journal.workers w (outlet_by (outlets v.set) (asked (plan v) v.journal.past x))

@@ -1,4 +1,4 @@
-ghost use Rattle.std.specs.Prelude.{◌≡◌, ◌+◌, ◌<◌, ◌≤◌, [], ℕ, length, slice_get, IfOk, OnOk, OnErr, Some, IfSome, IfNone, true, false};
+ghost use Rattle.std.specs.Prelude.{◌≡◌, ◌+◌, ◌<◌, ◌≤◌, ◌↔◌, [], ℕ, length, slice_get, IfOk, OnOk, OnErr, Some, IfSome, IfNone, IsTrue, true, false};
 ghost use Rattle.eip_ledger.specs.declared.entry.Kind.TheVariants.{Pull, Accept, Refuse, SourceEnd, SourceFault, Take, Tick, Force, Starve, Answer as Answered};
 ghost use Rattle.eip_ledger.specs.declared.place.Place.TheVariants.{Ready, InHand};
 ghost use Rattle.eip_history.specs.Own.{turns};
@@ -12,7 +12,8 @@ ghost use Rattle.eip_frames.specs.Fits.{fits, is_outside};
 ghost use Rattle.eip_tables.specs.declared.asking.Inner.TheVariants.{Did, Outside};
 ghost use Rattle.eip_books.specs.View.{plan, IsLegalRun, Adds, AddsNone, AddsAnswer, StartsFirst};
 ghost use Rattle.eip_tables.specs.Places.{inner_of};
-ghost use Rattle.eip_hub.specs.Events.{Allows, Enters, IsBelowLimit, IsNewRun, UsesRoom, place_in};
+ghost use Rattle.eip_books.specs.Owned.{is_takeable};
+ghost use Rattle.eip_hub.specs.Events.{Allows, Enters, IsBelowLimit, IsNewRun, MayAsk, Owns, UsesRoom, place_in};
 ghost use Rattle.eip_tables.specs.Groups.{seen_group, shown_group};
 ghost use Rattle.eip_tables.specs.Outside.{is_among, outside_after, unlooked_numbers, IsAsked};
 ghost use Rattle.std.specs.Prelude.{option_map};
@@ -137,6 +138,14 @@ impl Hub {
         self.books.stop()
     }
 
+    /// Whether turns and hands are below the limit.
+    pub fn below_limit(&self) -> bool
+        ensures below { IsTrue result ↔ IsBelowLimit self.now }
+        ensures legal { IsLegalRun self.now }
+    {
+        self.books.is_below()
+    }
+
     /// The least number of a Ready exchange.
     pub fn ready(&self) -> Option<u64>
         ensures { result ≡ first (ready_numbers (plan self.now) self.now.journal.past) }
@@ -180,6 +189,27 @@ impl Hub {
         } else {
             None
         }
+    }
+
+    /// Pulls the first source, by route, that may be pulled and whose inlet belongs to this worker, from 1 on: that of the index e, from 0,
+    /// where e modulo the number of workers is one less than the worker. None exactly where there is no such source, or the limit is met.
+    pub fn pull_owned(&mut self, worker: u32) -> Option<u32>
+        requires worker { (1 ≤ worker) × (worker ≤ self.old.journal.workers) }
+        requires room { 1 ≤ self.old.room }
+        ensures may { IfSome result (λ t. Allows self.old worker (Pull t)) }
+        ensures owner { IfSome result (λ t. Owns self.old worker t) }
+        ensures enters { IfSome result (λ t. UsesRoom self.old self.new worker (Pull t) self.old.outside) }
+        ensures least { IfSome result (λ t. (r : ℕ) → r < t → Allows self.old worker (Pull r) → Owns self.old worker r → ⊥) }
+        ensures none { IfNone result (self.new ≡ self.old) }
+        ensures exact { IfNone result ((r : ℕ) → Allows self.old worker (Pull r) → Owns self.old worker r → ⊥) }
+        ensures legal { IsLegalRun self.new }
+    {
+        let source = self.books.owned_source(worker)?;
+        if !self.books.is_below() {
+            return None;
+        }
+        self.books.pull(worker, source);
+        Some(source)
     }
 
     /// The pulled source gave an item, which is a new exchange.
@@ -337,6 +367,31 @@ impl Hub {
         ensures legal { IsLegalRun self.new }
     {
         let number = self.books.known_outside()?;
+        if !self.books.is_below() {
+            return None;
+        }
+        Some(self.books.take(worker, number))
+    }
+
+    /// Takes in hand the least Ready exchange that is known as Outside and asks a lane or an inlet of this worker, from 1 on, or a processor
+    /// or a predicate, which belong to everybody. None exactly where there is none, or the limit is met.
+    pub fn take_owned(&mut self, worker: u32) -> Option<Ticket>
+        requires worker { (1 ≤ worker) × (worker ≤ self.old.journal.workers) }
+        requires room { 1 ≤ self.old.room }
+        ensures worker { IfSome result (λ t. t.worker ≡ worker) }
+        ensures may { IfSome result (λ t. Allows self.old worker (Take t.number)) }
+        ensures owner { IfSome result (λ t. MayAsk self.old worker t.number) }
+        ensures enters { IfSome result (λ t. UsesRoom self.old self.new worker (Take t.number) (without t.number self.old.outside)) }
+        ensures asked { IfSome result (λ t. IsAsked (plan self.new) self.new.journal.past t.number t.request) }
+        ensures of_outside { IfSome result (λ t. is_outside t.request ≡ true) }
+        ensures place { IfSome result (λ t. place_in self.new t.number ≡ Some (InHand worker)) }
+        ensures known { IfSome result (λ t. is_among t.number self.old.outside ≡ true) }
+        ensures least { IfSome result (λ t. (x : ℕ) → x < t.number → is_takeable self.old worker x ≡ false) }
+        ensures none { IfNone result (self.new ≡ self.old) }
+        ensures exact { IfNone result (IsBelowLimit self.old → (x : ℕ) → is_takeable self.old worker x ≡ false) }
+        ensures legal { IsLegalRun self.new }
+    {
+        let number = self.books.owned_outside(worker)?;
         if !self.books.is_below() {
             return None;
         }

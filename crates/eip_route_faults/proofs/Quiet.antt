@@ -1,5 +1,5 @@
 -- No fault of the definition is one that the count of patterns' faults tells.
-use Rattle.std.proofs.Common.{ℕ, zero, ℤ, ◌+◌, ◌≡◌, ◌&&◌, inl, inr, Bool, true, false, cond, List, [], ◌∷◌, ◌++◌, Option, Some, None, Result, Ok, Err, refl, sym, ap, ◌∙◌, subst, nat_le, arith}
+use Rattle.std.proofs.Common.{ℕ, zero, ℤ, ◌+◌, ◌≡◌, ◌&&◌, inl, inr, Bool, true, false, cond, List, [], ◌∷◌, ◌++◌, Option, Some, None, Result, Ok, Err, refl, sym, ap, ◌∙◌, subst, arith}
 use Rattle.eip_text.specs.Causes.{Rises}
 use Rattle.eip_text.specs.Json.{Json, null, flag, whole, float, word, list, object, Items, no_items, item, Members, no_members, member}
 use Rattle.eip_uri.specs.declared.uri.Uri.{Uri}
@@ -20,7 +20,7 @@ use Rattle.eip_route_grammar.specs.Texts.{unhashed}
 use Rattle.eip_route_faults.specs.Values.{unless, name_cause, handed_in, registered, served, consumer_cause, producer_cause, read_cause, spelled_cause, key_cause, word_cause, whole_cause, flag_cause}
 use Rattle.eip_route_grammar.specs.Objects.{clashes, missed, missing, known, keyed, known_one, one_key, is_note, one_aside, own_keys, keys_of, value_kind, parameters_of, whole_object, when, completes}
 use Rattle.eip_route_grammar.specs.Paths.{key_step, index_step}
-use Rattle.eip_route_faults.specs.Sites.{predicate, Site, found, under, has_none, is_deep, own_list, item_kind, deeper, is_predicate, word_sites, sites_at, items_sites, members_sites, cause_at, or_later, first_fault, cause_failures, found_failures, Walks}
+use Rattle.eip_route_faults.specs.Sites.{predicate, Site, found, under, has_none, is_deep, own_list, item_kind, deeper, is_predicate, word_sites, sites_at, items_sites, members_sites, cause_at, or_later, first_fault, cause_failures, found_failures, Builder, Walks}
 use Rattle.eip_route_grammar.specs.declared.fault.Cause.{Cause}
 use Rattle.eip_route_grammar.specs.declared.fault.Cause.TheVariants as cause
 use Rattle.eip_route_grammar.specs.declared.fault.RouteFault.{RouteFault}
@@ -261,8 +261,8 @@ stays w b n e h =
     subst P (sym e) (subst Q (sym h) (still b))
 
 -- the count of patterns' faults rose where a walk answers so
-pub walk_rises : (ss : List Site) (a : Option RouteFault) (b n : ℕ) (k l : List Entry) → AreQuiet ss → Walks ss a b k n l → Rises (found_failures a) b n
+pub walk_rises : (ss : List Site) (a : Option RouteFault) (b n : Builder) (k l : List Entry) → AreQuiet ss → Walks ss a b k n l → Rises (found_failures a) b.faults n.faults
 unfolding Walks
-walk_rises ss None b n k l q h = stays 0 b n refl h.1
-walk_rises ss (Some f) b n k l q (inl h) = stays (cause_failures f.cause) b n (first_quiet ss f q h.0) h.1
+walk_rises ss None b n k l q h = stays 0 b.faults n.faults refl h.1.faults
+walk_rises ss (Some f) b n k l q (inl h) = stays (cause_failures f.cause) b.faults n.faults (first_quiet ss f q h.0) h.1.faults
 walk_rises ss (Some f) b n k l q (inr h) = h.1

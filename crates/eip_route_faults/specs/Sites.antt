@@ -6,6 +6,8 @@ use Rattle.eip_simple_read.specs.declared.tree.Predicate.{Predicate}
 use Rattle.eip_simple_read.specs.declared.fault.SimpleFault.{SimpleFault}
 use Rattle.eip_simple_read.specs.Meaning.{predicate_of, IsPatternAt}
 use Rattle.eip_simple_read.specs.Patterns.{IsNoPattern}
+use Rattle.eip_simple_read.specs.Builds.{Told, added, built, patterns_in, EndsRefusedAt, Begins}
+use Rattle.eip_simple_read.specs.declared.pattern.Patterns.{Ghosts as PatternsMembers}
 use Rattle.eip_route.specs.declared.route.Names.{Names}
 use Rattle.eip_route_grammar.specs.Objects.{own_keys, keys_of, value_kind, parameters_of, whole_object}
 use Rattle.eip_route_grammar.specs.Paths.{key_step, index_step}
@@ -143,10 +145,52 @@ abbrev pub IsRefusedAt : Site → RouteFault → Type 0
 IsRefusedAt (path, wrong c) f = ⊥
 IsRefusedAt (path, predicate w) f = (f.path ≡ path) × IsRefused w f.cause
 
+-- the patterns of the predicate up to the refused one were asked for
+abbrev pub AsksUntil : Mark → Cause → Told → Told → Type 0
+AsksUntil (wrong c) _ before after = ⊥
+AsksUntil (predicate w) (cause.BadPattern at) before after = EndsRefusedAt w at before after
+AsksUntil (predicate w) (cause.PatternTooLarge at) before after = EndsRefusedAt w at before after
+AsksUntil (predicate w) _ before after = ⊥
+
 -- the fault is that of a refused pattern, at a predicate before which nothing is wrong
 unfoldable pub Stops : List Site → RouteFault → Type 0
 Stops [] f = ⊥
 Stops (s ∷ ss) f = IsRefusedAt s f ⊎ ((cause_at s.1 ≡ None) × Stops ss f)
+
+-- ---- the patterns of a tree
+
+abbrev pub patterns_of : Mark → List (List ℕ)
+patterns_of (wrong c) = []
+patterns_of (predicate w) = patterns_in None w
+
+abbrev pub unless_wrong : Option Cause → List (List ℕ) → List (List ℕ)
+unless_wrong None more = more
+unless_wrong (Some c) more = []
+
+-- the patterns at these places in their order, up to the first fault
+unfoldable pub patterns_at : List Site → List (List ℕ)
+patterns_at [] = []
+patterns_at (s ∷ ss) = patterns_of s.1 ++ unless_wrong (cause_at s.1) (patterns_at ss)
+
+-- the fault is that of a refused pattern, at a predicate before which nothing is wrong; each pattern before it was built, and none behind it was asked for
+unfoldable pub RefusesAfter : List Site → RouteFault → Told → Told → Type 0
+RefusesAfter [] f before after = ⊥
+RefusesAfter (s ∷ ss) f before after =
+    (IsRefusedAt s f × AsksUntil s.1 f.cause before after) ⊎ ((cause_at s.1 ≡ None) × RefusesAfter ss f (added before (built (patterns_of s.1))) after)
+
+-- what contracts see of a builder of patterns: its count of faults, and its builds, where it tells them
+pub record Builder : Type 0 where
+  pub faults : ℕ
+  pub builds : Told
+
+-- by the members of the object
+abbrev pub builder : {P : Type 0} → PatternsMembers P → P → Builder
+builder m p = record { faults = m.pattern_faults p; builds = m.pattern_builds p }
+
+-- each of these patterns was built, one behind the other
+pub record Builds (patterns : List (List ℕ)) (before after : Builder) : Type 0 where
+  pub faults : after.faults ≡ before.faults
+  pub builds : after.builds ≡ added before.builds (built patterns)
 
 -- ---- the predicates of a tree
 
@@ -174,18 +218,25 @@ abbrev pub found_failures : Option RouteFault → ℕ
 found_failures None = 0
 found_failures (Some f) = cause_failures f.cause
 
--- What a walk over the places answers, with the count of patterns' faults and the predicates that are known before and behind it.
--- Nothing: nothing is wrong, and the predicates are known. A fault: it is the first one, or that of a refused pattern that comes before it.
-unfoldable pub Walks : List Site → Option RouteFault → ℕ → List Entry → ℕ → List Entry → Type 0
-Walks ss None b k n l = (first_fault ss ≡ None) × (n ≡ b) × (l ≡ k ++ entries_at ss)
-Walks ss (Some f) b k n l = ((first_fault ss ≡ Some f) × (n ≡ b)) ⊎ (Stops ss f × Rises (cause_failures f.cause) b n)
+-- What a walk over the places answers, with the builder of patterns and the predicates that are known before and behind it.
+-- Nothing: nothing is wrong, each pattern was built once, and the predicates are known. A fault: it is the first one, and each pattern before it was
+-- built; or it is that of a refused pattern before any other fault.
+unfoldable pub Walks : List Site → Option RouteFault → Builder → List Entry → Builder → List Entry → Type 0
+Walks ss None b k n l = (first_fault ss ≡ None) × Builds (patterns_at ss) b n × (l ≡ k ++ entries_at ss)
+Walks ss (Some f) b k n l =
+    ((first_fault ss ≡ Some f) × Builds (patterns_at ss) b n) ⊎ (RefusesAfter ss f b.builds n.builds × Rises (cause_failures f.cause) b.faults n.faults)
 
 -- What want of memory leaves of the count of patterns' faults: it is as before, unless memory was wanting to tell the fault of a refused pattern,
 -- before which nothing is wrong.
 abbrev pub Starves : List Site → ℕ → ℕ → Type 0
 Starves ss b n = (n ≡ b) ⊎ ((f : RouteFault) × Stops ss f × Rises (cause_failures f.cause) b n)
 
+-- what it leaves of the builder: so much of its count, and patterns from the left that it was asked for
+pub record Starved (ss : List Site) (before after : Builder) : Type 0 where
+  pub faults : Starves ss before.faults after.faults
+  pub builds : Begins (patterns_at ss) before.builds after.builds
+
 -- a walk that answered, or that want of memory ended
-abbrev pub Walked : {E : Type 0} → List Site → Result (Option RouteFault) E → ℕ → List Entry → ℕ → List Entry → Type 0
+abbrev pub Walked : {E : Type 0} → List Site → Result (Option RouteFault) E → Builder → List Entry → Builder → List Entry → Type 0
 Walked ss (Ok a) b k n l = Walks ss a b k n l
-Walked ss (Err e) b k n l = Starves ss b n
+Walked ss (Err e) b k n l = Starved ss b n

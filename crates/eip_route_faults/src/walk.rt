@@ -5,7 +5,7 @@ ghost use Rattle.eip_text.specs.Json.{json, word, list, object, items_json, memb
 ghost use Rattle.eip_route_grammar.specs.Objects as objects;
 ghost use Rattle.eip_route_grammar.specs.Paths as paths;
 ghost use Rattle.eip_route_faults.specs.Sites as spec;
-ghost use Rattle.eip_route_faults.specs.Sites.{Walked};
+ghost use Rattle.eip_route_faults.specs.Sites.{Walked, builder};
 
 use crate::values::{flag_cause, simple_cause, whole_cause, word_cause};
 use eip_route::Names;
@@ -102,8 +102,8 @@ fn find_in_predicate<P: Patterns>(
     text: &Text,
 ) -> Result<Option<RouteFault>, NoMemory>
     ensures { Walked (([], spec.predicate text.now) ∷ []) result
-        (P.pattern_faults patterns.old) known.old
-        (P.pattern_faults patterns.new) known.new }
+        (builder P.Patterns patterns.old) known.old
+        (builder P.Patterns patterns.new) known.new }
 {
     match read_predicate(alloc, text, patterns) {
         Ok(predicate) => {
@@ -127,8 +127,8 @@ fn find_by_rule<P: Patterns>(
     text: &Text,
 ) -> Result<Option<RouteFault>, NoMemory>
     ensures { Walked (spec.word_sites names.now parameters.now (Some rule) text.now) result
-        (P.pattern_faults patterns.old) known.old
-        (P.pattern_faults patterns.new) known.new }
+        (builder P.Patterns patterns.old) known.old
+        (builder P.Patterns patterns.new) known.new }
 {
     if is_predicate(rule) {
         let found = find_in_predicate(alloc, patterns, known, text)?;
@@ -149,8 +149,8 @@ fn find_in_word<P: Patterns>(
     text: &Text,
 ) -> Result<Option<RouteFault>, NoMemory>
     ensures { Walked (spec.word_sites names.now parameters.now rule text.now) result
-        (P.pattern_faults patterns.old) known.old
-        (P.pattern_faults patterns.new) known.new }
+        (builder P.Patterns patterns.old) known.old
+        (builder P.Patterns patterns.new) known.new }
 {
     match rule {
         None => {
@@ -180,8 +180,8 @@ pub fn find_fault<P: Patterns>(
 ) -> Result<Option<RouteFault>, NoMemory>
     requires { depth ≤ 16 }
     ensures { Walked (spec.sites_at names.now depth parameters.now kind (json tree.now)) result
-        (P.pattern_faults patterns.old) known.old
-        (P.pattern_faults patterns.new) known.new }
+        (builder P.Patterns patterns.old) known.old
+        (builder P.Patterns patterns.new) known.new }
 {
     match tree {
         Tree::Null => {
@@ -230,8 +230,8 @@ fn find_in_list<P: Patterns>(
 ) -> Result<Option<RouteFault>, NoMemory>
     requires { depth ≤ 16 }
     ensures { Walked (spec.list_sites names.now depth kind (items_json items.now)) result
-        (P.pattern_faults patterns.old) known.old
-        (P.pattern_faults patterns.new) known.new }
+        (builder P.Patterns patterns.old) known.old
+        (builder P.Patterns patterns.new) known.new }
 {
     let list = kind.list();
     match enter(depth, list, has_none(items)) {
@@ -259,8 +259,8 @@ fn find_in_object<P: Patterns>(
 ) -> Result<Option<RouteFault>, NoMemory>
     requires { depth ≤ 16 }
     ensures { Walked (spec.object_sites names.now depth kind (members_json members.now)) result
-        (P.pattern_faults patterns.old) known.old
-        (P.pattern_faults patterns.new) known.new }
+        (builder P.Patterns patterns.old) known.old
+        (builder P.Patterns patterns.new) known.new }
 {
     let own = own_keys(alloc, kind, members)?;
     match own {
@@ -288,8 +288,8 @@ fn find_inside<P: Patterns>(
 ) -> Result<Option<RouteFault>, NoMemory>
     requires { depth ≤ 16 }
     ensures { Walked (spec.inner_sites names.now depth kind (members_json members.now)) result
-        (P.pattern_faults patterns.old) known.old
-        (P.pattern_faults patterns.new) known.new }
+        (builder P.Patterns patterns.old) known.old
+        (builder P.Patterns patterns.new) known.new }
 {
     let parameters = parameters_of(alloc, members)?;
     let beside = parameters.as_slice();
@@ -316,8 +316,8 @@ pub fn find_in_items<P: Patterns>(
 ) -> Result<Option<RouteFault>, NoMemory>
     requires { depth ≤ 16 }
     ensures { Walked (spec.items_sites names.now depth kind 0 (items_json items.now)) result
-        (P.pattern_faults patterns.old) known.old
-        (P.pattern_faults patterns.new) known.new }
+        (builder P.Patterns patterns.old) known.old
+        (builder P.Patterns patterns.new) known.new }
 {
     for (k, item) in items.iter().enumerate() {
         let found = find_fault(alloc, names, patterns, known, depth, &[], kind, item)?;
@@ -343,8 +343,8 @@ fn find_in_members<P: Patterns>(
     requires { depth ≤ 16 }
     ensures { Walked
         (spec.members_sites names.now depth parameters.now kind (members_json members.now)) result
-        (P.pattern_faults patterns.old) known.old
-        (P.pattern_faults patterns.new) known.new }
+        (builder P.Patterns patterns.old) known.old
+        (builder P.Patterns patterns.new) known.new }
 {
     for member in members {
         let inner = value_kind(kind, member.0.as_str());

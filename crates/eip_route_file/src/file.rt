@@ -4,7 +4,7 @@ ghost use Rattle.std.specs.Prelude.{◌≡◌, IfOk, option_map};
 ghost use Rattle.eip_text.specs.Causes.{Rises};
 ghost use Rattle.eip_text.specs.Json.{json, items_json};
 ghost use Rattle.eip_route_grammar.specs.Objects.{when};
-ghost use Rattle.eip_route_faults.specs.Sites.{Walked, found_failures};
+ghost use Rattle.eip_route_faults.specs.Sites.{Walked, builder, found_failures};
 ghost use Rattle.eip_route_file.specs.Later as spec;
 
 use crate::later::{has_more_routes, later_fault};
@@ -48,8 +48,8 @@ fn find_in_list<P: Patterns>(
     items: &[Tree],
 ) -> Result<Option<RouteFault>, NoMemory>
     ensures { Walked (spec.list_file names.now (items_json items.now)) result
-        (P.pattern_faults patterns.old) known.old
-        (P.pattern_faults patterns.new) known.new }
+        (builder P.Patterns patterns.old) known.old
+        (builder P.Patterns patterns.new) known.new }
 {
     let found = find_in_items(alloc, names, patterns, known, 0, Kind::Item, items)?;
     match found {
@@ -69,8 +69,8 @@ fn find_in_file<P: Patterns>(
     items: &[Tree],
 ) -> Result<Option<RouteFault>, NoMemory>
     ensures { Walked (spec.items_file names.now (items_json items.now)) result
-        (P.pattern_faults patterns.old) known.old
-        (P.pattern_faults patterns.new) known.new }
+        (builder P.Patterns patterns.old) known.old
+        (builder P.Patterns patterns.new) known.new }
 {
     let many = many_routes(items);
     match many {
@@ -93,8 +93,8 @@ fn find_whole<P: Patterns>(
     tree: &Tree,
 ) -> Result<Option<RouteFault>, NoMemory>
     ensures { Walked (spec.whole_sites names.now (json tree.now)) result
-        (P.pattern_faults patterns.old) known.old
-        (P.pattern_faults patterns.new) known.new }
+        (builder P.Patterns patterns.old) known.old
+        (builder P.Patterns patterns.new) known.new }
 {
     let list = items_in(tree);
     match list {
@@ -124,8 +124,8 @@ pub fn find_fault<P: Patterns>(
     tree: &Tree,
 ) -> Result<Option<RouteFault>, NoMemory>
     ensures finds { Walked (spec.file_sites names.now (json tree.now)) result
-        (P.pattern_faults patterns.old) known.old
-        (P.pattern_faults patterns.new) known.new }
+        (builder P.Patterns patterns.old) known.old
+        (builder P.Patterns patterns.new) known.new }
     ensures cause { IfOk result (λ a. Rises (found_failures a)
         (P.pattern_faults patterns.old) (P.pattern_faults patterns.new)) }
 {

@@ -6,7 +6,8 @@ use Rattle.eip_route.specs.Nest.{flat_set}
 use Rattle.eip_route.specs.Valid.{IsValid}
 use Rattle.eip_route.specs.declared.route.Names.{Names}
 use Rattle.eip_route.specs.declared.route.RouteSet.{RouteSet}
-use Rattle.eip_route_faults.specs.Sites.{Site, wrong, first_fault, Stops, cause_failures, Starves}
+use Rattle.eip_simple_read.specs.Builds.{Told, added, built, Begins}
+use Rattle.eip_route_faults.specs.Sites.{Site, wrong, first_fault, Stops, cause_failures, Starves, patterns_at, RefusesAfter}
 use Rattle.eip_route_grammar.specs.declared.fault.Cause.{Cause}
 use Rattle.eip_route_grammar.specs.declared.fault.Cause.TheVariants as cause
 use Rattle.eip_route_grammar.specs.declared.fault.RouteFault.{RouteFault}
@@ -50,6 +51,13 @@ abbrev pub ReadsAt : List Site → RouteSet → ℕ → ℕ → Result RouteSet 
 ReadsAt at set before after (Ok s) = (first_fault at ≡ None) × (s ≡ set) × (after ≡ before) × IsValid s
 ReadsAt at set before after (Err (refusal.Refused f)) = Finds at before after f
 ReadsAt at set before after (Err refusal.NoMemory) = Starves at before after
+
+-- What a builder of patterns was asked for, by an answer to what is judged at these places: for each pattern once, in their order. All were built, up to
+-- the first fault; or all up to the one whose refusal is the answer. For want of memory it may be fewer.
+abbrev pub AsksFor : List Site → Told → Told → Result RouteSet RouteRefusal → Type 0
+AsksFor at before after (Ok s) = after ≡ added before (built (patterns_at at))
+AsksFor at before after (Err (refusal.Refused f)) = ((first_fault at ≡ Some f) × (after ≡ added before (built (patterns_at at)))) ⊎ RefusesAfter at f before after
+AsksFor at before after (Err refusal.NoMemory) = Begins (patterns_at at) before after
 
 -- a refusal of the whole file for a cause, or want of memory
 abbrev pub Refuses : Cause → RouteRefusal → Type 0

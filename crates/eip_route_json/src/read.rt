@@ -3,7 +3,7 @@ ghost use Rattle.eip_text.specs.Json.{json};
 ghost use Rattle.eip_route.specs.Nest.{flat_set};
 ghost use Rattle.eip_route_file.specs.Later.{file_sites};
 ghost use Rattle.eip_route_values.specs.Sets.{nest};
-ghost use Rattle.eip_route_json.specs.Reading.{ReadsAt, Refuses, byte_sites, is_too_long, set_of};
+ghost use Rattle.eip_route_json.specs.Reading.{AsksFor, ReadsAt, Refuses, byte_sites, is_too_long, set_of};
 
 use crate::sets::build_routes;
 use eip_route::{Names, RouteSet};
@@ -52,7 +52,8 @@ pub fn read_routes<P: Patterns>(
     names: &Names,
     patterns: &mut P,
 ) -> Result<RouteSet, RouteRefusal>
-    ensures { ReadsAt (byte_sites names.now bytes.now) (set_of names.now bytes.now) (P.pattern_faults patterns.old) (P.pattern_faults patterns.new) result }
+    ensures reads { ReadsAt (byte_sites names.now bytes.now) (set_of names.now bytes.now) (P.pattern_faults patterns.old) (P.pattern_faults patterns.new) result }
+    ensures asks { AsksFor (byte_sites names.now bytes.now) (P.pattern_builds patterns.old) (P.pattern_builds patterns.new) result }
 {
     if is_too_long(bytes) {
         return Err(refused(alloc, Cause::TooLong));
@@ -72,14 +73,14 @@ fn is_too_long(bytes: &[u8]) -> bool
 }
 
 /// The routes of a file's tree.
-#[tactic(auto, using(crate::proofs::Walked::walk_finds))]
 fn read_tree<P: Patterns>(
     alloc: Global,
     tree: &Tree,
     names: &Names,
     patterns: &mut P,
 ) -> Result<RouteSet, RouteRefusal>
-    ensures { ReadsAt (file_sites names.now (json tree.now)) (flat_set names.now (nest (json tree.now))) (P.pattern_faults patterns.old) (P.pattern_faults patterns.new) result }
+    ensures reads { ReadsAt (file_sites names.now (json tree.now)) (flat_set names.now (nest (json tree.now))) (P.pattern_faults patterns.old) (P.pattern_faults patterns.new) result }
+    ensures asks { AsksFor (file_sites names.now (json tree.now)) (P.pattern_builds patterns.old) (P.pattern_builds patterns.new) result }
 {
     let mut known = Known::new(alloc);
     let found = find_fault(alloc, names, patterns, &mut known, tree)?;

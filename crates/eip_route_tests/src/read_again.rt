@@ -57,26 +57,30 @@ fn changed(alloc: Global, rows: &str) -> Result<&str, NoMemory> {
     Ok("")
 }
 
+/// The tables of wrong keys.
+const KEYS: [&str; 5] = [
+    UNKNOWN_KEYS,
+    NOT_ONE_KEY,
+    MISSING_KEYS,
+    DOUBLED_KEYS,
+    SECOND_KEYS,
+];
+
 #[test]
 fn keys_that_are_unknown_missing_or_too_many_are_told(rt: HostRuntime) -> Result<(), Fail> {
-    let tables = [
-        UNKNOWN_KEYS,
-        NOT_ONE_KEY,
-        MISSING_KEYS,
-        DOUBLED_KEYS,
-        SECOND_KEYS,
-    ];
-    for rows in tables {
+    for rows in KEYS {
         let row = wrong(rt.alloc(), rows, ALL)?;
         assert!(rt; row.is_empty(), "of {row}");
     }
     Ok(())
 }
 
+/// The tables of wrong values.
+const VALUES: [&str; 5] = [WRONG_KINDS, BAD_VALUES, BAD_SIMPLE, BAD_URIS, WRONG_SIDES];
+
 #[test]
 fn values_that_may_not_stand_there_are_told(rt: HostRuntime) -> Result<(), Fail> {
-    let tables = [WRONG_KINDS, BAD_VALUES, BAD_SIMPLE, BAD_URIS, WRONG_SIDES];
-    for rows in tables {
+    for rows in VALUES {
         let row = wrong(rt.alloc(), rows, ALL)?;
         assert!(rt; row.is_empty(), "of {row}");
     }
@@ -94,10 +98,12 @@ fn nothing_is_registered_where_nothing_is_handed_in(rt: HostRuntime) -> Result<(
     Ok(())
 }
 
+/// The tables of refused patterns, with the number of the one that is refused.
+const REFUSED: [(&str, u64); 2] = [(FIRST_PATTERN_REFUSED, 1), (SECOND_PATTERN_REFUSED, 2)];
+
 #[test]
 fn a_refused_pattern_stands_before_what_comes_behind_it(rt: HostRuntime) -> Result<(), Fail> {
-    let tables = [(FIRST_PATTERN_REFUSED, 1), (SECOND_PATTERN_REFUSED, 2)];
-    for (rows, refused) in tables {
+    for (rows, refused) in REFUSED {
         let given = Given {
             handed: Handed::Everything,
             refused,
@@ -108,10 +114,12 @@ fn a_refused_pattern_stands_before_what_comes_behind_it(rt: HostRuntime) -> Resu
     Ok(())
 }
 
+/// The tables of files with several faults.
+const SEVERAL: [&str; 3] = [WHOLE_OBJECTS, SEVERAL_FAULTS, LATER_FAULTS];
+
 #[test]
 fn the_first_of_the_faults_of_objects_and_items_is_told(rt: HostRuntime) -> Result<(), Fail> {
-    let tables = [WHOLE_OBJECTS, SEVERAL_FAULTS, LATER_FAULTS];
-    for rows in tables {
+    for rows in SEVERAL {
         let row = wrong(rt.alloc(), rows, ALL)?;
         assert!(rt; row.is_empty(), "of {row}");
     }

@@ -31,37 +31,39 @@ fn is_counted(alloc: Global, file: &str, expected: &str) -> Result<bool, NoMemor
     }
 }
 
+/// Files, and what is counted of their sets.
+const ROWS: [(&str, &str); 8] = [
+    ("[]", "0 0"),
+    (r#"[{"from":{"uri":"stream:in"}}]"#, "route1 1 0"),
+    (
+        r#"[{"route":{"id":"a","from":{"uri":"seda:q","steps":[]}}},{"from":{"uri":"seda:r"}}]"#,
+        "a route2 2 0",
+    ),
+    (
+        r#"[{"on-exception":{"exception":"E","steps":[]}},{"onException":{"exception":["E"],"steps":[{"to":"log:x"}]}}]"#,
+        "1 2",
+    ),
+    (
+        r#"[{"from":{"uri":"direct:d","steps":[{"multicast":{"steps":[{"to":"log:x"},{"filter":{"constant":true,"steps":[]}}]}}]}}]"#,
+        "route1 4 0",
+    ),
+    (
+        r#"[{"from":{"uri":"direct:d","steps":[{"choice":{"otherwise":{"steps":[]},"when":[{"constant":"true","steps":[]},{"ref":"empty","steps":[]}]}}]}}]"#,
+        "route1 4 0",
+    ),
+    (
+        r#"[{"from":{"uri":"direct:d","steps":[{"doTry":{"steps":[],"doCatch":[{"exception":"E","steps":[]},{"exception":"F","steps":[{"filter":{"constant":true,"steps":[]}}]}],"doFinally":{"steps":[]}}}]}}]"#,
+        "route1 6 0",
+    ),
+    (
+        r#"[{"from":{"uri":"direct:d","steps":[{"resequence":{"header":"h","steps":[{"filter":{"constant":true,"steps":[]}}]}}]}}]"#,
+        "route1 4 0",
+    ),
+];
+
 #[test]
 fn routes_have_their_names_and_blocks(rt: HostRuntime) -> Result<(), Fail> {
-    let rows = [
-        ("[]", "0 0"),
-        (r#"[{"from":{"uri":"stream:in"}}]"#, "route1 1 0"),
-        (
-            r#"[{"route":{"id":"a","from":{"uri":"seda:q","steps":[]}}},{"from":{"uri":"seda:r"}}]"#,
-            "a route2 2 0",
-        ),
-        (
-            r#"[{"on-exception":{"exception":"E","steps":[]}},{"onException":{"exception":["E"],"steps":[{"to":"log:x"}]}}]"#,
-            "1 2",
-        ),
-        (
-            r#"[{"from":{"uri":"direct:d","steps":[{"multicast":{"steps":[{"to":"log:x"},{"filter":{"constant":true,"steps":[]}}]}}]}}]"#,
-            "route1 4 0",
-        ),
-        (
-            r#"[{"from":{"uri":"direct:d","steps":[{"choice":{"otherwise":{"steps":[]},"when":[{"constant":"true","steps":[]},{"ref":"empty","steps":[]}]}}]}}]"#,
-            "route1 4 0",
-        ),
-        (
-            r#"[{"from":{"uri":"direct:d","steps":[{"doTry":{"steps":[],"doCatch":[{"exception":"E","steps":[]},{"exception":"F","steps":[{"filter":{"constant":true,"steps":[]}}]}],"doFinally":{"steps":[]}}}]}}]"#,
-            "route1 6 0",
-        ),
-        (
-            r#"[{"from":{"uri":"direct:d","steps":[{"resequence":{"header":"h","steps":[{"filter":{"constant":true,"steps":[]}}]}}]}}]"#,
-            "route1 4 0",
-        ),
-    ];
-    for (file, expected) in rows {
+    for (file, expected) in ROWS {
         assert!(rt; is_counted(rt.alloc(), file, expected)?, "of {file}");
     }
     Ok(())

@@ -42,7 +42,8 @@ fn some_names(alloc: Global, lanes: &[&str], inlets: &[&str]) -> Result<Names, N
     })
 }
 
-fn names(alloc: Global, handed: Handed) -> Result<Names, NoMemory> {
+/// The names that are handed in.
+pub fn names(alloc: Global, handed: Handed) -> Result<Names, NoMemory> {
     match handed {
         Handed::Nothing => Ok(Names::none(alloc)),
         Handed::OneOfEach => some_names(alloc, &["lane:x"], &["stream"]),

@@ -18,8 +18,7 @@ use Rattle.eip_route_grammar.specs.declared.fault.RouteFault.{RouteFault}
 use Rattle.eip_command.specs.Words.{command_of, journal_of}
 use Rattle.eip_command.specs.declared.words.Path.{Path}
 use Rattle.eip_command.specs.declared.words.Command.{Command}
-use Rattle.eip_command.specs.declared.words.Command.TheVariants.{Drain, Check, Load}
-use Rattle.eip_endpoint.specs.Content.{IfTold}
+use Rattle.eip_command.specs.declared.words.Command.TheVariants.{Check, Audit, Migrate}
 use Rattle.eip_endpoint.specs.Files.{File}
 use Rattle.eip_endpoint.specs.declared.files.FileRead.{FileRead}
 use Rattle.eip_endpoint.specs.declared.files.FilesFault.{FilesFault}
@@ -52,13 +51,18 @@ use Rattle.eip_core.proofs.Handed.{runs-inlets}
 use Rattle.eip_run.specs.declared.report.Outcome.{Outcome}
 use Rattle.eip_run.specs.declared.report.Outcome.TheVariants as outcome
 use Rattle.eip_run.specs.Kept.{Keeps}
-use Rattle.eip_run.specs.Outcomes.{unkept, left_by, behind}
-use Rattle.eip_run.specs.Given.{Setting, asked, begun}
-use Rattle.eip_run.specs.Prepared.{sites, held_at, IsReadOf, WasRead, IsSpared, HasRoutes}
-use Rattle.eip_run.specs.Reports.{RunsTo, IsRun, KeptBy, Comes, NoCommand, NotRead, NoRoutes, WasChecked, Stopped, Starved, LacksMemory, LacksText, Reports}
-use Rattle.eip_run.specs.Caused.{InletRose, SourceFailed, CauseOfStop, CauseOf, PatternsOf, IsUnharmed, Completes, Prints, IsFaultless, IsRefusedFor, IsHeldAt, Holds, InFile, IsOfSize, IsRight, Causes}
+use Rattle.eip_verdict.specs.declared.verdict.Verdict.{Verdict}
+use Rattle.eip_verdict.specs.declared.verdict.Verdict.TheVariants as verdict
+use Rattle.eip_run.specs.Routes.{set_in}
+use Rattle.eip_run.specs.Outcomes.{unkept, left_by, judged, behind}
+use Rattle.eip_run.specs.Given.{Asked, Setting, asked, begun}
+use Rattle.eip_run.specs.Prepared.{sites, IsReadOf, WasRead, IsSpared, HasRoutes}
+use Rattle.eip_run.specs.Reports.{RunsTo, IsRun, KeptBy, Comes, NoCommand, NotRead, NoRoutes, WasChecked, Stopped, Starved, DumpUnread, NoJournal, WasJudged, WasMigrated, NotMigrated, LacksMemory, LacksText, LacksLine, AsksDump, ToAudit, ToMigrate, Reports}
+use Rattle.eip_run.specs.Caused.{InletRose, SourceFailed, CauseOfStop, CauseOf, PatternsOf, IsUnharmed, Completes, Prints, IsFaultless, IsRefusedFor, Holds, InFile, IsOfSize, IsRight, IsAudited, AsksAudit, IsRefusedDump, IsVerdictOn, HasVerdict, IsMigrationOf, Dumps, Causes}
 use Rattle.eip_run.proofs.Runnable.{Runs}
 use Rattle.eip_run.proofs.Ending.{routes-run}
+use Rattle.eip_run.proofs.Held.{one-command, same-places}
+use Rattle.eip_run.proofs.DumpCauses.{told-bad, behind-bad, told-verdict, behind-verdict, told-migrated, behind-migrated}
 
 -- ---- counts
 
@@ -139,7 +143,7 @@ fault-acted d k t door (e ∷ past) h = by_first (first_fault past) refl (fault-
         let some : 1 ≤ faults_at k (pulls_in d e.kind) = by_kind e.kind g in
         omega arith
 
-fault-among : (d : Doors) (k t : ℕ) → d.inlet t ≡ Some k → (past : Past) (vs : List Served) → first_fault past ≡ Some t → 1 ≤ faults_at k (inlet_acts d past vs)
+fault-among : (d : Doors) (k t : ℕ) → d.inlet t ≡ Some k → (past : Past) (vs : List Served) → first_fault past ≡ Some t → 1 ≤ faults_at k (inlet_acts d past (seen_answers vs))
 fault-among d k t door past vs h =
     let sum = faults_at-append k (pulls d past) (commits d (seen_answers vs)) in
     let some = fault-acted d k t door past h in
@@ -216,6 +220,10 @@ unkept-caused x (stop.Held groups) rose h = h
 unkept-caused x stop.Spent rose h = h
 unkept-caused x stop.NoMemory rose h = h
 
+audited : (x : Setting) (v : Verdict) → IsAudited x v → CauseOf x (judged v)
+audited x (verdict.Legal entries) h = h
+audited x (verdict.Wrong entry rule) h = h
+
 told-caused : (x : Setting) (told : Outcome) (text : List ℕ) → Comes x told text → CauseOf x told
 told-caused x told text (NoCommand none still calm) = none
 told-caused x told text (NotRead k command names still rises calm) = rises-rose 1 _ _ (omega arith) rises
@@ -235,6 +243,13 @@ told-caused x told text (Stopped k limit set s kept to has ran ne keeps wrote) =
 told-caused x told text (Starved k limit set kept to has ran keeps) = (limit, (k, has.command, to), tt)
 told-caused x told text (LacksMemory still count spared) = tt
 told-caused x told text (LacksText k limit set s kept to has ran ne keeps) = tt
+told-caused x told text (DumpUnread dump asks still rises) = rises-rose 1 _ _ (omega arith) rises
+told-caused x told text (NoJournal dump line asks still bad) = record { dump = dump; asks = asks; bad = bad }
+told-caused x told text (WasJudged p dump set v has still says) = audited x v (record { path = p; dump = dump; set = set; routes = has; judged = says })
+told-caused x told text (WasMigrated old new entries m) =
+    record { old = old; new = new; command = m.command; journal = m.moved.journal; held = m.moved.held; count = m.moved.count }
+told-caused x told text (NotMigrated old new entries m) = rises-rose 1 _ _ (omega arith) m.moved.wrote.faults
+told-caused x told text (LacksLine old new entries m) = tt
 
 -- the sink's fault is the cause where there was none before it
 behind-caused : (x : Setting) (told : Outcome) (w : Result Unit SinkFault) → Rises (sink_failure w) x.before.sink_faults x.after.sink_faults → CauseOf x told
@@ -250,6 +265,10 @@ behind-caused x (outcome.Ran (stop.SourceFault t)) (Err fault.Failed) rises h = 
 behind-caused x (outcome.Ran (stop.Held groups)) (Err fault.Failed) rises h = h
 behind-caused x (outcome.Ran stop.Spent) (Err fault.Failed) rises h = h
 behind-caused x (outcome.Ran stop.NoMemory) (Err fault.Failed) rises h = h
+behind-caused x (outcome.Legal entries) (Err fault.Failed) rises h = rises-rose 1 _ _ (omega arith) rises
+behind-caused x (outcome.Wrong entry rule) (Err fault.Failed) rises h = rises-rose 1 _ _ (omega arith) rises
+behind-caused x (outcome.BadDump line) (Err fault.Failed) rises h = h
+behind-caused x (outcome.Migrated entries) (Err fault.Failed) rises h = rises-rose 1 _ _ (omega arith) rises
 behind-caused x outcome.SinkFault (Err fault.Failed) rises h = h
 behind-caused x outcome.NoMemory (Err fault.Failed) rises h = h
 
@@ -268,6 +287,11 @@ starved-behind (Ok u) = inr refl
 starved-behind (Err fault.Failed) = inr refl
 starved-behind (Err fault.NoMemory) = inr refl
 
+-- who asks for a dump is a command
+no-asker : (y : Asked) (dump : Path) → command_of y.words ≡ None → AsksDump y dump → ⊥
+no-asker y dump none (ToAudit p d set has) = cc (none, has.command)
+no-asker y dump none (ToMigrate old new command calm) = cc (none, command)
+
 refused-behind : (x : Setting) (told : Outcome) (text : List ℕ) (w : Result Unit SinkFault) → command_of x.words ≡ None → Comes x told text → IsRefused (behind told w)
 refused-behind x told text w none (NoCommand _ still calm) = words-behind w
 refused-behind x told text w none (NotRead k command names still rises calm) = absurd (cc (none, command))
@@ -277,6 +301,12 @@ refused-behind x told text w none (Stopped k limit set s kept to has ran ne keep
 refused-behind x told text w none (Starved k limit set kept to has ran keeps) = absurd (cc (none, has.command))
 refused-behind x told text w none (LacksMemory still count spared) = starved-behind w
 refused-behind x told text w none (LacksText k limit set s kept to has ran ne keeps) = absurd (cc (none, has.command))
+refused-behind x told text w none (DumpUnread dump asks still rises) = absurd (no-asker (begun x) dump none asks)
+refused-behind x told text w none (NoJournal dump line asks still bad) = absurd (no-asker (asked x) dump none asks)
+refused-behind x told text w none (WasJudged p dump set v has still says) = absurd (cc (none, has.command))
+refused-behind x told text w none (WasMigrated old new entries m) = absurd (cc (none, m.command))
+refused-behind x told text w none (NotMigrated old new entries m) = absurd (cc (none, m.command))
+refused-behind x told text w none (LacksLine old new entries m) = absurd (cc (none, m.command))
 
 -- ---- the patterns' count
 
@@ -297,6 +327,14 @@ left-patterns x s (Ok u) h = h
 left-patterns x s (Err files_fault.Failed) h = unkept-patterns x s h
 left-patterns x s (Err files_fault.NoMemory) h = inl h
 
+asker-patterns : (y : Asked) (dump : Path) → AsksDump y dump → y.after.pattern_faults ≡ y.before.pattern_faults
+asker-patterns y dump (ToAudit p d set has) = has.patterns
+asker-patterns y dump (ToMigrate old new command calm) = calm.patterns
+
+judged-patterns : (x : Setting) (v : Verdict) → x.after.materials.pattern_faults ≡ x.before.materials.pattern_faults → PatternsOf x (judged v)
+judged-patterns x (verdict.Legal entries) h = h
+judged-patterns x (verdict.Wrong entry rule) h = h
+
 told-patterns : (x : Setting) (told : Outcome) (text : List ℕ) → Comes x told text → PatternsOf x told
 told-patterns x told text (NoCommand none still calm) = calm.patterns
 told-patterns x told text (NotRead k command names still rises calm) = calm
@@ -306,6 +344,12 @@ told-patterns x told text (Stopped k limit set s kept to has ran ne keeps wrote)
 told-patterns x told text (Starved k limit set kept to has ran keeps) = has.patterns
 told-patterns x told text (LacksMemory still count spared) = spared
 told-patterns x told text (LacksText k limit set s kept to has ran ne keeps) = inl has.patterns
+told-patterns x told text (DumpUnread dump asks still rises) = asker-patterns (begun x) dump asks
+told-patterns x told text (NoJournal dump line asks still bad) = asker-patterns (asked x) dump asks
+told-patterns x told text (WasJudged p dump set v has still says) = judged-patterns x v has.patterns
+told-patterns x told text (WasMigrated old new entries m) = m.patterns
+told-patterns x told text (NotMigrated old new entries m) = m.patterns
+told-patterns x told text (LacksLine old new entries m) = inl m.patterns
 
 starved-patterns : (x : Setting) (told : Outcome) → PatternsOf x told → IsSpared (asked x)
 starved-patterns x outcome.Words h = inl h
@@ -314,6 +358,10 @@ starved-patterns x (outcome.Routes f) (inr h) = inr (f, h)
 starved-patterns x outcome.FilesFault h = inl h
 starved-patterns x outcome.Checked h = inl h
 starved-patterns x (outcome.Ran s) h = inl h
+starved-patterns x (outcome.Legal entries) h = inl h
+starved-patterns x (outcome.Wrong entry rule) h = inl h
+starved-patterns x (outcome.BadDump line) h = inl h
+starved-patterns x (outcome.Migrated entries) h = inl h
 starved-patterns x outcome.SinkFault h = inl h
 starved-patterns x outcome.NoMemory h = h
 
@@ -329,6 +377,10 @@ behind-patterns x (outcome.Ran (stop.SourceFault t)) (Err fault.Failed) h = h
 behind-patterns x (outcome.Ran (stop.Held groups)) (Err fault.Failed) h = h
 behind-patterns x (outcome.Ran stop.Spent) (Err fault.Failed) h = h
 behind-patterns x (outcome.Ran stop.NoMemory) (Err fault.Failed) h = h
+behind-patterns x (outcome.Legal entries) (Err fault.Failed) h = h
+behind-patterns x (outcome.Wrong entry rule) (Err fault.Failed) h = h
+behind-patterns x (outcome.BadDump line) (Err fault.Failed) h = h
+behind-patterns x (outcome.Migrated entries) (Err fault.Failed) h = h
 behind-patterns x outcome.SinkFault (Err fault.Failed) h = h
 behind-patterns x outcome.NoMemory (Err fault.Failed) h = h
 
@@ -344,34 +396,14 @@ without-faults x (outcome.Ran (stop.SourceFault t)) h u = u.inlets h.2.inlet h.2
 without-faults x (outcome.Ran (stop.Held groups)) h u = tt
 without-faults x (outcome.Ran stop.Spent) h u = tt
 without-faults x (outcome.Ran stop.NoMemory) h u = tt
+without-faults x (outcome.Legal entries) h u = tt
+without-faults x (outcome.Wrong entry rule) h u = tt
+without-faults x (outcome.BadDump line) h u = tt
+without-faults x (outcome.Migrated entries) h u = tt
 without-faults x outcome.SinkFault h u = u.sink h
 without-faults x outcome.NoMemory h u = tt
 
--- ---- the file that the words name
-
--- two commands of the same words are one
-one-command : (x : Setting) (k l : Command) → command_of x.words ≡ Some k → command_of x.words ≡ Some l → k ≡ l
-one-command x k l a b = cc (a, b)
-
--- what was read of a path is what its file holds
-path-held : (p : Path) (files : Option (List File)) (held read : FileRead) → IsHeldAt p files held → IfTold files (λ all. read ≡ held_at p all) → read ≡ held
-path-held p files held read h told = subst (λ (o : Option (List File)). IfTold o (λ all. read ≡ held_at p all)) h.told told ∙ sym h.held
-
-read-held : (k : Command) (files : Option (List File)) (held read : FileRead) → Holds k files held → IsReadOf k files read → read ≡ held
-read-held (Drain p turns journal) files held read h told = path-held p files held read h told
-read-held (Check p) files held read h told = path-held p files held read h told
-read-held (Load n) files held read h told = told ∙ sym h
-
--- so what the routes were read from is what they are read from
-was-held : (x : Setting) (k l : Command) (held read : FileRead) → InFile x k held → command_of x.words ≡ Some l → IsReadOf l x.before.materials.files read → read ≡ held
-was-held x k l held read f command was =
-    let same : l ≡ k = one-command x l k command f.command in
-    read-held k x.before.materials.files held read f.holds (subst (λ (c : Command). IsReadOf c x.before.materials.files read) same was)
-
--- and what is found in it is
-same-places : (x : Setting) (k l : Command) (held read : FileRead) → InFile x k held → command_of x.words ≡ Some l → IsReadOf l x.before.materials.files read → sites (asked x) read ≡ sites (asked x) held
-same-places x k l held read f command was =
-    ap (λ (r : FileRead). sites (asked x) r) (was-held x k l held read f command was)
+-- ---- routes with a fault
 
 -- routes with a fault aren't taken
 none-taken : (x : Setting) (k l : Command) (held read : FileRead) (g : RouteFault) → InFile x k held → sites_are.first_fault (sites (asked x) held) ≡ Some g → command_of x.words ≡ Some l
@@ -384,6 +416,11 @@ none-taken x k l held read g f wrong command was faultless =
 found-for : (at : List Site) (before after : ℕ) (f g : RouteFault) → Finds at before after g → sites_are.first_fault at ≡ Some f → (g ≡ f) ⊎ Stops at g
 found-for at before after f g (inl h) wrong = let both : Some g ≡ Some f = sym h.0 ∙ wrong in inl (cc both)
 found-for at before after f g (inr h) wrong = inr h.0
+
+-- a migration has no routes
+unread-migration : (x : Setting) (k : Command) (old new : Path) (held : FileRead) → InFile x k held → command_of x.words ≡ Some (Migrate old new) → ⊥
+unread-migration x k old new held f command =
+    subst (λ (c : Command). Holds c x.before.materials.files held) (one-command x k (Migrate old new) f.command command) f.holds
 
 told-refused : (x : Setting) (k : Command) (held : FileRead) (f : RouteFault) (told : Outcome) (text : List ℕ) → InFile x k held → sites_are.first_fault (sites (asked x) held) ≡ Some f → Comes x told text
     → IsRefusedFor (sites (asked x) held) f told
@@ -398,6 +435,15 @@ told-refused x k held f told text file wrong (Stopped l limit set s kept to has 
 told-refused x k held f told text file wrong (Starved l limit set kept to has ran keeps) = none-taken x k l held has.read f file wrong has.command has.answer.answer has.faultless
 told-refused x k held f told text file wrong (LacksMemory still count spared) = tt
 told-refused x k held f told text file wrong (LacksText l limit set s kept to has ran ne keeps) = tt
+told-refused x k held f told text file wrong (DumpUnread dump asks still rises) = tt
+told-refused x k held f told text file wrong (NoJournal dump line (ToAudit p d set has) still bad) =
+    none-taken x k (Audit p dump) held has.read f file wrong has.command has.answer.answer has.faultless
+told-refused x k held f told text file wrong (NoJournal dump line (ToMigrate old new command calm) still bad) = absurd (unread-migration x k dump new held file command)
+told-refused x k held f told text file wrong (WasJudged p dump set v has still says) =
+    absurd (none-taken x k (Audit p dump) held has.read f file wrong has.command has.answer.answer has.faultless)
+told-refused x k held f told text file wrong (WasMigrated old new entries m) = absurd (unread-migration x k old new held file m.command)
+told-refused x k held f told text file wrong (NotMigrated old new entries m) = tt
+told-refused x k held f told text file wrong (LacksLine old new entries m) = tt
 
 behind-refused : (at : List Site) (f : RouteFault) (told : Outcome) (w : Result Unit SinkFault) → IsRefusedFor at f told → IsRefusedFor at f (behind told w)
 behind-refused at f told (Ok u) h = h
@@ -407,6 +453,10 @@ behind-refused at f (outcome.Routes g) (Err fault.Failed) h = h
 behind-refused at f outcome.FilesFault (Err fault.Failed) h = h
 behind-refused at f outcome.Checked (Err fault.Failed) h = h
 behind-refused at f (outcome.Ran s) (Err fault.Failed) h = absurd h
+behind-refused at f (outcome.Legal entries) (Err fault.Failed) h = absurd h
+behind-refused at f (outcome.Wrong entry rule) (Err fault.Failed) h = absurd h
+behind-refused at f (outcome.BadDump line) (Err fault.Failed) h = absurd h
+behind-refused at f (outcome.Migrated entries) (Err fault.Failed) h = absurd h
 behind-refused at f outcome.SinkFault (Err fault.Failed) h = h
 behind-refused at f outcome.NoMemory (Err fault.Failed) h = h
 
@@ -426,19 +476,33 @@ not-refused x k held g h file right u =
     let same : sites (asked x) h.read ≡ sites (asked x) held = same-places x k h.command held h.read file h.words h.answer.answer in
     u.patterns (right-found (sites (asked x) held) g x.before.materials.pattern_faults x.after.materials.pattern_faults right (subst (λ (at : List Site). Finds at x.before.materials.pattern_faults x.after.materials.pattern_faults g) same h.refused))
 
--- a check doesn't run
-no-run : (x : Setting) (k : Command) (p : Path) (limit : ℕ) → command_of x.words ≡ Some k → command_of x.words ≡ Some (Check p) → RunsTo k limit → ⊥
-no-run x k p limit asks checks to = subst (λ (c : Command). RunsTo c limit) (one-command x k (Check p) asks checks) to
+-- another command that doesn't run
+no-run : (x : Setting) (k l : Command) (limit : ℕ) → command_of x.words ≡ Some k → command_of x.words ≡ Some l → (RunsTo l limit → ⊥) → RunsTo k limit → ⊥
+no-run x k l limit asks other none to = none (subst (λ (c : Command). RunsTo c limit) (one-command x k l asks other) to)
+
+-- nor does one that asks for a dump
+no-run-asker : (x : Setting) (k : Command) (limit : ℕ) (dump : Path) → command_of x.words ≡ Some k → AsksDump (asked x) dump → RunsTo k limit → ⊥
+no-run-asker x k limit dump asks (ToAudit p d set has) to = no-run x k (Audit p dump) limit asks has.command (λ r. r) to
+no-run-asker x k limit dump asks (ToMigrate old new command calm) to = no-run x k (Migrate dump new) limit asks command (λ r. r) to
 
 drains : (x : Setting) (k : Command) (limit : ℕ) (held : FileRead) (o : Outcome) → CauseOf x o → RunsTo k limit → InFile x k held → IsRight (sites (asked x) held) → IsUnharmed x
     → IsFaultless o → Completes o
 drains x k limit held outcome.Words h to file right u f = absurd (cc (h, file.command))
 drains x k limit held (outcome.Routes g) h to file right u f = absurd (not-refused x k held g h file right u)
 drains x k limit held outcome.FilesFault h to file right u f = f
-drains x k limit held outcome.Checked h to file right u f = absurd (no-run x k h.0 limit file.command h.1 to)
+drains x k limit held outcome.Checked h to file right u f = absurd (no-run x k (Check h.0) limit file.command h.1 (λ r. r) to)
+drains x k limit held (outcome.Legal entries) h to file right u f = absurd (no-run x k (Audit h.path h.dump) limit file.command h.routes.command (λ r. r) to)
+drains x k limit held (outcome.Wrong entry rule) h to file right u f = absurd (no-run x k (Audit h.path h.dump) limit file.command h.routes.command (λ r. r) to)
+drains x k limit held (outcome.BadDump line) h to file right u f = absurd (no-run-asker x k limit h.dump file.command h.asks to)
+drains x k limit held (outcome.Migrated entries) h to file right u f = absurd (no-run x k (Migrate h.old h.new) limit file.command h.command (λ r. r) to)
 drains x k limit held (outcome.Ran s) h to file right u f = f
 drains x k limit held outcome.SinkFault h to file right u f = f
 drains x k limit held outcome.NoMemory h to file right u f = f
+
+-- a check asks for no dump
+no-check : (x : Setting) (p dump : Path) → command_of x.words ≡ Some (Check p) → AsksDump (asked x) dump → ⊥
+no-check x p dump checks (ToAudit q d set has) = cc (checks, has.command)
+no-check x p dump checks (ToMigrate old new command calm) = cc (checks, command)
 
 prints : (x : Setting) (p : Path) (held : FileRead) (o : Outcome) → CauseOf x o → InFile x (Check p) held → IsRight (sites (asked x) held) → IsUnharmed x
     → IsFaultless o → Prints o
@@ -446,11 +510,45 @@ prints x p held outcome.Words h file right u f = absurd (cc (h, file.command))
 prints x p held (outcome.Routes g) h file right u f = absurd (not-refused x (Check p) held g h file right u)
 prints x p held outcome.FilesFault h file right u f = f
 prints x p held outcome.Checked h file right u f = tt
-prints x p held (outcome.Ran s) h file right u f = absurd (no-run x h.1.0 p h.0 h.1.1 file.command h.1.2)
+prints x p held (outcome.Ran s) h file right u f = absurd (no-run x h.1.0 (Check p) h.0 h.1.1 file.command (λ r. r) h.1.2)
+prints x p held (outcome.Legal entries) h file right u f = absurd (cc (file.command, h.routes.command))
+prints x p held (outcome.Wrong entry rule) h file right u f = absurd (cc (file.command, h.routes.command))
+prints x p held (outcome.BadDump line) h file right u f = absurd (no-check x p h.dump file.command h.asks)
+prints x p held (outcome.Migrated entries) h file right u f = absurd (cc (file.command, h.command))
 prints x p held outcome.SinkFault h file right u f = f
 prints x p held outcome.NoMemory h file right u f = tt
 
--- ---- the clause
+-- an audit gives its verdict where nothing failed
+has-verdict : (x : Setting) (dump : Path) (routes : FileRead) (set : RouteSet) (j : JournalView) (o : Outcome) → CauseOf x o → AsksAudit x dump routes → IsVerdictOn set j o
+    → IsUnharmed x → HasVerdict o
+has-verdict x dump routes set j outcome.Words h asks v u = absurd v
+has-verdict x dump routes set j (outcome.Routes g) h asks v u = absurd (not-refused x (Audit asks.path dump) routes g h asks.file asks.right u)
+has-verdict x dump routes set j outcome.FilesFault h asks v u = absurd (u.files h)
+has-verdict x dump routes set j outcome.Checked h asks v u = absurd v
+has-verdict x dump routes set j (outcome.Ran s) h asks v u = absurd v
+has-verdict x dump routes set j (outcome.Legal entries) h asks v u = tt
+has-verdict x dump routes set j (outcome.Wrong entry rule) h asks v u = tt
+has-verdict x dump routes set j (outcome.BadDump line) h asks v u = absurd v
+has-verdict x dump routes set j (outcome.Migrated entries) h asks v u = absurd v
+has-verdict x dump routes set j outcome.SinkFault h asks v u = absurd (u.sink h)
+has-verdict x dump routes set j outcome.NoMemory h asks v u = tt
+
+-- ---- the clauses
+
+dumps : (x : Setting) (o : Outcome) → Reports x o → CauseOf x o → Dumps x o
+dumps x o r cause =
+    let is : behind r.told r.tells.write ≡ o = sym r.tells.outcome in
+    record {
+      refused = λ dump routes read line asks held bad.
+          subst (IsRefusedDump read) is (behind-bad read r.told r.tells.write (told-bad x dump routes read line r.told r.text asks held bad r.comes));
+      judged = λ dump routes read j asks held is_text.
+          let v : IsVerdictOn (set_in (asked x).names routes) j o =
+          subst (IsVerdictOn (set_in (asked x).names routes) j) is
+          (behind-verdict (set_in (asked x).names routes) j r.told r.tells.write (told-verdict x dump routes read j r.told r.text asks held is_text r.comes)) in
+          (v, has-verdict x dump routes (set_in (asked x).names routes) j o cause asks v);
+      migrated = λ dump read j asks held is_text.
+          subst (IsMigrationOf j) is (behind-migrated j r.told r.tells.write (told-migrated x dump read j r.told r.text asks held is_text r.comes));
+    }
 
 pub causes : (x : Setting) (o : Outcome) → Reports x o → Causes x o
 causes x o r =
@@ -466,4 +564,5 @@ causes x o r =
           (behind-refused (sites (asked x) read) f r.told r.tells.write (told-refused x k read f r.told r.text file wrong r.comes));
       drained = λ k limit read to file right u. drains x k limit read o cause to file right u (without-faults x o cause u);
       checked = λ p read file right u. prints x p read o cause file right u (without-faults x o cause u);
+      dumps = dumps x o r cause;
     }

@@ -33,7 +33,7 @@ use Rattle.eip_command.specs.Words.{command_of, journal_of, IsDrain}
 use Rattle.eip_command.proofs.Commands.{command_is}
 use Rattle.eip_command.specs.declared.words.Path.{Path}
 use Rattle.eip_command.specs.declared.words.Command.{Command}
-use Rattle.eip_command.specs.declared.words.Command.TheVariants.{Drain, Check, Load}
+use Rattle.eip_command.specs.declared.words.Command.TheVariants.{Drain, Check, Audit, Load, Migrate}
 use Rattle.eip_run.specs.declared.prepare.Job.{Job}
 use Rattle.eip_run.specs.declared.prepare.Job.TheVariants as job
 use Rattle.eip_run.specs.declared.prepare.Refusal.TheVariants as refusal
@@ -46,10 +46,13 @@ use Rattle.eip_run.specs.Kept.{Keeps}
 use Rattle.eip_run.specs.Outcomes.{left_by}
 use Rattle.eip_run.specs.declared.print.Account.{Account}
 use Rattle.eip_run.specs.declared.print.Account.TheVariants as account
-use Rattle.eip_run.specs.Prepared.{job_of, sites, Answers, Reads, WasRead, IsSpared, HasRoutes, Prepares, NoCommand, NotRead, NoRoutes, Found, LacksMemory}
-use Rattle.eip_run.specs.Printed.{OfRefusal, OfWords, OfFiles, OfRoutes, OfNoLine, OfMemory, OfCheck, OfText, OfNone, OfRun, OfStop, OfStarved, OfNoText, TellsRefusal, TellsCheck, TellsRun}
+use Rattle.eip_run.specs.Prepared.{job_of, sites, Answers, Reads, WasRead, IsCalm, IsSpared, HasRoutes, Prepares, NoCommand, NotRead, NoRoutes, Found, HasNone, LacksMemory}
+use Rattle.eip_run.specs.Printed.{OfRefusal, OfWords, OfFiles, OfRoutes, OfNoLine, OfMemory, OfCheck, OfText, OfNone, OfRun, OfStop, OfStarved, OfNoText, OfNoJournal, OfBadLine, OfNoBadLine, OfUnread, OfPoor, OfAudit, OfVerdict, OfNoVerdict, OfUnjudged, OfMigration, OfEntries, OfNoEntries, OfUnmoved, TellsRefusal, TellsCheck, TellsVerdict, TellsMigration, TellsRun}
 use Rattle.eip_run.specs.Drained.{Drained, RanTo, NotBegun}
-use Rattle.eip_run.specs.Reports.{IsStill, Ran, IsRun, account_text, RunsTo, told_of, KeptBy, Comes, Reports, NoCommand as Refused, NotRead as Failed, NoRoutes as Faulty, WasChecked, Stopped, Starved, LacksMemory as Poor, LacksText}
+use Rattle.eip_verdict.specs.declared.verdict.Verdict.{Verdict}
+use Rattle.eip_run.specs.declared.dumps.DumpRefusal.{DumpRefusal}
+use Rattle.eip_run.specs.Dumps.{LacksJournal, Judges, Migrates}
+use Rattle.eip_run.specs.Reports.{IsIdle, IsStill, Ran, IsRun, account_text, RunsTo, told_of, KeptBy, Comes, Reports, NoCommand as Refused, NotRead as Failed, NoRoutes as Faulty, WasChecked, Stopped, Starved, AsksDump, ToAudit, ToMigrate, DumpUnread, NoJournal, WasJudged, WasMigrated, NotMigrated, LacksMemory as Poor, LacksText, LacksLine}
 use Rattle.eip_core.proofs.Compose.{plain-behind}
 use Rattle.eip_run.proofs.Runnable.{Runs, valid-runs}
 use Rattle.eip_run.proofs.Sites.{whole-faulty}
@@ -158,7 +161,10 @@ has-drain x r set limit named (Found (Drain p turns journal) s has) e =
     let file : journal ≡ named = cc e in
     (p, subst (HasRoutes x (Drain p limit named)) same (subst (λ (n : ℕ). HasRoutes x (Drain p n named) s) most (subst (λ (f : Option Path). HasRoutes x (Drain p turns f) s) file has)))
 has-drain x r set limit named (Found (Check p) s has) e = absurd (cc e)
+has-drain x r set limit named (Found (Audit p dump) s has) e = absurd (cc e)
 has-drain x r set limit named (Found (Load n) s has) e = absurd (cc e)
+has-drain x r set limit named (Found (Migrate old new) s has) e = absurd (cc e)
+has-drain x r set limit named (HasNone old new command calm) e = absurd (cc e)
 has-drain x r set limit named (LacksMemory count calm) e = absurd (cc e)
 
 -- a check of these routes
@@ -168,7 +174,10 @@ has-check x r set (NotRead k command names rises calm) e = absurd (cc e)
 has-check x r set (NoRoutes k read f command was h) e = absurd (cc e)
 has-check x r set (Found (Check p) s has) e = let same : s ≡ set = cc e in (p, subst (HasRoutes x (Check p)) same has)
 has-check x r set (Found (Drain p turns journal) s has) e = absurd (cc e)
+has-check x r set (Found (Audit p dump) s has) e = absurd (cc e)
 has-check x r set (Found (Load n) s has) e = absurd (cc e)
+has-check x r set (Found (Migrate old new) s has) e = absurd (cc e)
+has-check x r set (HasNone old new command calm) e = absurd (cc e)
 has-check x r set (LacksMemory count calm) e = absurd (cc e)
 
 -- a load of these routes
@@ -179,7 +188,43 @@ has-load x r set (NoRoutes k read f command was h) e = absurd (cc e)
 has-load x r set (Found (Load n) s has) e = let same : s ≡ set = cc e in (n, subst (HasRoutes x (Load n)) same has)
 has-load x r set (Found (Drain p turns journal) s has) e = absurd (cc e)
 has-load x r set (Found (Check p) s has) e = absurd (cc e)
+has-load x r set (Found (Audit p dump) s has) e = absurd (cc e)
+has-load x r set (Found (Migrate old new) s has) e = absurd (cc e)
+has-load x r set (HasNone old new command calm) e = absurd (cc e)
 has-load x r set (LacksMemory count calm) e = absurd (cc e)
+
+-- an audit by these routes of this dump
+has-audit : (x : Asked) (r : Result Job Refusal) (set : RouteSet) (dump : Path) → Prepares x r → r ≡ Ok (job.Audit set dump) → (p : Path) × HasRoutes x (Audit p dump) set
+has-audit x r set dump (NoCommand none calm) e = absurd (cc e)
+has-audit x r set dump (NotRead k command names rises calm) e = absurd (cc e)
+has-audit x r set dump (NoRoutes k read f command was h) e = absurd (cc e)
+has-audit x r set dump (Found (Audit p d) s has) e =
+    let same : s ≡ set = cc e in
+    let file : d ≡ dump = cc e in
+    (p, subst (HasRoutes x (Audit p dump)) same (subst (λ (f : Path). HasRoutes x (Audit p f) s) file has))
+has-audit x r set dump (Found (Drain p turns journal) s has) e = absurd (cc e)
+has-audit x r set dump (Found (Check p) s has) e = absurd (cc e)
+has-audit x r set dump (Found (Load n) s has) e = absurd (cc e)
+has-audit x r set dump (Found (Migrate old new) s has) e = absurd (cc e)
+has-audit x r set dump (HasNone old new command calm) e = absurd (cc e)
+has-audit x r set dump (LacksMemory count calm) e = absurd (cc e)
+
+-- a migration of these dumps
+has-migration : (x : Asked) (r : Result Job Refusal) (old new : Path) → Prepares x r → r ≡ Ok (job.Migrate old new)
+    → (command_of x.words ≡ Some (Migrate old new)) × IsCalm x
+has-migration x r old new (NoCommand none calm) e = absurd (cc e)
+has-migration x r old new (NotRead k command names rises calm) e = absurd (cc e)
+has-migration x r old new (NoRoutes k read f command was h) e = absurd (cc e)
+has-migration x r old new (Found (Migrate a b) s has) e = absurd has.answer.answer
+has-migration x r old new (Found (Audit p d) s has) e = absurd (cc e)
+has-migration x r old new (Found (Drain p turns journal) s has) e = absurd (cc e)
+has-migration x r old new (Found (Check p) s has) e = absurd (cc e)
+has-migration x r old new (Found (Load n) s has) e = absurd (cc e)
+has-migration x r old new (HasNone a b command calm) e =
+    let from : a ≡ old = cc e in
+    let to : b ≡ new = cc e in
+    (command ∙ ap (λ (p : Path). Some (Migrate p b)) from ∙ ap (λ (p : Path). Some (Migrate old p)) to, calm)
+has-migration x r old new (LacksMemory count calm) e = absurd (cc e)
 
 -- a file in which nothing is wrong gives a valid set, with the names that were handed in
 file-valid : (n : Names) (read : FileRead) → first_fault (sites_in n read) ≡ None → IsValid (set_in n read)
@@ -207,6 +252,9 @@ prepared-runs x r set limit named prepares e = let has = has-drain x r set limit
 
 pub loaded-runs : (x : Asked) (r : Result Job Refusal) (set : RouteSet) → Prepares x r → r ≡ Ok (job.Load set) → Runs set x.names
 loaded-runs x r set prepares e = let has = has-load x r set prepares e in routes-run x (Load has.0) set has.1
+
+pub audited-runs : (x : Asked) (r : Result Job Refusal) (set : RouteSet) (dump : Path) → Prepares x r → r ≡ Ok (job.Audit set dump) → Runs set x.names
+audited-runs x r set dump prepares e = let has = has-audit x r set dump prepares e in routes-run x (Audit has.0 dump) set has.1
 
 -- its limit is one that a run may have
 pub prepared-limit : (x : Asked) (r : Result Job Refusal) (set : RouteSet) (limit : ℕ) (named : Option Path) → Prepares x r → r ≡ Ok (job.Drain set limit named)
@@ -270,7 +318,7 @@ reports-run x k account set limit files count gives to has same (RanTo s kept o 
 reports-run x k account set limit files count gives to has same (NotBegun o new unchanged counted lanes inlets told) = record {
   told = outcome.NoMemory;
   text = codes "error memory\n";
-  comes = Poor (record { files = unchanged ∙ same; lanes = lanes; inlets = inlets; journal = new }) (counted ∙ has.answer.count) (inl has.patterns);
+  comes = Poor (record { files = unchanged ∙ same; idle = record { lanes = lanes; inlets = inlets; journal = new } }) (counted ∙ has.answer.count) (inl has.patterns);
   tells = told;
 }
 
@@ -296,6 +344,92 @@ pub reports-checked : (x : Setting) (r : Result Job Refusal) (set : RouteSet) {o
 reports-checked x r set prepares e still tells =
     let has = has-check (asked x) r set prepares e in
     record { told = tells.told; text = tells.text; comes = comes-checked x has.0 set tells.told tells.text has.1 still tells.of; tells = tells.tells }
+
+-- ---- what an audit and a migration come to
+
+-- the routes are there at the end too, where no count of the files rose
+at-end : (x : Setting) (k : Command) (set : RouteSet) → HasRoutes (begun x) k set → x.after.materials.files_faults ≡ x.before.materials.files_faults → HasRoutes (asked x) k set
+at-end x k set has same = record {
+  read = has.read;
+  command = has.command;
+  answer = record { answer = has.answer.answer; count = same };
+  patterns = has.patterns;
+  faultless = has.faultless;
+  routes = has.routes;
+}
+
+asks-at-end : (x : Setting) (dump : Path) → AsksDump (begun x) dump → x.after.materials.files_faults ≡ x.before.materials.files_faults → AsksDump (asked x) dump
+asks-at-end x dump (ToAudit p d set has) same = ToAudit p dump set (at-end x (Audit p dump) set has same)
+asks-at-end x dump (ToMigrate old new command calm) same = ToMigrate dump new command (record { files = same; patterns = calm.patterns })
+
+asks-spared : (x : Setting) (dump : Path) → AsksDump (begun x) dump → IsSpared (asked x)
+asks-spared x dump (ToAudit p d set has) = inl has.patterns
+asks-spared x dump (ToMigrate old new command calm) = inl calm.patterns
+
+comes-unread : (x : Setting) (dump : Path) (r : DumpRefusal) (told : Outcome) (text : List ℕ) → IsStill x → AsksDump (begun x) dump
+    → LacksJournal dump x.before.materials.files x.before.materials.files_faults x.after.materials.files_faults r → OfNoJournal r told text → Comes x told text
+comes-unread x dump r told text still asks h (OfBadLine line) = NoJournal dump line (asks-at-end x dump asks h.1) still h.0
+comes-unread x dump r told text still asks h (OfNoBadLine line) = Poor still h.1 (asks-spared x dump asks)
+comes-unread x dump r told text still asks h OfUnread = DumpUnread dump asks still h
+comes-unread x dump r told text still asks h OfPoor = Poor still h (asks-spared x dump asks)
+
+comes-judged : (x : Setting) (p dump : Path) (set : RouteSet) (judged : Result Verdict DumpRefusal) (told : Outcome) (text : List ℕ) → HasRoutes (begun x) (Audit p dump) set → IsStill x
+    → Judges set dump x.before.materials.files x.before.materials.files_faults x.after.materials.files_faults judged → OfAudit judged told text → Comes x told text
+comes-judged x p dump set judged told text has still h (OfVerdict v) = WasJudged p dump set v (at-end x (Audit p dump) set has h.1) still h.0
+comes-judged x p dump set judged told text has still h (OfNoVerdict v) = Poor still h.1 (inl has.patterns)
+comes-judged x p dump set judged told text has still h (OfUnjudged r _ _ of) = comes-unread x dump r told text still (ToAudit p dump set has) h of
+
+pub reports-judged : (x : Setting) (r : Result Job Refusal) (set : RouteSet) (dump : Path) (files : Option (List File)) (count : ℕ) (judged : Result Verdict DumpRefusal) {o : Outcome}
+    → Prepares (read_to x files count) r → r ≡ Ok (job.Audit set dump) → files ≡ x.before.materials.files → x.after.materials.files ≡ files → IsIdle x
+    → Judges set dump files count x.after.materials.files_faults judged → TellsVerdict judged x.before.written x.after.written x.before.sink_faults x.after.sink_faults o → Reports x o
+reports-judged x r set dump files count judged prepares e same kept idle h tells =
+    let has = has-audit (read_to x files count) r set dump prepares e in
+    let here : Judges set dump x.before.materials.files x.before.materials.files_faults x.after.materials.files_faults judged =
+    subst (λ (f : Option (List File)). Judges set dump f x.before.materials.files_faults x.after.materials.files_faults judged) same
+    (subst (λ (n : ℕ). Judges set dump files n x.after.materials.files_faults judged) has.1.answer.count h) in
+    record {
+      told = tells.told;
+      text = tells.text;
+      comes = comes-judged x has.0 dump set judged tells.told tells.text (at-begin x files count (Audit has.0 dump) set has.1) (record { files = kept ∙ same; idle = idle }) here tells.of;
+      tells = tells.tells;
+    }
+
+-- the journal was not written to the new dump
+comes-unmoved : (x : Setting) (old new : Path) (r : DumpRefusal) (told : Outcome) (text : List ℕ) → command_of x.words ≡ Some (Migrate old new) → IsCalm (begun x) → IsIdle x
+    → Migrates old new x.before.materials.files x.after.materials.files x.before.materials.files_faults x.after.materials.files_faults (Err r) → OfNoJournal r told text → Comes x told text
+comes-unmoved x old new r told text command calm idle h (OfBadLine line) =
+    NoJournal old line (ToMigrate old new command (record { files = h.1.1; patterns = calm.patterns })) (record { files = h.0; idle = idle }) h.1.0
+comes-unmoved x old new r told text command calm idle h (OfNoBadLine line) = Poor (record { files = h.0; idle = idle }) h.1.1 (inl calm.patterns)
+comes-unmoved x old new r told text command calm idle (inl h) OfUnread = DumpUnread old (ToMigrate old new command calm) (record { files = h.0; idle = idle }) h.1
+comes-unmoved x old new r told text command calm idle (inr h) OfUnread =
+    NotMigrated old new h.0 (record { command = command; idle = idle; patterns = calm.patterns; moved = h.1 })
+comes-unmoved x old new r told text command calm idle h OfPoor = Poor (record { files = h.0; idle = idle }) h.1 (inl calm.patterns)
+
+comes-migrated : (x : Setting) (old new : Path) (migrated : Result ℕ DumpRefusal) (told : Outcome) (text : List ℕ) → command_of x.words ≡ Some (Migrate old new) → IsCalm (begun x) → IsIdle x
+    → Migrates old new x.before.materials.files x.after.materials.files x.before.materials.files_faults x.after.materials.files_faults migrated → OfMigration migrated told text → Comes x told text
+comes-migrated x old new migrated told text command calm idle h (OfEntries n) =
+    WasMigrated old new n (record { command = command; idle = idle; patterns = calm.patterns; moved = h })
+comes-migrated x old new migrated told text command calm idle h (OfNoEntries n) =
+    LacksLine old new n (record { command = command; idle = idle; patterns = calm.patterns; moved = h })
+comes-migrated x old new migrated told text command calm idle h (OfUnmoved r _ _ of) = comes-unmoved x old new r told text command calm idle h of
+
+pub reports-migrated : (x : Setting) (r : Result Job Refusal) (old new : Path) (files : Option (List File)) (count : ℕ) (migrated : Result ℕ DumpRefusal) {o : Outcome}
+    → Prepares (read_to x files count) r → r ≡ Ok (job.Migrate old new) → files ≡ x.before.materials.files → IsIdle x
+    → Migrates old new files x.after.materials.files count x.after.materials.files_faults migrated
+    → TellsMigration migrated x.before.written x.after.written x.before.sink_faults x.after.sink_faults o → Reports x o
+reports-migrated x r old new files count migrated prepares e same idle h tells =
+    let has = has-migration (read_to x files count) r old new prepares e in
+    let here : Migrates old new x.before.materials.files x.after.materials.files x.before.materials.files_faults x.after.materials.files_faults migrated =
+    subst (λ (f : Option (List File)). Migrates old new f x.after.materials.files x.before.materials.files_faults x.after.materials.files_faults migrated) same
+    (subst (λ (n : ℕ). Migrates old new files x.after.materials.files n x.after.materials.files_faults migrated) has.1.files h) in
+    record {
+      told = tells.told;
+      text = tells.text;
+      comes = comes-migrated x old new migrated tells.told tells.text has.0 (record { files = refl; patterns = has.1.patterns }) idle here tells.of;
+      tells = tells.tells;
+    }
+
+-- ---- what a refusal comes to
 
 -- no memory for the line of a fault
 untold-spared : (x : Asked) (k : Command) (read : FileRead) (f : RouteFault) → command_of x.words ≡ Some k → WasRead x k read

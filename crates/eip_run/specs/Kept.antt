@@ -1,9 +1,7 @@
--- The file that is named for the journal of a run.
-use Rattle.std.specs.Prelude.{ℕ, ◌≡◌, false, List, Option, Some, None, Result, Ok, Err}
+-- The file to which a journal is written.
+use Rattle.std.specs.Prelude.{ℕ, ◌≡◌, false, List, Option, Some, None, Result, Ok}
 use Rattle.eip_text.specs.Causes.{Rises}
-use Rattle.eip_command.specs.Words.{journal_of}
 use Rattle.eip_command.specs.declared.words.Path.{Path}
-use Rattle.eip_command.specs.declared.words.Command.{Command}
 use Rattle.eip_endpoint.specs.Files.{File, Writes, files_failure}
 use Rattle.eip_endpoint.specs.declared.files.FilesFault.{FilesFault}
 use Rattle.eip_ledger.specs.View.{JournalView}
@@ -24,8 +22,3 @@ pub record WroteNone (before after : Option (List File)) (faults_before faults_a
 abbrev pub Keeps : Option Path → JournalView → (before after : Option (List File)) → (faults_before faults_after : ℕ) → Result Unit FilesFault → Type 0
 Keeps None j before after faults_before faults_after answer = WroteNone before after faults_before faults_after answer
 Keeps (Some p) j before after faults_before faults_after answer = WroteJournal p j before after faults_before faults_after answer
-
--- the file that a command's words name for it
-abbrev pub journal_named : Option Command → Option Path
-journal_named None = None
-journal_named (Some k) = journal_of k

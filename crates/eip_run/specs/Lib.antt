@@ -3,6 +3,7 @@ pub mod Routes
 pub mod Prepared
 pub mod Outcomes
 pub mod Kept
+pub mod Dumps
 pub mod Reports
 pub mod Printed
 pub mod Drained

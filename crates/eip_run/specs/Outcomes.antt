@@ -7,7 +7,10 @@ use Rattle.eip_endpoint.specs.declared.files.FilesFault.TheVariants as file_faul
 use Rattle.eip_endpoint.specs.declared.sink.SinkFault.{SinkFault}
 use Rattle.eip_endpoint.specs.declared.sink.SinkFault.TheVariants as fault
 use Rattle.eip_run.specs.declared.report.Outcome.{Outcome}
-use Rattle.eip_run.specs.declared.report.Outcome.TheVariants.{Words, Routes, FilesFault, Checked, Ran, SinkFault as Unwritten, NoMemory}
+use Rattle.eip_run.specs.declared.report.Outcome.TheVariants.{Words, Routes, FilesFault, Checked, Ran}
+use Rattle.eip_run.specs.declared.report.Outcome.TheVariants.{Legal, Wrong, BadDump, Migrated, SinkFault as Unwritten, NoMemory}
+use Rattle.eip_verdict.specs.declared.verdict.Verdict.{Verdict}
+use Rattle.eip_verdict.specs.declared.verdict.Verdict.TheVariants as verdict
 
 -- the status of a run by its stop
 abbrev pub stop_status : Stop → ℕ
@@ -17,13 +20,18 @@ stop_status (stop.Held groups) = 3
 stop_status stop.Spent = 4
 stop_status stop.NoMemory = 5
 
--- 0 drained or checked, 1 words or routes refused, 2 a fault of files, a source or the sink, 3 held, 4 spent, 5 out of memory
+-- 0 drained, checked, legal or migrated, 1 words, routes or a dump refused, 2 a fault of files, a source or the sink, 3 held, 4 spent, 5 out of memory,
+-- 6 a journal that isn't legal
 abbrev pub status_of : Outcome → ℕ
 status_of Words = 1
 status_of (Routes f) = 1
 status_of FilesFault = 2
 status_of Checked = 0
 status_of (Ran s) = stop_status s
+status_of (Legal entries) = 0
+status_of (Wrong entry rule) = 6
+status_of (BadDump line) = 1
+status_of (Migrated entries) = 0
 status_of Unwritten = 2
 status_of NoMemory = 5
 
@@ -38,10 +46,19 @@ left_by s (Ok u) = Ran s
 left_by s (Err file_fault.Failed) = unkept s
 left_by s (Err file_fault.NoMemory) = NoMemory
 
--- a sink that failed is the outcome of a run that was drained and of a check; every other outcome had an earlier cause
+-- the outcome of an audit by its verdict
+abbrev pub judged : Verdict → Outcome
+judged (verdict.Legal entries) = Legal entries
+judged (verdict.Wrong entry rule) = Wrong entry rule
+
+-- a sink that failed is the outcome of a run that was drained, of a check, of an audit with a verdict and of a migration that was written; every other
+-- outcome had an earlier cause
 abbrev pub unwritten : Outcome → Outcome
 unwritten (Ran stop.Drained) = Unwritten
 unwritten Checked = Unwritten
+unwritten (Legal entries) = Unwritten
+unwritten (Wrong entry rule) = Unwritten
+unwritten (Migrated entries) = Unwritten
 unwritten o = o
 
 -- the outcome behind the writing of its text

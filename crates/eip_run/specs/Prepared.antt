@@ -11,7 +11,7 @@ use Rattle.eip_load.specs.Routes.{load_text}
 use Rattle.eip_command.specs.Words.{command_of, path_in}
 use Rattle.eip_command.specs.declared.words.Path.{Path}
 use Rattle.eip_command.specs.declared.words.Command.{Command}
-use Rattle.eip_command.specs.declared.words.Command.TheVariants.{Drain, Check, Load}
+use Rattle.eip_command.specs.declared.words.Command.TheVariants.{Drain, Check, Audit, Load, Migrate}
 use Rattle.eip_endpoint.specs.Content.{IfTold}
 use Rattle.eip_endpoint.specs.Files.{File, bytes_at, read_of}
 use Rattle.eip_endpoint.specs.declared.files.FileRead.{FileRead}
@@ -23,11 +23,18 @@ use Rattle.eip_run.specs.declared.prepare.Refusal.TheVariants as refusal
 use Rattle.eip_run.specs.Given.{Asked}
 use Rattle.eip_run.specs.Routes.{file_limit, sites_in, set_in}
 
--- what a command does with its routes
+-- all commands but a migration have routes
+abbrev pub UsesRoutes : Command → Type 0
+UsesRoutes (Migrate old new) = ⊥
+UsesRoutes k = Unit {0}
+
+-- what a command does, with its routes where it has any
 abbrev pub job_of : Command → RouteSet → Job
 job_of (Drain p turns journal) set = job.Drain set turns journal
 job_of (Check p) set = job.Check set
+job_of (Audit p journal) set = job.Audit set journal
 job_of (Load n) set = job.Load set
+job_of (Migrate old new) set = job.Migrate old new
 
 -- the places at which a command's file is judged
 abbrev pub sites : Asked → FileRead → List Site
@@ -46,6 +53,8 @@ held_at p all = read_of file_limit (bytes_at p.folder p.name all)
 abbrev pub IsReadOf : Command → Option (List File) → FileRead → Type 0
 IsReadOf (Drain p turns journal) files read = IfTold files (λ all. read ≡ held_at p all)
 IsReadOf (Check p) files read = IfTold files (λ all. read ≡ held_at p all)
+IsReadOf (Audit p journal) files read = IfTold files (λ all. read ≡ held_at p all)
+IsReadOf (Migrate old new) files read = ⊥
 IsReadOf (Load n) files read = read ≡ Bytes (load_text n)
 
 -- the routes of a command were read from this; the files' count did not rise
@@ -101,7 +110,7 @@ pub record HasRoutes (x : Asked) (k : Command) (set : RouteSet) : Type 0 where
   pub faultless : first_fault (sites x read) ≡ None
   pub routes : set ≡ set_in x.names read
 
--- what the words ask to do with their routes, or the first cause why there is nothing to do
+-- what the words ask to do, with their routes where they have any, or the first cause why there is nothing to do
 pub data Prepares (x : Asked) : Result Job Refusal → Type 0 where
   NoCommand : command_of x.words ≡ None → IsCalm x → Prepares x (Err refusal.Words)
   NotRead : (k : Command) → command_of x.words ≡ Some k → IsSome (path_in k) → Rises 1 x.before.files_faults x.after.files_faults
@@ -109,4 +118,5 @@ pub data Prepares (x : Asked) : Result Job Refusal → Type 0 where
   NoRoutes : (k : Command) (read : FileRead) (f : RouteFault) → command_of x.words ≡ Some k → WasRead x k read
       → Finds (sites x read) x.before.pattern_faults x.after.pattern_faults f → Prepares x (Err (refusal.Routes f))
   Found : (k : Command) (set : RouteSet) → HasRoutes x k set → Prepares x (Ok (job_of k set))
+  HasNone : (old new : Path) → command_of x.words ≡ Some (Migrate old new) → IsCalm x → Prepares x (Ok (job.Migrate old new))
   LacksMemory : x.after.files_faults ≡ x.before.files_faults → IsSpared x → Prepares x (Err refusal.NoMemory)

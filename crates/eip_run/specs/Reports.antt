@@ -1,5 +1,5 @@
 -- What a command comes to, what it writes, and what it leaves.
-use Rattle.std.specs.Prelude.{ℕ, ◌≡◌, ◌≢◌, ◌++◌, ◌⊎◌, List, [], codes, Option, Some, None, Result, Err, IsErrOf}
+use Rattle.std.specs.Prelude.{ℕ, ◌≡◌, ◌≢◌, ◌++◌, ◌⊎◌, List, [], codes, Option, Some, None, Result, Ok, Err, IsErrOf}
 use Rattle.eip_text.specs.Causes.{Rises}
 use Rattle.eip_route.specs.declared.route.RouteSet.{RouteSet}
 use Rattle.eip_route_json.specs.Reading.{Finds}
@@ -10,7 +10,7 @@ use Rattle.eip_command.specs.Words.{default_turns, command_of, path_in, journal_
 use Rattle.eip_command.specs.Causes.{fault_line}
 use Rattle.eip_command.specs.declared.words.Path.{Path}
 use Rattle.eip_command.specs.declared.words.Command.{Command}
-use Rattle.eip_command.specs.declared.words.Command.TheVariants.{Drain, Check, Load}
+use Rattle.eip_command.specs.declared.words.Command.TheVariants.{Drain, Check, Audit, Load, Migrate}
 use Rattle.eip_endpoint.specs.declared.files.FileRead.{FileRead}
 use Rattle.eip_endpoint.specs.declared.files.FilesFault.{FilesFault}
 use Rattle.eip_endpoint.specs.declared.files.FilesFault.TheVariants as files_fault
@@ -36,10 +36,12 @@ use Rattle.eip_run.specs.declared.print.Account.{Account}
 use Rattle.eip_run.specs.declared.print.Account.TheVariants as account
 use Rattle.eip_run.specs.declared.report.Outcome.{Outcome}
 use Rattle.eip_run.specs.declared.report.Outcome.TheVariants as outcome
-use Rattle.eip_run.specs.Given.{Setting, asked, begun}
+use Rattle.eip_verdict.specs.declared.verdict.Verdict.{Verdict}
+use Rattle.eip_run.specs.Given.{Asked, Setting, asked, begun}
 use Rattle.eip_run.specs.Prepared.{sites, IsCalm, WasRead, IsSpared, HasRoutes}
 use Rattle.eip_run.specs.Kept.{Keeps}
-use Rattle.eip_run.specs.Outcomes.{left_by, behind}
+use Rattle.eip_run.specs.Dumps.{IsBadAt, IsJudged, Moved, bad_line, verdict_line, migrated_line}
+use Rattle.eip_run.specs.Outcomes.{left_by, judged, behind}
 
 -- the journal where nothing ran: without entries, for no workers and as many turns as where no words name them
 pub record IsNew (j : JournalView) : Type 0 where
@@ -47,12 +49,16 @@ pub record IsNew (j : JournalView) : Type 0 where
   pub turns : j.turns ≡ default_turns
   pub past : j.past ≡ []
 
--- nothing ran: files, lanes and inlets are as before and the journal is new
-pub record IsStill (x : Setting) : Type 0 where
-  pub files : x.after.materials.files ≡ x.before.materials.files
+-- nothing ran: lanes and inlets are as before and the journal is new
+pub record IsIdle (x : Setting) : Type 0 where
   pub lanes : x.after.lanes ≡ x.before.lanes
   pub inlets : x.after.inlets ≡ x.before.inlets
   pub journal : IsNew x.journal
+
+-- nothing ran, and the files are as before too
+pub record IsStill (x : Setting) : Type 0 where
+  pub files : x.after.materials.files ≡ x.before.materials.files
+  pub idle : IsIdle x
 
 -- the headline of a run of a set with a limit on its turns: the journal is a legal history of the set in which each entry was made by the actor whose
 -- turn it was, its stop is what it says, lanes and inlets did what its entries and answers say, in their order, and what was processed or tested by a
@@ -65,7 +71,7 @@ pub record Ran (set : RouteSet) (limit : ℕ) (j : JournalView) (s : Stop) (lane
   pub plain : IsPlain (plan_of set) j.past
   pub stops : (s ≡ stop.NoMemory) ⊎ (stop_of (plan_of set) limit j.past ≡ Some s)
   pub lanes : LanesGrew 0 (calls (doors_among set lanes_before inlets_before) (seen_answers (served (plan_of set) j.past))) lanes_before lanes_after
-  pub inlets : InletsGrew 0 (inlet_acts (doors_among set lanes_before inlets_before) j.past (served (plan_of set) j.past)) inlets_before inlets_after
+  pub inlets : InletsGrew 0 (inlet_acts (doors_among set lanes_before inlets_before) j.past (seen_answers (served (plan_of set) j.past))) inlets_before inlets_after
   pub theirs : AreTheirs registry (served (plan_of set) j.past)
 
 -- the run that a command made
@@ -90,17 +96,33 @@ abbrev pub RunsTo : Command → (limit : ℕ) → Type 0
 RunsTo (Drain p turns journal) limit = limit ≡ turns
 RunsTo (Load n) limit = limit ≡ 1000000
 RunsTo (Check p) limit = ⊥
+RunsTo (Audit p journal) limit = ⊥
+RunsTo (Migrate old new) limit = ⊥
 
 -- what a command tells of its run: a drain the log and the book, a load the last lines of the book alone
 abbrev pub told_of : Command → RouteSet → Past → Stop → List ℕ
 told_of (Drain p turns journal) set past stop = run_text set past stop
 told_of (Load n) set past stop = summary_text set past stop
 told_of (Check p) set past stop = []
+told_of (Audit p journal) set past stop = []
+told_of (Migrate old new) set past stop = []
 
 -- the journal of the run was written to the file that the command names for it, as the answer says
 abbrev pub KeptBy : Setting → Command → (answer : Result Unit FilesFault) → Type 0
 KeptBy x k answer =
     Keeps (journal_of k) x.journal x.before.materials.files x.after.materials.files x.before.materials.files_faults x.after.materials.files_faults answer
+
+-- the words ask for the dump of this path: for an audit, with routes that have nothing wrong, or for a migration
+pub data AsksDump (x : Asked) : Path → Type 0 where
+  ToAudit : (p dump : Path) (set : RouteSet) → HasRoutes x (Audit p dump) set → AsksDump x dump
+  ToMigrate : (old new : Path) → command_of x.words ≡ Some (Migrate old new) → IsCalm x → AsksDump x old
+
+-- the journal in the old dump, of so many entries, was written to the new one, as the answer says
+pub record IsMigration (x : Setting) (old new : Path) (entries : ℕ) (answer : Result Unit FilesFault) : Type 0 where
+  pub command : command_of x.words ≡ Some (Migrate old new)
+  pub idle : IsIdle x
+  pub patterns : x.after.materials.pattern_faults ≡ x.before.materials.pattern_faults
+  pub moved : Moved old new x.before.materials.files x.after.materials.files x.before.materials.files_faults x.after.materials.files_faults entries answer
 
 -- which outcome a command comes to, with the text that it is to write
 pub data Comes (x : Setting) : Outcome → List ℕ → Type 0 where
@@ -120,12 +142,27 @@ pub data Comes (x : Setting) : Outcome → List ℕ → Type 0 where
   -- the routes ran until no memory was left; their journal is written all the same, if it can be
   Starved : (k : Command) (limit : ℕ) (set : RouteSet) (kept : Result Unit FilesFault) → RunsTo k limit → HasRoutes (begun x) k set → IsRun x set limit stop.NoMemory
       → KeptBy x k kept → Comes x (outcome.Ran stop.NoMemory) (codes "error memory\n")
-  -- no memory was left before the routes ran, or for the text of a check, or to tell a fault of the routes
+  -- the dump that the words name could not be read, and the count of faults of the files rose
+  DumpUnread : (dump : Path) → AsksDump (begun x) dump → IsStill x → Rises 1 x.before.materials.files_faults x.after.materials.files_faults
+      → Comes x outcome.FilesFault (codes "error files\n")
+  -- it is that of no journal
+  NoJournal : (dump : Path) (line : ℕ) → AsksDump (asked x) dump → IsStill x → IsBadAt dump x.before.materials.files line
+      → Comes x (outcome.BadDump line) (bad_line line)
+  -- the journal in it was judged
+  WasJudged : (p dump : Path) (set : RouteSet) (v : Verdict) → HasRoutes (asked x) (Audit p dump) set → IsStill x → IsJudged set dump x.before.materials.files v
+      → Comes x (judged v) (verdict_line v)
+  -- the journal in the old dump was written to the new one
+  WasMigrated : (old new : Path) (entries : ℕ) → IsMigration x old new entries (Ok tt) → Comes x (outcome.Migrated entries) (migrated_line entries)
+  -- the files failed in that
+  NotMigrated : (old new : Path) (entries : ℕ) → IsMigration x old new entries (Err files_fault.Failed) → Comes x outcome.FilesFault (codes "error files\n")
+  -- no memory was left before the routes ran or a dump was written, or for the text of a check or an audit, or to tell a fault of the routes or the dump
   LacksMemory : IsStill x → x.after.materials.files_faults ≡ x.before.materials.files_faults → IsSpared (asked x)
       → Comes x outcome.NoMemory (codes "error memory\n")
   -- no memory was left for the text of a run, or to write its journal
   LacksText : (k : Command) (limit : ℕ) (set : RouteSet) (s : Stop) (kept : Result Unit FilesFault) → RunsTo k limit → HasRoutes (begun x) k set → IsRun x set limit s
       → s ≢ stop.NoMemory → KeptBy x k kept → Comes x outcome.NoMemory (codes "error memory\n")
+  -- the journal in the old dump was written to the new one, and no memory was left to tell so
+  LacksLine : (old new : Path) (entries : ℕ) → IsMigration x old new entries (Ok tt) → Comes x outcome.NoMemory (codes "error memory\n")
 
 -- a text was written for an outcome, or the front of it where the sink failed, and the outcome is what that left of it
 pub record Told (told : Outcome) (text : List ℕ) (before after : Option (List ℕ)) (faults_before faults_after : ℕ) (o : Outcome) : Type 0 where

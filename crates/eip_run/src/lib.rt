@@ -1,6 +1,7 @@
 // The top call: from the words of a command to its outcome, its text and its status.
 #![tactic(auto)]
 
+mod dumps;
 mod prepare;
 mod print;
 mod report;

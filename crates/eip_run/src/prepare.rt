@@ -8,7 +8,7 @@ ghost use Rattle.eip_load.specs.Routes.{load_text};
 ghost use Rattle.eip_endpoint.specs.Content.{IfTold};
 ghost use Rattle.eip_endpoint.specs.Files.{files_failure};
 ghost use Rattle.eip_endpoint.specs.declared.files.FileRead.TheVariants as file_read;
-ghost use Rattle.eip_run.specs.Prepared.{held_at, job_of, Answers, Reads, Refuses, Prepares};
+ghost use Rattle.eip_run.specs.Prepared.{held_at, job_of, UsesRoutes, Answers, Reads, Refuses, Prepares};
 
 use eip_command::{Command, Path, WordsFault, read_words};
 use eip_core::names_of;
@@ -25,7 +25,7 @@ use std::alloc::Global;
 /// The most bytes of a route file.
 const FILE_LIMIT: usize = 1_048_576;
 
-/// What a command does with its routes.
+/// What a command does, with its routes where it has any.
 #[derive(Drop)]
 pub enum Job {
     /// They run until nothing is left to do, for at most so many turns, and the journal of the run is written to a file, if
@@ -37,8 +37,18 @@ pub enum Job {
     },
     /// They are printed in their canonical form.
     Check(RouteSet),
+    /// The journal in this dump is judged as one of theirs.
+    Audit {
+        set: RouteSet,
+        journal: Path,
+    },
     /// They run as those of a load.
     Load(RouteSet),
+    /// The journal in the old dump is written to the new one.
+    Migrate {
+        old: Path,
+        new: Path,
+    },
 }
 
 /// Why nothing is done.
@@ -53,8 +63,8 @@ pub enum Refusal {
     NoMemory,
 }
 
-/// What the words ask to do with their routes, or the first cause why there is nothing to do: the words, then the
-/// reading of the route file, then the routes.
+/// What the words ask to do, with their routes where they have any, or the first cause why there is nothing to do: the words, then
+/// the reading of the route file, then the routes.
 pub fn prepare<F: Files, P: Patterns, L: Lanes, I: Inlets, R: Registered>(
     alloc: Global,
     words: &[Text],
@@ -73,6 +83,7 @@ pub fn prepare<F: Files, P: Patterns, L: Lanes, I: Inlets, R: Registered>(
     ensures files { F.files files.new ≡ F.files files.old }
 {
     let command = match read_words(alloc, words) {
+        Ok(Command::Migrate { old, new }) => return Ok(Job::Migrate { old, new }),
         Ok(command) => command,
         Err(WordsFault::Refused) => return Err(Refusal::Words),
         Err(WordsFault::NoMemory) => return Err(Refusal::NoMemory),
@@ -90,7 +101,7 @@ pub fn prepare<F: Files, P: Patterns, L: Lanes, I: Inlets, R: Registered>(
     }
 }
 
-/// What a command does with its routes.
+/// What a command does, with its routes where it has any.
 fn job_of(command: Command, set: RouteSet) -> Job
     ensures { result ≡ job_of command set }
 {
@@ -101,7 +112,9 @@ fn job_of(command: Command, set: RouteSet) -> Job
             journal,
         },
         Command::Check { .. } => Job::Check(set),
+        Command::Audit { journal, .. } => Job::Audit { set, journal },
         Command::Load { .. } => Job::Load(set),
+        Command::Migrate { old, new } => Job::Migrate { old, new },
     }
 }
 
@@ -111,19 +124,22 @@ fn route_file<F: Files>(
     command: &Command,
     files: &mut F,
 ) -> Result<FileRead, Refusal>
+    requires routes { UsesRoutes command.now }
     ensures read { Reads command.now (F.files files.old) (F.files_faults files.old) (F.files_faults files.new) result }
     ensures files { F.files files.new ≡ F.files files.old }
 {
     match command {
-        Command::Drain { routes, .. } | Command::Check { routes } => match read_at(routes, files) {
-            Ok(read) => Ok(read),
-            Err(FilesFault::Failed) => Err(Refusal::FilesFault),
-            Err(FilesFault::NoMemory) => Err(Refusal::NoMemory),
-        },
+        Command::Drain { routes, .. } | Command::Check { routes } | Command::Audit { routes, .. } =>
+            match read_at(routes, files) {
+                Ok(read) => Ok(read),
+                Err(FilesFault::Failed) => Err(Refusal::FilesFault),
+                Err(FilesFault::NoMemory) => Err(Refusal::NoMemory),
+            },
         Command::Load { items } => match load_file(alloc, *items) {
             Ok(read) => Ok(read),
             Err(NoMemory) => Err(Refusal::NoMemory),
         },
+        Command::Migrate { .. } => unreachable!(),
     }
 }
 

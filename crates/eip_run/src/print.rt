@@ -1,10 +1,14 @@
 ghost use Rattle.std.specs.Prelude.{◌≡◌, IfOk, codes, string_bytes};
+ghost use Rattle.eip_verdict.specs.declared.verdict.Verdict.TheVariants as verdict;
+ghost use Rattle.eip_run.specs.Dumps.{number_line, verdict_line};
 ghost use Rattle.eip_books.specs.View.{plan};
 ghost use Rattle.eip_run.specs.Reports.{Told, account_text, run_text, summary_text};
-ghost use Rattle.eip_run.specs.Printed.{TellsRefusal, TellsCheck, TellsAccount, TellsRun};
+ghost use Rattle.eip_run.specs.Printed.{TellsRefusal, TellsCheck, TellsLine, TellsNoJournal, TellsVerdict, TellsMigration, TellsAccount, TellsRun};
 
+use crate::dumps::DumpRefusal;
 use crate::prepare::Refusal;
 use crate::report::Outcome;
+use eip_audit::Verdict;
 use eip_command::fault_line;
 use eip_endbook::{book_text, log_text, summary_text};
 use eip_endpoint::{FilesFault, Sink, SinkFault};
@@ -12,7 +16,7 @@ use eip_hub::Hub;
 use eip_ledger::Stop;
 use eip_route::RouteSet;
 use eip_route_print::print_routes;
-use eip_text::{NoMemory, Text};
+use eip_text::{NoMemory, Text, decimal};
 use std::alloc::Global;
 
 /// What is told of a run.
@@ -64,6 +68,103 @@ pub fn tell_check<O: Sink>(alloc: Global, out: &mut O, set: &RouteSet) -> Outcom
     match print_routes(alloc, set) {
         Ok(text) => tell(out, text.as_str(), Outcome::Checked),
         Err(NoMemory) => tell_memory(out, Outcome::NoMemory),
+    }
+}
+
+/// A line of a word and a number.
+fn number_line(alloc: Global, word: &str, number: u64) -> Result<Text, NoMemory>
+    ensures { IfOk result (λ t. t ≡ number_line word.now number) }
+{
+    let digits = decimal(alloc, number)?;
+    let mut line = String::from_str(alloc, word)?;
+    line.push_str(" ")?;
+    line.push_str(digits.as_str())?;
+    line.push_str("\n")?;
+    Ok(Text::of(line))
+}
+
+/// The line of a journal that isn't legal: the first entry that breaks its rule, and the rule's number.
+fn wrong_line(alloc: Global, entry: u64, rule: u32) -> Result<Text, NoMemory>
+    ensures { IfOk result (λ t. t ≡ verdict_line (verdict.Wrong entry rule)) }
+{
+    let entry_digits = decimal(alloc, entry)?;
+    let rule_digits = decimal(alloc, rule as u64)?;
+    let mut line = String::from_str(alloc, "wrong ")?;
+    line.push_str(entry_digits.as_str())?;
+    line.push_str(" ")?;
+    line.push_str(rule_digits.as_str())?;
+    line.push_str("\n")?;
+    Ok(Text::of(line))
+}
+
+/// The line of a verdict.
+fn verdict_line(alloc: Global, verdict: Verdict) -> Result<Text, NoMemory>
+    ensures { IfOk result (λ t. t ≡ verdict_line verdict) }
+{
+    match verdict {
+        Verdict::Legal(entries) => number_line(alloc, "legal", entries),
+        Verdict::Wrong { entry, rule } => wrong_line(alloc, entry, rule),
+    }
+}
+
+/// Writes a line under an outcome, if there was memory for it.
+fn tell_line<O: Sink>(out: &mut O, line: Result<Text, NoMemory>, told: Outcome) -> Outcome
+    ensures { TellsLine told line (O.bytes out.old) (O.bytes out.new) (O.sink_faults out.old) (O.sink_faults out.new) result }
+{
+    match line {
+        Ok(line) => tell(out, line.as_str(), told),
+        Err(NoMemory) => tell_memory(out, Outcome::NoMemory),
+    }
+}
+
+/// Says why nothing is done with a journal.
+fn tell_no_journal<O: Sink>(alloc: Global, out: &mut O, refusal: DumpRefusal) -> Outcome
+    ensures { TellsNoJournal refusal (O.bytes out.old) (O.bytes out.new) (O.sink_faults out.old) (O.sink_faults out.new) result }
+{
+    match refusal {
+        DumpRefusal::BadDump(line) => tell_line(
+            out,
+            number_line(alloc, "error dump", line),
+            Outcome::BadDump(line),
+        ),
+        DumpRefusal::FilesFault => tell(out, "error files\n", Outcome::FilesFault),
+        DumpRefusal::NoMemory => tell_memory(out, Outcome::NoMemory),
+    }
+}
+
+/// Writes what an audit said of a journal, or why there was none.
+pub fn tell_verdict<O: Sink>(
+    alloc: Global,
+    out: &mut O,
+    judged: Result<Verdict, DumpRefusal>,
+) -> Outcome
+    ensures { TellsVerdict judged (O.bytes out.old) (O.bytes out.new) (O.sink_faults out.old) (O.sink_faults out.new) result }
+{
+    match judged {
+        Ok(verdict) => tell_line(
+            out,
+            verdict_line(alloc, verdict),
+            Outcome::of_verdict(verdict),
+        ),
+        Err(refusal) => tell_no_journal(alloc, out, refusal),
+    }
+}
+
+/// Writes how many entries a migration wrote, or why it wrote none.
+pub fn tell_migration<O: Sink>(
+    alloc: Global,
+    out: &mut O,
+    migrated: Result<u64, DumpRefusal>,
+) -> Outcome
+    ensures { TellsMigration migrated (O.bytes out.old) (O.bytes out.new) (O.sink_faults out.old) (O.sink_faults out.new) result }
+{
+    match migrated {
+        Ok(entries) => tell_line(
+            out,
+            number_line(alloc, "migrated", entries),
+            Outcome::Migrated(entries),
+        ),
+        Err(refusal) => tell_no_journal(alloc, out, refusal),
     }
 }
 

@@ -1,6 +1,7 @@
 ghost use Rattle.std.specs.Prelude.{◌≡◌};
-ghost use Rattle.eip_run.specs.Outcomes.{stop_status, status_of, unkept, unwritten};
+ghost use Rattle.eip_run.specs.Outcomes.{stop_status, status_of, unkept, judged, unwritten};
 
+use eip_audit::Verdict;
 use eip_ledger::{Journal, Stop};
 use eip_route_grammar::RouteFault;
 
@@ -11,12 +12,21 @@ pub enum Outcome {
     Words,
     /// The routes are refused for their first fault.
     Routes(RouteFault),
-    /// The route file could not be read, or the journal of a run that was drained could not be written to its file.
+    /// The route file or the dump could not be read, or the journal of a run that was drained or of a migration could not be written to
+    /// its file.
     FilesFault,
     /// The routes were printed in their canonical form.
     Checked,
     /// The routes ran until this stop.
     Ran(Stop),
+    /// The journal of so many entries is a legal history of the routes.
+    Legal(u64),
+    /// It isn't: the first entry, from 1, that breaks its rule, and the rule's number.
+    Wrong { entry: u64, rule: u32 },
+    /// The dump is refused for this line, from 1, which is the first bad one; 0 where there is no such file, or it is too long.
+    BadDump(u64),
+    /// The journal of so many entries was written in the latest version.
+    Migrated(u64),
     /// The sink failed, and there was no earlier cause.
     SinkFault,
     /// No memory was left.
@@ -56,8 +66,18 @@ impl Outcome {
         }
     }
 
-    /// The exit status: 0 drained or checked, 1 words or routes refused, 2 a fault of files, a source or the sink, 3 groups held, 4 turns
-    /// spent, 5 out of memory.
+    /// The outcome of an audit by its verdict.
+    pub fn of_verdict(verdict: Verdict) -> Outcome
+        ensures { result ≡ judged verdict }
+    {
+        match verdict {
+            Verdict::Legal(entries) => Outcome::Legal(entries),
+            Verdict::Wrong { entry, rule } => Outcome::Wrong { entry, rule },
+        }
+    }
+
+    /// The exit status: 0 drained, checked, legal or migrated, 1 words, routes or a dump refused, 2 a fault of files, a source or the
+    /// sink, 3 groups held, 4 turns spent, 5 out of memory, 6 a journal that isn't legal.
     pub fn status(&self) -> u8
         ensures { result ≡ status_of self.now }
     {
@@ -67,18 +87,26 @@ impl Outcome {
             Outcome::FilesFault => 2,
             Outcome::Checked => 0,
             Outcome::Ran(stop) => stop_status(*stop),
+            Outcome::Legal(_) => 0,
+            Outcome::Wrong { .. } => 6,
+            Outcome::BadDump(_) => 1,
+            Outcome::Migrated(_) => 0,
             Outcome::SinkFault => 2,
             Outcome::NoMemory => 5,
         }
     }
 
-    /// What is left of an outcome whose text could not be written: the failure of the sink where the run was drained or the
-    /// routes were checked, else the outcome, whose cause came earlier.
+    /// What is left of an outcome whose text could not be written: the failure of the sink where the run was drained, the routes
+    /// were checked, the journal was judged, or it was written by a migration; else the outcome, whose cause came earlier.
     pub fn unwritten(self) -> Outcome
         ensures { result ≡ unwritten self }
     {
         match self {
-            Outcome::Ran(Stop::Drained) | Outcome::Checked => Outcome::SinkFault,
+            Outcome::Ran(Stop::Drained)
+            | Outcome::Checked
+            | Outcome::Legal(_)
+            | Outcome::Wrong { .. }
+            | Outcome::Migrated(_) => Outcome::SinkFault,
             other => other,
         }
     }

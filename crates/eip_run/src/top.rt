@@ -7,8 +7,11 @@ ghost use Rattle.eip_run.specs.Reports.{IsNew, Reports};
 ghost use Rattle.eip_run.specs.Caused.{IsReport};
 ghost use Rattle.eip_run.specs.Drained.{Drained};
 
+use crate::dumps::{judge, migrate};
 use crate::prepare::{Job, prepare};
-use crate::print::{Account, tell_check, tell_memory, tell_refusal, tell_run};
+use crate::print::{
+    Account, tell_check, tell_memory, tell_migration, tell_refusal, tell_run, tell_verdict,
+};
 use crate::report::{Outcome, Report};
 use eip_command::{Path, TURN_LIMIT};
 use eip_core::drain_alone;
@@ -130,24 +133,35 @@ fn carry_out<F: Files, P: Patterns, L: Lanes, I: Inlets, R: Registered, O: Sink>
             drain(alloc, set, terms, files, lanes, inlets, registry, out)
         }
         Ok(Job::Check(set)) => (tell_check(alloc, out, &set), unused_journal(alloc)),
+        Ok(Job::Audit { set, journal }) => {
+            let judged = judge(alloc, set, &journal, files);
+            (tell_verdict(alloc, out, judged), unused_journal(alloc))
+        }
+        Ok(Job::Migrate { old, new }) => {
+            let migrated = migrate(alloc, &old, &new, files);
+            (tell_migration(alloc, out, migrated), unused_journal(alloc))
+        }
         Err(refusal) => (tell_refusal(alloc, out, refusal), unused_journal(alloc)),
     }
 }
 
-/// Runs the command of these words: reads its route file from `files`, with `patterns` for the patterns of its predicates.
+/// Runs the command of these words: reads its route file from `files`, if it has one, with `patterns` for the patterns of its predicates.
 /// A `drain` runs the routes over the lanes and inlets that are handed in, with the processors and predicates of the registry, for
 /// at most as many turns as the words name or 100,000 where they name none, and writes log and book to `out` by one call; a
 /// `check` writes the routes in their canonical form. A `load` reads no file: it runs the built-in routes of the load test for
 /// at most 1,000,000 turns, and writes the last three lines of the book alone; those routes have a fault where no inlet `load`
-/// and no processor `keep` is handed in.
+/// and no processor `keep` is handed in. An `audit` reads a route file too, and then a dump: it writes whether the journal in it is a
+/// legal history of the routes, or else the first entry that breaks its rule. A `migrate` reads a dump of any version and writes its
+/// journal to another file in the latest one. A dump has at most 268,435,456 bytes.
 ///
 /// Where the words of a drain name a file for it, the dump of the run's journal is written there before the text, in place of
 /// what the file held, and whatever the stop of the run is; no other file changes, and none where nothing ran. Where the files
 /// fail in that, a run that was drained is told as `FilesFault`, with log and book as its text. A run that ended for want of
-/// memory has its journal written too, if it can be.
+/// memory has its journal written too, if it can be. Of the other commands only a `migrate` writes a file, in place of what it held.
 ///
-/// The first cause that applies decides the outcome: the words, the reading of the route file, the routes, a fault of a source,
-/// spent turns, held groups, the file of the journal, the sink. Want of memory ends the command where it is met.
+/// The first cause that applies decides the outcome: the words, the reading of the route file, the routes, the reading of the dump,
+/// the dump, a fault of a source, spent turns, held groups, the file of the journal or the new dump, the sink. Want of memory ends the
+/// command where it is met.
 pub fn run<F: Files, P: Patterns, L: Lanes, I: Inlets, R: Registered, O: Sink>(
     alloc: Global,
     words: &[Text],

@@ -30,13 +30,42 @@ const COMMANDS: [(&[&str], &str, &str, Option<u32>); 10] = [
     (&["check", "a/r.json"], "a", "r.json", None),
 ];
 
-/// The word of a command, its file, and its limit on turns or its number of items.
+/// The word of a command, its first file, and its limit on turns or its number of items.
 fn parts(command: &Command) -> (&str, Option<&Path>, Option<u32>) {
     match command {
         Command::Drain { routes, turns, .. } => ("drain", Some(routes), Some(*turns)),
         Command::Check { routes } => ("check", Some(routes), None),
+        Command::Audit { routes, .. } => ("audit", Some(routes), None),
         Command::Load { items } => ("load", None, Some(*items)),
+        Command::Migrate { old, .. } => ("migrate", Some(old), None),
     }
+}
+
+/// The second file of a command that names two.
+fn second_file(command: &Command) -> Option<&Path> {
+    match command {
+        Command::Audit { journal, .. } => Some(journal),
+        Command::Migrate { new, .. } => Some(new),
+        _ => None,
+    }
+}
+
+/// Words of two files, and the folder and the name of the second one.
+const TWO_FILES: [(&[&str], &str, &str); 2] = [
+    (&["audit", "a/r.json", "b/j"], "b", "j"),
+    (&["migrate", "b/j", "k"], ".", "k"),
+];
+
+#[test]
+fn an_audit_and_a_migration_name_a_second_file(rt: HostRuntime) -> Result<(), Fail> {
+    for (words, folder, name) in TWO_FILES {
+        let command = read_words(rt.alloc(), &texts(rt.alloc(), words)?)?;
+        let Some(file) = second_file(&command) else {
+            panic!(rt; "no second file");
+        };
+        assert!(rt; file.folder.as_str() == folder && file.name.as_str() == name);
+    }
+    Ok(())
 }
 
 #[test]
@@ -56,7 +85,7 @@ fn a_command_names_its_file_and_its_limit_on_turns(rt: HostRuntime) -> Result<()
 }
 
 /// Words that are no command.
-const NO_COMMANDS: [&[&str]; 25] = [
+const NO_COMMANDS: [&[&str]; 30] = [
     &[],
     &["drain"],
     &["drain", "r.json", "--turns", "0"],
@@ -68,7 +97,12 @@ const NO_COMMANDS: [&[&str]; 25] = [
     &["drain", "r.json", "--turns=5"],
     &["drain", "r.json", "5"],
     &["check", "r.json", "--turns", "5"],
-    &["audit", "r.json", "j.txt"],
+    &["audit", "r.json"],
+    &["audit", "r.json", "j/"],
+    &["audit", "r.json", "j", "--turns", "5"],
+    &["audit", "r.json", "j", "k"],
+    &["migrate", "j"],
+    &["migrate", "j", "-k"],
     &["drain", "--turns", "5", "r.json", "--turns", "5"],
     &["check"],
     &["check", "r.json", "r.json"],

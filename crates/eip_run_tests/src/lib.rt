@@ -6,6 +6,8 @@ mod calls;
 #[cfg(test)]
 mod commands;
 #[cfg(test)]
+mod dumps;
+#[cfg(test)]
 mod errors;
 #[cfg(test)]
 mod given;

@@ -66,11 +66,11 @@ one_test refused n rest t after j next e k = rw (e, k) refl
 abbrev pub Reads : List ℕ → Test → List ℕ → Type 0
 Reads rest t after = (test_at None rest ≡ Ok (t, after)) × ((left : ℕ) → left ≤ length after → test_at (Some left) rest ≡ Ok (t, after))
 
-reads_at : (refused : Option ℕ) (rest : List ℕ) (t : Test) (after : List ℕ) → Reads rest t after → IsLater refused after → test_at refused rest ≡ Ok (t, after)
+pub reads_at : (refused : Option ℕ) (rest : List ℕ) (t : Test) (after : List ℕ) → Reads rest t after → IsLater refused after → test_at refused rest ≡ Ok (t, after)
 reads_at None rest t after r later = r.0
 reads_at (Some left) rest t after r later = r.1 left later
 
-back : (refused : Option ℕ) (next rest : List ℕ) → length next ≤ length rest → IsLater refused next → IsLater refused rest
+pub back : (refused : Option ℕ) (next rest : List ℕ) → length next ≤ length rest → IsLater refused next → IsLater refused rest
 back None next rest le later = tt
 back (Some left) next rest le later = omega arith
 

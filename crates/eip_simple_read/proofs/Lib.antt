@@ -10,3 +10,8 @@ pub mod TestsFit
 pub mod Laws
 pub mod Rows
 pub mod Rooms
+pub mod Asked
+pub mod AskedTests
+pub mod AskedFronts
+pub mod AskedParts
+pub mod AskedAll

@@ -1,4 +1,5 @@
 pub mod Patterns
 pub mod Reading
+pub mod Builds
 pub mod Spelling
 pub mod Meaning

@@ -1,9 +1,11 @@
-ghost use Rattle.std.specs.Prelude.{◌≡◌, ◌<◌, ◌≤◌, ℕ, length, IfOk};
+ghost use Rattle.std.specs.Prelude.{◌≡◌, ◌<◌, ◌≤◌, ℕ, length, IfOk, false};
 ghost use Rattle.eip_text.specs.Causes.{Rises};
 ghost use Rattle.eip_simple_read.specs.Reading as spec;
 ghost use Rattle.eip_simple_read.specs.Reading.{GivesAt, StopsWithin, stop_failures};
 ghost use Rattle.eip_simple_read.specs.Patterns.{IsGoodPattern};
 ghost use Rattle.eip_simple_read.specs.Reading.{HasGoodPattern};
+ghost use Rattle.eip_simple_read.specs.Builds.{AsksAt, operated_patterns, test_patterns};
+ghost use Rattle.eip_simple_read.specs.declared.operators.Operator.TheVariants.{Matches};
 
 use crate::fault::Stop;
 use crate::joints::{gap, spaced};
@@ -50,6 +52,7 @@ fn pattern_at<'t, P: Patterns>(
     ensures within { StopsWithin (length text.now) result }
     ensures grammar { IfOk result (λ x. IsGoodPattern x.0) }
     ensures cause { Rises (stop_failures result) (P.pattern_faults patterns.old) (P.pattern_faults patterns.new) }
+    ensures asks { AsksAt result (λ _. operated_patterns text.now (Matches false)) (P.pattern_builds patterns.old) (P.pattern_builds patterns.new) }
 {
     let (side, rest) = side_at(alloc, text)?;
     let Some(plain) = pattern_text(alloc, text, &side)? else {
@@ -58,7 +61,8 @@ fn pattern_at<'t, P: Patterns>(
     match patterns.build(alloc, &plain) {
         Ok(pattern) => Ok((pattern, rest)),
         Err(PatternFault::NoMemory) => Err(Stop::Memory),
-        Err(fault) => Err(Stop::Pattern(text.len(), fault)),
+        Err(PatternFault::Bad) => Err(Stop::Pattern(text.len(), PatternFault::Bad)),
+        Err(PatternFault::TooLarge) => Err(Stop::Pattern(text.len(), PatternFault::TooLarge)),
     }
 }
 
@@ -85,6 +89,7 @@ fn operated<'t, P: Patterns>(
     ensures within { StopsWithin (length text.now) result }
     ensures grammar { IfOk result (λ x. HasGoodPattern x.0) }
     ensures cause { Rises (stop_failures result) (P.pattern_faults patterns.old) (P.pattern_faults patterns.new) }
+    ensures asks { AsksAt result (λ _. operated_patterns text.now operator) (P.pattern_builds patterns.old) (P.pattern_builds patterns.new) }
 {
     match operator {
         Operator::Compares(op) => {
@@ -118,6 +123,7 @@ pub fn test_at<'t, P: Patterns>(
     ensures within { StopsWithin (length text.now) result }
     ensures grammar { IfOk result (λ x. HasGoodPattern x.0) }
     ensures cause { Rises (stop_failures result) (P.pattern_faults patterns.old) (P.pattern_faults patterns.new) }
+    ensures asks { AsksAt result (λ _. test_patterns text.now) (P.pattern_builds patterns.old) (P.pattern_builds patterns.new) }
 {
     let (left, after) = side_at(alloc, text)?;
     let rest = match gap(after) {

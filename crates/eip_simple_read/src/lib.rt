@@ -14,7 +14,7 @@ pub mod templates;
 pub mod tree;
 
 pub use fault::SimpleFault;
-pub use pattern::{CratePatterns, Pattern, PatternFault, Patterns};
+pub use pattern::{Build, CratePatterns, Pattern, PatternFault, Patterns};
 pub use predicates::read_predicate;
 pub use printing::{print_predicate, print_template};
 pub use templates::read_template;

@@ -1,9 +1,11 @@
-ghost use Rattle.std.specs.Prelude.{◌≡◌, ◌<◌, ◌≤◌, ◌+◌, ◌-◌, ◌*◌, ◌^◌, ℕ, IfOk, OnOk, OnErr, IsErrOf, Contains, min};
+ghost use Rattle.std.specs.Prelude.{◌≡◌, ◌<◌, ◌≤◌, ◌+◌, ◌-◌, ◌*◌, ◌^◌, ℕ, List, Option, None, IfOk, OnOk, OnErr, IsErrOf, Contains, min};
 ghost use Rattle.regex.specs.Failures.{IsPattern};
 ghost use Rattle.regex.specs.Strings.{regex_size};
 ghost use Rattle.regex_syntax.specs.Verdict.{default_config};
 ghost use Rattle.eip_text.specs.Causes.{Rises};
 ghost use Rattle.eip_simple_read.specs.Patterns.{IsNoPattern, IsGoodPattern, IsWholeMatch, IsOf, IsRefused, Takes, build_failures, price, size_bytes};
+ghost use Rattle.eip_simple_read.specs.declared.pattern.Build.{Build as ABuild};
+ghost use Rattle.eip_simple_read.specs.Builds.{added, made};
 
 use eip_text::{NoMemory, Text};
 use regex::{Error, Regex, RegexBuilder};
@@ -149,9 +151,20 @@ fn compiled(alloc: Global, source: &str, size: Size) -> Result<Regex, PatternFau
     }
 }
 
+/// A build of a pattern. One for which memory was wanting is none.
+#[derive(Drop)]
+pub struct Build {
+    pub text: Text,
+    /// Whether there is a pattern; else it was refused.
+    pub is_built: bool,
+}
+
 /// What builds the patterns of predicates. It counts the patterns that it refuses for their size.
 pub trait Patterns {
     ghost pattern_faults: { Self → ℕ };
+
+    /// The builds so far, where the object tells them.
+    ghost pattern_builds: { Self → Option (List ABuild) };
 
     /// The pattern of this text. It answers `Bad` only where the text, alone or enclosed to match whole texts, is no
     /// pattern, and `TooLarge` only where its count of faults rose.
@@ -159,7 +172,8 @@ pub trait Patterns {
         ensures built { IfOk result (λ p. p ≡ text.now) }
         ensures grammar { IfOk result (λ _. IsGoodPattern text.now) }
         ensures bad { IsErrOf result PatternFault.Bad → IsNoPattern text.now }
-        ensures cause { Rises (build_failures result) (pattern_faults self.old) (pattern_faults self.new) };
+        ensures cause { Rises (build_failures result) (pattern_faults self.old) (pattern_faults self.new) }
+        ensures builds { pattern_builds self.new ≡ added (pattern_builds self.old) (made text.now result) };
 }
 
 /// What the patterns of a builder may take together, in bytes.
@@ -243,6 +257,8 @@ impl CratePatterns {
 impl Patterns for CratePatterns {
     ghost pattern_faults = { λ p. p.faults };
 
+    ghost pattern_builds = { λ _. None };
+
     /// The pattern of this text. A build whose number stands among the failing ones is refused as too large, and so is
     /// one for which there is no room.
     fn build(&mut self, alloc: Global, text: &Text) -> Result<Pattern, PatternFault>
@@ -250,6 +266,7 @@ impl Patterns for CratePatterns {
         ensures grammar { IfOk result (λ _. IsGoodPattern text.now) }
         ensures bad { IsErrOf result PatternFault.Bad → IsNoPattern text.now }
         ensures cause { Rises (build_failures result) self.old.faults self.new.faults }
+        ensures builds { None ≡ added None (made text.now result) }
         ensures failing { Contains self.old.failing.items self.new.number → IsErrOf result PatternFault.TooLarge }
         ensures number { self.new.number ≡ min (self.old.number + 1) (2 ^ 64 - 1) }
         ensures room { OnOk result (Takes text.now self.old.room self.new.room) }

@@ -1,9 +1,10 @@
-ghost use Rattle.std.specs.Prelude.{◌≡◌, length, IfOk, All};
+ghost use Rattle.std.specs.Prelude.{◌≡◌, length, IfOk, All, None};
 ghost use Rattle.eip_text.specs.Causes.{Rises};
 ghost use Rattle.eip_simple_read.specs.Reading as spec;
 ghost use Rattle.eip_simple_read.specs.Reading.{GivesAt, StopsWithin, stop_failures, HasGoodPattern};
 ghost use Rattle.eip_simple_read.specs.Meaning.{IsReading, predicate_of, fault_failures};
 ghost use Rattle.eip_simple_read.specs.Spelling.{predicate_text};
+ghost use Rattle.eip_simple_read.specs.Builds.{AsksAt, IsAsked, any_patterns, patterns_in};
 
 use crate::comparisons::test_at;
 use crate::fault::{SimpleFault, Stop};
@@ -24,6 +25,7 @@ fn all_tests<P: Patterns>(
     ensures within { StopsWithin (length text.now) result }
     ensures grammar { IfOk result (λ v. All (All HasGoodPattern) v.items) }
     ensures cause { Rises (stop_failures result) (P.pattern_faults patterns.old) (P.pattern_faults patterns.new) }
+    ensures asks { AsksAt result (λ refused. patterns_in refused text.now) (P.pattern_builds patterns.old) (P.pattern_builds patterns.new) }
 {
     let mut any = Vec::new(alloc);
     let mut all = Vec::new(alloc);
@@ -59,6 +61,8 @@ pub fn read_predicate<P: Patterns>(
     ensures again { IfOk result (λ p. predicate_of (predicate_text p) ≡ Ok p) }
     ensures grammar { IfOk result (λ p. All (All HasGoodPattern) p.any) }
     ensures cause { Rises (fault_failures result) (P.pattern_faults patterns.old) (P.pattern_faults patterns.new) }
+    ensures spelled { IfOk result (λ p. patterns_in None text.now ≡ any_patterns p.any) }
+    ensures asks { IsAsked text.now result (P.pattern_builds patterns.old) (P.pattern_builds patterns.new) }
 {
     let whole = text.as_str();
     match all_tests(alloc, whole, patterns) {

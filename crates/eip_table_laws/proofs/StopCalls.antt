@@ -80,7 +80,7 @@ idle-of true (own_of.Out w) h = absurd (cc h)
 idle-of true own_of.Done h = absurd (cc h)
 idle-of false st h = absurd (cc h)
 
-idle-is : (s : Plan) (past : Past) (r : ℕ) → IsIdleSource s past r → is_idle (source_row s past r) ≡ true
+pub idle-is : (s : Plan) (past : Past) (r : ℕ) → IsIdleSource s past r → is_idle (source_row s past r) ≡ true
 idle-is s past r h = rw (h.0.1, h.1) refl
 
 not-both : (b : Bool) → b ≡ true → b ≡ false → ⊥
@@ -103,6 +103,10 @@ module _ (s : Plan) (past : Past) (rows : List SourceState) (st : SourcesStand s
 
   pub idle-none : position_from is_idle 0 rows ≡ None → (r : ℕ) → IsIdleSource s past r → ⊥
   idle-none h r i = not-both (is_idle (source_row s past r)) (idle-is s past r i) (position-none is_idle 0 rows h r (source_row s past r) (st.each r i.0.0))
+
+-- a route whose row is idle has a source that may be pulled
+pub idle-from : (s : Plan) (past : Past) (t : ℕ) → t < s.routes → is_idle (source_row s past t) ≡ true → IsIdleSource s past t
+idle-from s past t l h = let k = idle-of (s.is_source t) (source_state t past) h in ((l, k.0), k.1)
 
 below-empty : (p : ℕ → Bool) (n : ℕ) → ((r : ℕ) → r < n → p r ≡ false) → numbers_below p n ≡ []
 below-empty p zero h = refl

@@ -48,6 +48,14 @@ impl Sources {
         self.states[route as usize] = state;
     }
 
+    /// Whether the source of a route may be pulled.
+    pub fn is_idle(&self, route: u32) -> bool
+        requires { route < length self.now }
+        ensures { option_map is_idle (slice_get self.now route) ≡ Some result }
+    {
+        self.states[route as usize] == SourceState::Idle
+    }
+
     /// The first route whose source may be pulled.
     pub fn first_idle(&self) -> Option<usize>
         ensures { result ≡ position_from is_idle 0 self.now }

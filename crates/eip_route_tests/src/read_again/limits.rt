@@ -53,10 +53,12 @@ fn wrong(alloc: Global, rows: &str, kept: bool) -> Result<&str, NoMemory> {
     Ok("")
 }
 
+/// The tables of limits, with whether their texts are kept.
+const TABLES: [(&str, bool); 2] = [(LIMITS, false), (WITHIN, true)];
+
 #[test]
 fn bytes_keys_numbers_routes_and_blocks_have_their_limits(rt: HostRuntime) -> Result<(), Fail> {
-    let tables = [(LIMITS, false), (WITHIN, true)];
-    for (rows, kept) in tables {
+    for (rows, kept) in TABLES {
         let row = wrong(rt.alloc(), rows, kept)?;
         assert!(rt; row.is_empty(), "of {row}");
     }

@@ -6,7 +6,7 @@ use Rattle.eip_route_grammar.specs.Objects.{value_kind}
 use Rattle.eip_route_grammar.specs.Paths.{key_step, placed}
 use Rattle.eip_route_faults.proofs.Sited.{at_null, at_flag, at_whole, at_float, at_word, at_list, at_object, list_wrong, list_walks, object_wrong, object_walks, inside_wrong, inside_walks, items_wrong, items_end, members_wrong, members_end}
 use Rattle.eip_route_faults.proofs.Starved.{text_starves, value_list_starves, list_starves, value_object_starves, object_starves, inside_starves, items_starve, items_walked, members_starve, members_walked}
-use Rattle.eip_route_faults.proofs.Walking.{starves_walked, walk_ended}
+use Rattle.eip_route_faults.proofs.Walking.{starves_walked, still_ended, walk_ended}
 use Rattle.eip_route_faults.proofs.walk.+find.Goals as goal
 
 pub find_fault-returns-in_ok-found-in-Null : goal.find_fault-returns-in_ok-found-in-Null
@@ -87,6 +87,30 @@ find_inside-returns g t c =
     inside_walks _ _ _ _ c.as_slice-beside.result.now c.in_ok-found.found c.whole_object.result _ _ _ _ _ (c.as_slice-beside.ensures.value ∙ c.in_ok-parameters.ensures) c.in-None.is c.in_ok-found.ensures c.whole_object.ensures c.in_ok-rest-in-None.ensures
 
 -- ---- where memory is wanting
+
+pub find_fault-returns-in_err-found-in-Null : goal.find_fault-returns-in_err-found-in-Null
+find_fault-returns-in_err-found-in-Null g t c = still_ended _ _ _ _ _ c.from_residual.ensures.0
+
+pub find_fault-returns-in_err-found-in-Flag : goal.find_fault-returns-in_err-found-in-Flag
+find_fault-returns-in_err-found-in-Flag g t c = still_ended _ _ _ _ _ c.from_residual-in_err-found-in-Flag.ensures.0
+
+pub find_fault-returns-in_err-found-in-Whole : goal.find_fault-returns-in_err-found-in-Whole
+find_fault-returns-in_err-found-in-Whole g t c = still_ended _ _ _ _ _ c.from_residual-in_err-found-in-Whole.ensures.0
+
+pub find_fault-returns-in_err-found-in-Float : goal.find_fault-returns-in_err-found-in-Float
+find_fault-returns-in_err-found-in-Float g t c = still_ended _ _ _ _ _ c.from_residual-in_err-found-in-Float.ensures.0
+
+pub find_in_list-returns-in_err-fault-in-Err : goal.find_in_list-returns-in_err-fault-in-Err
+find_in_list-returns-in_err-fault-in-Err g t c = still_ended _ _ _ _ _ c.from_residual.ensures.0
+
+pub find_in_object-returns-in_err-own : goal.find_in_object-returns-in_err-own
+find_in_object-returns-in_err-own g t c = still_ended _ _ _ _ _ c.from_residual.ensures.0
+
+pub find_in_object-returns-in_err-fault-in-Some : goal.find_in_object-returns-in_err-fault-in-Some
+find_in_object-returns-in_err-fault-in-Some g t c = still_ended _ _ _ _ _ c.from_residual-in_err-fault-in-Some.ensures.0
+
+pub find_inside-returns-in_err-parameters : goal.find_inside-returns-in_err-parameters
+find_inside-returns-in_err-parameters g t c = still_ended _ _ _ _ _ c.from_residual.ensures.0
 
 pub find_fault-returns-in_err-found-in-Word : goal.find_fault-returns-in_err-found-in-Word
 find_fault-returns-in_err-found-in-Word g t c =

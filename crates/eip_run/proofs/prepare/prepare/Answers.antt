@@ -1,5 +1,5 @@
-use Rattle.std.proofs.Common.{refl, inl}
-use Rattle.eip_run.specs.Prepared.{NoCommand, LacksMemory}
+use Rattle.std.proofs.Common.{Some, refl, ap, ◌∙◌, inl}
+use Rattle.eip_run.specs.Prepared.{NoCommand, HasNone, LacksMemory}
 use Rattle.eip_run.proofs.Ending.{was-read, prepared-unread, prepared-none, prepared-job}
 use Rattle.eip_run.proofs.prepare.prepare.Goals as goal
 
@@ -9,6 +9,9 @@ returns-in-Err-Refused-clause-answer g c =
 
 pub returns-in-Err-NoMemory-clause-answer : goal.returns-in-Err-NoMemory-clause-answer
 returns-in-Err-NoMemory-clause-answer g c = LacksMemory refl (inl refl)
+
+pub returns-in-Ok-Migrate-clause-answer : goal.returns-in-Ok-Migrate-clause-answer
+returns-in-Ok-Migrate-clause-answer g c = HasNone _ _ (c.in-Ok-Migrate.ensures.command ∙ ap Some c.in-Ok-Migrate.field-0-is) (record { files = refl; patterns = refl })
 
 pub returns-in-Err-clause-answer : goal.returns-in-Err-clause-answer
 returns-in-Err-clause-answer g c = prepared-unread _ c.in-Ok.command c.in-Err.refusal c.in-Ok.ensures.command refl c.in-Err.ensures.read

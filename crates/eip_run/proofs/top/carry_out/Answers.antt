@@ -1,5 +1,5 @@
 use Rattle.std.proofs.Common.{Ok, refl, ap}
-use Rattle.eip_run.proofs.Ending.{prepared-runs, prepared-limit, loaded-runs, reports-drained, reports-loaded, reports-checked, reports-refused}
+use Rattle.eip_run.proofs.Ending.{prepared-runs, prepared-limit, loaded-runs, audited-runs, reports-drained, reports-loaded, reports-checked, reports-judged, reports-migrated, reports-refused}
 use Rattle.eip_run.proofs.top.carry_out.Goals as goal
 
 pub drain-requires-clause-few : goal.drain-requires-clause-few
@@ -36,12 +36,29 @@ pub returns-in-Ok-Check : goal.returns-in-Ok-Check
 returns-in-Ok-Check g c = record {
   report =
       reports-checked _ _ _ c.in-Ok-Check.ensures.answer (ap Ok c.in-Ok-Check.field-0-is)
-      (record { files = c.in-Ok-Check.ensures.files; lanes = refl; inlets = refl; journal = c.unused_journal.ensures }) c.tell_check.ensures;
+      (record { files = c.in-Ok-Check.ensures.files; idle = record { lanes = refl; inlets = refl; journal = c.unused_journal.ensures } }) c.tell_check.ensures;
+}
+
+pub judge-judged-requires : goal.judge-judged-requires
+judge-judged-requires g c = record { few = (audited-runs _ _ _ _ c.in-Ok-Audit.ensures.answer (ap Ok c.in-Ok-Audit.field-0-is)).few }
+
+pub returns-in-Ok-Audit : goal.returns-in-Ok-Audit
+returns-in-Ok-Audit g c = record {
+  report =
+      reports-judged _ _ _ _ _ _ _ c.in-Ok-Audit.ensures.answer (ap Ok c.in-Ok-Audit.field-0-is) c.in-Ok-Audit.ensures.files c.judge-judged.ensures.same
+      (record { lanes = refl; inlets = refl; journal = c.unused_journal-in-Ok-Audit.ensures }) c.judge-judged.ensures.judged c.tell_verdict.ensures;
+}
+
+pub returns-in-Ok-Migrate : goal.returns-in-Ok-Migrate
+returns-in-Ok-Migrate g c = record {
+  report =
+      reports-migrated _ _ _ _ _ _ _ c.in-Ok-Migrate.ensures.answer (ap Ok c.in-Ok-Migrate.field-0-is) c.in-Ok-Migrate.ensures.files
+      (record { lanes = refl; inlets = refl; journal = c.unused_journal-in-Ok-Migrate.ensures }) c.migrate-migrated.ensures c.tell_migration.ensures;
 }
 
 pub returns-in-Err : goal.returns-in-Err
 returns-in-Err g c = record {
   report =
       reports-refused _ _ c.in-Err.ensures.answer
-      (record { files = c.in-Err.ensures.files; lanes = refl; inlets = refl; journal = c.unused_journal-in-Err.ensures }) c.tell_refusal.ensures;
+      (record { files = c.in-Err.ensures.files; idle = record { lanes = refl; inlets = refl; journal = c.unused_journal-in-Err.ensures } }) c.tell_refusal.ensures;
 }

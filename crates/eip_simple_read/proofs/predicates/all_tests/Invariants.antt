@@ -1,10 +1,12 @@
-use Rattle.std.proofs.Common.{◌≡◌, ◌≤◌, length}
+use Rattle.std.proofs.Common.{◌≡◌, ◌≤◌, ℕ, List, length}
 use Rattle.std.specs.Prelude.{All}
 use denote.Text.{Utf8}
 use denote.Shadow.{shadow}
 use Rattle.eip_simple_read.specs.Reading as spec
 use Rattle.eip_simple_read.specs.Reading.{HasGoodPattern}
+use Rattle.eip_simple_read.specs.Builds.{added, built, patterns_in}
 use Rattle.eip_simple_read.proofs.Conjunctions.{SoFar}
+use Rattle.eip_simple_read.proofs.AskedTests.{PatternsSoFar}
 use Rattle.eip_simple_read.proofs.predicates.all_tests.Given as goal
 
 abbrev pub invariant-loop-all : goal.invariant-loop-all
@@ -15,6 +17,7 @@ invariant-loop-all g l = record {
   any_good : All (All HasGoodPattern) l.any.items;
   all_good : All HasGoodPattern l.all.items;
   faults : g.P.Patterns.pattern_faults l.patterns ≡ g.P.Patterns.pattern_faults l.fn.patterns;
+  asked : (past : List (List ℕ)) × PatternsSoFar past l.rest (λ refused. patterns_in refused l.text) × (g.P.Patterns.pattern_builds l.patterns ≡ added (g.P.Patterns.pattern_builds l.fn.patterns) (built past));
 }
 
 abbrev pub decreases-loop-all : goal.decreases-loop-all

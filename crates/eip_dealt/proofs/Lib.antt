@@ -1,0 +1,5 @@
+pub mod Places
+pub mod Parts
+pub mod Owning
+pub mod Lanes
+pub mod Inlets

@@ -1,0 +1,4 @@
+pub mod Deeds
+pub mod Shared
+pub mod Turns
+pub mod Looks

@@ -1,0 +1,108 @@
+ghost use Rattle.std.specs.Prelude.{◌≡◌, ◌≤◌, Some, IfOk, IfSome, IfNone};
+ghost use Rattle.eip_ledger.specs.declared.place.Place.TheVariants.{Ready};
+ghost use Rattle.eip_history.specs.Births.{Asked, asked};
+ghost use Rattle.eip_books.specs.View.{plan, IsLegalRun};
+ghost use Rattle.eip_hub.specs.Events.{IsBelowLimit, place_in};
+ghost use Rattle.eip_shared.specs.Looks.{LooksIn, told_by};
+
+use crate::looks::Look;
+use eip_frames::Request;
+use eip_hub::{Hub, OriginView, Ticket};
+use eip_text::{NoMemory, Text};
+
+/// What a worker does next: it makes the entries of that, if there are any. Of the lanes and inlets it uses its own alone.
+pub(crate) fn next(hub: &mut Hub, worker: u32) -> Look
+    requires worker { (1 ≤ worker) × (worker ≤ hub.old.journal.workers) }
+    ensures looks { LooksIn hub.old hub.new worker result }
+    ensures legal { IsLegalRun hub.new }
+{
+    if hub.stop().is_some() {
+        return Look::Stopped;
+    }
+    if hub.reserve().is_err() {
+        return Look::NoMemory;
+    }
+    if !hub.below_limit() {
+        return Look::Nothing;
+    }
+    if let Some(number) = hub.unlooked() {
+        return run_inner(hub, worker, number);
+    }
+    if let Some(what) = take_call(hub, worker) {
+        return what;
+    }
+    if let Some(source) = hub.pull_owned(worker) {
+        return Look::Pull(source);
+    }
+    if hub.start(worker).is_some() {
+        return Look::Did;
+    }
+    move_on(hub, worker)
+}
+
+/// Does what a Ready exchange asks for where nobody outside is needed, or ends it for want of memory.
+fn run_inner(hub: &mut Hub, worker: u32, number: u64) -> Look
+    requires worker { worker ≤ hub.old.journal.workers }
+    requires ready { place_in hub.old number ≡ Some Ready }
+    requires below { IsBelowLimit hub.old }
+    requires room { 1 ≤ hub.old.room }
+    ensures looks { LooksIn hub.old hub.new worker result }
+    ensures legal { IsLegalRun hub.new }
+{
+    if hub.inner(worker, number).is_err() {
+        hub.starve(worker, number);
+    }
+    Look::Did
+}
+
+/// Takes an exchange in hand, if there is one for this worker. What is read of the journal outside the lock stands beside the ticket;
+/// where there is no memory for that, the exchange is given up.
+fn take_call(hub: &mut Hub, worker: u32) -> Option<Look>
+    requires worker { (1 ≤ worker) × (worker ≤ hub.old.journal.workers) }
+    requires room { 1 ≤ hub.old.room }
+    ensures some { IfSome result (λ what. LooksIn hub.old hub.new worker what) }
+    ensures none { IfNone result (hub.new ≡ hub.old) }
+    ensures legal { IsLegalRun hub.new }
+{
+    let ticket = hub.take_owned(worker)?;
+    match told(hub, &ticket) {
+        Ok(told) => Some(Look::Call { ticket, told }),
+        Err(NoMemory) => {
+            hub.give_up(ticket);
+            Some(Look::Did)
+        }
+    }
+}
+
+/// Whom an exchange in hand may have to tell of its end: the source that it came from, by its route, and the item.
+fn told(hub: &Hub, ticket: &Ticket) -> Result<Option<(u32, Text)>, NoMemory>
+    ensures { (k : Asked) → asked (plan hub.now) hub.now.journal.past ticket.now.number ≡ Some k
+        → IfOk result (λ told. told ≡ told_by ticket.now.request k.birth.origin) }
+{
+    let Request::Finish { .. } = &ticket.request else {
+        return Ok(None);
+    };
+    match hub.origin(ticket.number) {
+        Some(OriginView::Source { route, item }) => Ok(Some((route, item.copy()?))),
+        _ => Ok(None),
+    }
+}
+
+/// Moves the clock on, or closes groups by force, where nobody may act.
+fn move_on(hub: &mut Hub, worker: u32) -> Look
+    requires worker { worker ≤ hub.old.journal.workers }
+    ensures looks { LooksIn hub.old hub.new worker result }
+    ensures legal { IsLegalRun hub.new }
+{
+    let Ok(ticked) = hub.tick(worker) else {
+        return Look::NoMemory;
+    };
+    if ticked {
+        return Look::Did;
+    }
+    match hub.force(worker) {
+        Ok(true) => Look::Did,
+        Ok(false) => Look::Nothing,
+        Err(_) => Look::NoMemory,
+    }
+}

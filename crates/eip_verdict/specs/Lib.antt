@@ -1,0 +1,4 @@
+pub mod Verdicts
+pub mod Statements
+pub mod Example
+pub mod Same
