@@ -97,7 +97,7 @@ block-field-send = search (series.the_send, step-send, crosses, sendable) depth 
 block-send : IsSend block.the_row
 block-send = as_row_send block.the_field block-field-send
 
-set-field-send : IsSend (set.the_field).row
+pub set-field-send : IsSend (set.the_field).row
 set-field-send = search (
   names.the_field_send,
   route.the_send,

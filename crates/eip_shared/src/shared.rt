@@ -22,7 +22,6 @@ pub struct SharedRun {
 }
 
 impl Model for SharedRun {
-    ghost use Rattle.eip_shared.specs.Looks.{Looks};
     ghost use Rattle.eip_shared.specs.Shared.{SharedView, SharedFacts};
 
     ghost Value = { SharedView };

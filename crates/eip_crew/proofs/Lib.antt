@@ -1,0 +1,4 @@
+pub mod Lists
+pub mod Seated
+pub mod Sending
+pub mod Working

@@ -1,0 +1,5 @@
+pub mod Done
+pub mod Handed
+pub mod Told
+pub mod Following
+pub mod Stepping

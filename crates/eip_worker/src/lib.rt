@@ -1,0 +1,11 @@
+// One of several workers: it takes turns at a run that is shared, and between them calls the lanes and inlets that it owns.
+#![tactic(auto)]
+
+mod calls;
+mod gate;
+mod serving;
+mod worker;
+
+pub use gate::{Gate, NoGate};
+pub use serving::serve;
+pub use worker::{Round, Worker};

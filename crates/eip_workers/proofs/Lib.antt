@@ -1,0 +1,3 @@
+pub mod Answering
+pub mod Compose
+pub mod Dealing

@@ -1,0 +1,8 @@
+// Worker threads: a run is drained by several workers at once, each with the lanes and inlets that it owns.
+#![tactic(auto)]
+
+mod rounds;
+mod run;
+mod sources;
+
+pub use run::run_workers;
