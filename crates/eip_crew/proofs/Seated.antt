@@ -1,5 +1,5 @@
 -- A seat that is taken in, and what a worker with a new seat may do and did.
-use Rattle.std.proofs.Common.{◌≡◌, ℕ, suc, ◌+◌, ◌<◌, ◌≤◌, List, [], ◌∷◌, ◌++◌, Option, Some, None, refl, sym, ap, subst, ◌∙◌, arith}
+use Rattle.std.proofs.Common.{◌≡◌, ℕ, ◌+◌, ◌≤◌, List, [], ◌∷◌, ◌++◌, Option, Some, None, sym, ap, subst, ◌∙◌, arith}
 use Rattle.atomic_table.specs.Seated.{TableId}
 use Rattle.eip_route.specs.declared.route.RouteSet.{RouteSet}
 use Rattle.eip_endpoint.specs.Inlets.{InletView}
@@ -7,13 +7,11 @@ use Rattle.eip_endpoint.specs.Lanes.{LaneView}
 use Rattle.eip_history.specs.Rules.{IsLegal}
 use Rattle.eip_plan.specs.Plan.{plan_of}
 use Rattle.eip_processor.specs.Registered.{RegistryView}
-use Rattle.eip_turnstile.specs.Rule.{entries_by, first_view}
+use Rattle.eip_turnstile.specs.Rule.{entries_by}
 use Rattle.eip_turnstile.specs.Seats.{lock_of, knows}
 use Rattle.eip_turnstile.specs.Steps.{joined, split_left, split_right}
 use Rattle.eip_turnstile.specs.declared.seat.Seat.{Seat}
-use Rattle.eip_turnstile.specs.declared.view.View.{View}
 use Rattle.eip_shared.specs.Deeds.{past_of}
-use Rattle.eip_shared.specs.Turns.{past_seen}
 use Rattle.eip_shared.specs.declared.beginning.Beginning.{Beginning}
 use Rattle.eip_shared.specs.declared.deed.Deed.{Deed}
 use Rattle.eip_worker.specs.Seats.{MaySit, Sat}

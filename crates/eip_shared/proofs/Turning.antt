@@ -10,7 +10,8 @@ use Rattle.eip_turnstile.specs.Rule.{entries_by, StartsWith, AllBy}
 use Rattle.eip_turnstile.specs.Steps.{claimed, counted, released}
 use Rattle.eip_turnstile.specs.declared.view.View.{View}
 use Rattle.eip_turnstile.proofs.Lists.{by-append}
-use Rattle.eip_shared.specs.Deeds.{deed, past_of, done_by}
+use Rattle.std.specs.List.{AllByRecursion}
+use Rattle.eip_shared.specs.Deeds.{IsInner, deed, past_of, done_by}
 use Rattle.eip_shared.specs.Shared.{SharedView, Makes, MayEnter, deed_of, kind_of, log, beginning}
 use Rattle.eip_shared.specs.Looks.{Looks, Saw, Tells}
 use Rattle.eip_shared.specs.Turns.{past_seen, IsAtWork, Turned, Knows}
@@ -20,7 +21,7 @@ use Rattle.eip_shared.specs.declared.looks.Look.{Look}
 use Rattle.eip_shared.specs.declared.outcome.Outcome.{Outcome}
 use Rattle.eip_shared.proofs.Doing.{whole-past}
 use Rattle.eip_shared.proofs.Facts.{may-on, outcome-deed}
-use Rattle.eip_shared.proofs.Logs.{past-append, none-of, own-all, own-by}
+use Rattle.eip_shared.proofs.Logs.{done-append, past-append, none-of, own-all, own-by}
 
 -- what others did since a seat saw the run
 pub record Others (start : Beginning) (v : View Deed Beginning) (run : SharedView) : Type 0 where
@@ -106,15 +107,15 @@ module _ (start : Beginning) (v after : View Deed Beginning) (run next : SharedV
 
   -- and what a look told it knows
   pub turn-saw : entries_by v.number (log run) ≡ v.mine → (what : Look)
-      → Tells (plan next.hub) (outlets next.hub.set) next.hub.journal.workers next.hub.journal.turns next.hub.journal.past v.number ds what
+      → AllByRecursion IsInner ds → Tells (plan next.hub) (outlets next.hub.set) next.hub.journal.workers next.hub.journal.turns next.hub.journal.past v.number what
       → Saw start v after what
-  turn-saw mine what tells =
+  turn-saw mine what all tells =
       let same : beginning next ≡ start = makes.beginning ∙ others.begins in
       let sets = ap (λ (b : Beginning). b.set) same in
       let workers = ap (λ (b : Beginning). b.workers) same in
       let turns = ap (λ (b : Beginning). b.turns) same in
       let number : v.number ≡ after.number = ap (λ (u : View Deed Beginning). u.number) (sym is) in
-      (ds, turn-did mine, rw (sets, workers, turns, past-now, number) at tells)
+      (ds, turn-did mine, all, rw (sets, workers, turns, past-now, number) at tells)
 
 -- ---- one turn, as the calls of the turnstile tell of it
 
@@ -135,6 +136,21 @@ turn-leaves v held run now next n ds turn makes =
     subst (λ (r : SharedView). Makes r next held.number ds) turn.lent (subst (λ m. Makes now next m ds) turn.number makes) in
     let seen : held.seen ≡ log run = ap (λ (u : View Deed Beginning). u.seen) turn.claims in
     (done_by held.number ds, made.log ∙ ap (λ xs. xs ++ done_by held.number ds) (sym seen), own-all held.number ds)
+
+-- two things that a worker did, one behind the other
+makes-both : (old mid new : SharedView) (w : ℕ) (ds es : List Deed) → Makes old mid w ds → Makes mid new w es → Makes old new w (ds ++ es)
+makes-both old mid new w ds es one two = record {
+  log =
+      two.log
+      ∙ (ap (λ xs. xs ++ done_by w es) one.log
+      ∙ (append_assoc (log old) (done_by w ds) (done_by w es) ∙ ap (λ xs. log old ++ xs) (sym (done-append w ds es))));
+  beginning = two.beginning ∙ one.beginning;
+}
+
+pub both-leave : (v held : View Deed Beginning) (run now mid next : SharedView) (n : ℕ) (ds es : List Deed) → Turn v held run now n → Makes now mid n ds
+    → Makes mid next n es → (more : List (ℕ × Deed)) × (log next ≡ held.seen ++ more) × AllBy held.number more
+both-leave v held run now mid next n ds es turn one two =
+    turn-leaves v held run now next n (ds ++ es) turn (makes-both now mid next n ds es one two)
 
 module _ (start : Beginning) (v held : View Deed Beginning) (run now : SharedView) (n : ℕ) (turn : Turn v held run now n) (works : IsAtWork start v) where
   others : Others start v run
@@ -161,8 +177,8 @@ module _ (start : Beginning) (v held : View Deed Beginning) (run now : SharedVie
 
     pub turn-looked : (what : Look) → Looks now next n what → Saw start v after what
     turn-looked what looks =
-        turn-saw start v after run next others looks.0 (made looks.0 looks.1) is turn.mine what
-        (subst (λ m. Tells (plan next.hub) (outlets next.hub.set) next.hub.journal.workers next.hub.journal.turns next.hub.journal.past m looks.0 what) own looks.2)
+        turn-saw start v after run next others looks.0 (made looks.0 looks.1) is turn.mine what looks.2
+        (subst (λ m. Tells (plan next.hub) (outlets next.hub.set) next.hub.journal.workers next.hub.journal.turns next.hub.journal.past m what) own looks.3)
 
     pub turn-entered : (from : Origin) (out : Outcome) → IsLegalRun now.hub → Knows start v from out
         → Makes now next n (deed (plan now.hub) now.hub.journal.past (kind_of out) ∷ []) → Turned v after (deed_of from out ∷ [])
@@ -170,3 +186,32 @@ module _ (start : Beginning) (v held : View Deed Beginning) (run now : SharedVie
         let same = outcome-deed (plan now.hub) (outlets now.hub.set) now.hub.journal.workers n now.hub.journal.past from out (turn-may from out legal knows) in
         turn-did start v after run next others (deed_of from out ∷ [])
         (made (deed_of from out ∷ []) (subst (λ (d : Deed). Makes now next n (d ∷ [])) same makes)) is turn.mine
+
+-- ---- the second half of a turn, behind something that was done in it
+
+module _ (start : Beginning) (v held : View Deed Beginning) (run now : SharedView) (n : ℕ) (turn : Turn v held run now n) (works : IsAtWork start v)
+    (mid : SharedView) (ds : List Deed) (makes : Makes now mid n ds) (legal : IsLegalRun mid.hub) where
+  -- what the seat would know if the turn ended here
+  abbrev behind : View Deed Beginning
+  behind = released (counted held (log mid))
+
+  again : Turn behind (claimed behind (log mid)) mid mid n
+  again = record {
+    lent = refl;
+    number = turn.number;
+    claims = refl;
+    starts = ([], sym (append-nil (log mid)));
+    mine = refl;
+    base = ap (λ (b : Beginning). Some b) (makes.beginning ∙ ap beginning turn.lent) ∙ (turn.base ∙ sym (ap (λ (u : View Deed Beginning). u.base) turn.claims));
+  }
+
+  at_work : IsAtWork start behind
+  at_work = turn-worked start v held run now n turn works behind mid refl ds makes legal
+
+  pub then-worked : (after : View Deed Beginning) (next : SharedView) → after ≡ released (counted held (log next)) → (es : List Deed) → Makes mid next n es
+      → IsLegalRun next.hub → IsAtWork start after
+  then-worked after next left es more ends = turn-worked start behind (claimed behind (log mid)) mid mid n again at_work after next left es more ends
+
+  pub then-looked : (after : View Deed Beginning) (next : SharedView) → after ≡ released (counted held (log next)) → (what : Look) → Looks mid next n what
+      → Saw start behind after what
+  then-looked after next left what looks = turn-looked start behind (claimed behind (log mid)) mid mid n again at_work after next left what looks

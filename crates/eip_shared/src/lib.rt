@@ -14,4 +14,4 @@ pub use deed::{Deed, Given};
 pub use looks::Look;
 pub use outcome::Outcome;
 pub use shared::SharedRun;
-pub use turns::{enter_outcome, look};
+pub use turns::{enter_and_look, enter_outcome, look};

@@ -4,14 +4,36 @@ ghost use Rattle.eip_history.specs.Births.{Asked, asked};
 ghost use Rattle.eip_books.specs.View.{plan, IsLegalRun};
 ghost use Rattle.eip_hub.specs.Events.{IsBelowLimit, place_in};
 ghost use Rattle.eip_shared.specs.Looks.{LooksIn, told_by};
+ghost use Rattle.eip_shared.specs.declared.looks.Look.TheVariants.{Did};
 
 use crate::looks::Look;
 use eip_frames::Request;
-use eip_hub::{Hub, OriginView, Ticket};
+use eip_hub::{Hub, Inner, OriginView, Ticket};
 use eip_text::{NoMemory, Text};
 
-/// What a worker does next: it makes the entries of that, if there are any. Of the lanes and inlets it uses its own alone.
-pub(crate) fn next(hub: &mut Hub, worker: u32) -> Look
+/// So many steps are made in one turn at most, so that others come to their turns.
+const STEPS_A_TURN: u32 = 64;
+
+/// What a worker does next, behind steps for which nobody outside is needed: it makes the entries of all that, if there are any. Of the
+/// lanes and inlets it uses its own alone. `waiting` counts who waits for a call.
+pub(crate) fn next(hub: &mut Hub, worker: u32, waiting: &mut u32) -> Look
+    requires worker { (1 ≤ worker) × (worker ≤ hub.old.journal.workers) }
+    ensures looks { LooksIn hub.old hub.new worker result }
+    ensures legal { IsLegalRun hub.new }
+{
+    for _ in 1..STEPS_A_TURN {
+        match step(hub, worker, waiting) {
+            Look::Did => {}
+            what => return what,
+        }
+    }
+    step(hub, worker, waiting)
+}
+
+/// One step: what a Ready exchange asks for, or else the start of the next one in a queue, or else a call or a pull; or else the clock
+/// moves on. So queues are emptied before more comes in, and a source is pulled only where fewer exchanges wait for a call than there
+/// are workers: what comes in doesn't pile up, and nobody is idle while a call takes long.
+fn step(hub: &mut Hub, worker: u32, waiting: &mut u32) -> Look
     requires worker { (1 ≤ worker) × (worker ≤ hub.old.journal.workers) }
     ensures looks { LooksIn hub.old hub.new worker result }
     ensures legal { IsLegalRun hub.new }
@@ -26,38 +48,43 @@ pub(crate) fn next(hub: &mut Hub, worker: u32) -> Look
         return Look::Nothing;
     }
     if let Some(number) = hub.unlooked() {
-        return run_inner(hub, worker, number);
-    }
-    if let Some(what) = take_call(hub, worker) {
-        return what;
-    }
-    if let Some(source) = hub.pull_owned(worker) {
-        return Look::Pull(source);
+        run_inner(hub, worker, number, waiting);
+        return Look::Did;
     }
     if hub.start(worker).is_some() {
         return Look::Did;
     }
+    if *waiting < hub.journal().workers() {
+        if let Some(source) = hub.pull_owned(worker) {
+            return Look::Pull(source);
+        }
+    }
+    if let Some(what) = take_call(hub, worker, waiting) {
+        return what;
+    }
     move_on(hub, worker)
 }
 
-/// Does what a Ready exchange asks for where nobody outside is needed, or ends it for want of memory.
-fn run_inner(hub: &mut Hub, worker: u32, number: u64) -> Look
+/// Does what a Ready exchange asks for where nobody outside is needed, or ends it for want of memory. Where it waits for a call, it is
+/// counted.
+fn run_inner(hub: &mut Hub, worker: u32, number: u64, waiting: &mut u32)
     requires worker { worker ≤ hub.old.journal.workers }
     requires ready { place_in hub.old number ≡ Some Ready }
     requires below { IsBelowLimit hub.old }
     requires room { 1 ≤ hub.old.room }
-    ensures looks { LooksIn hub.old hub.new worker result }
+    ensures looks { LooksIn hub.old hub.new worker Did }
     ensures legal { IsLegalRun hub.new }
 {
-    if hub.inner(worker, number).is_err() {
-        hub.starve(worker, number);
+    match hub.inner(worker, number) {
+        Ok(Inner::Did) => {}
+        Ok(Inner::Outside) => *waiting = waiting.saturating_add(1),
+        Err(NoMemory) => hub.starve(worker, number),
     }
-    Look::Did
 }
 
 /// Takes an exchange in hand, if there is one for this worker. What is read of the journal outside the lock stands beside the ticket;
 /// where there is no memory for that, the exchange is given up.
-fn take_call(hub: &mut Hub, worker: u32) -> Option<Look>
+fn take_call(hub: &mut Hub, worker: u32, waiting: &mut u32) -> Option<Look>
     requires worker { (1 ≤ worker) × (worker ≤ hub.old.journal.workers) }
     requires room { 1 ≤ hub.old.room }
     ensures some { IfSome result (λ what. LooksIn hub.old hub.new worker what) }
@@ -65,6 +92,7 @@ fn take_call(hub: &mut Hub, worker: u32) -> Option<Look>
     ensures legal { IsLegalRun hub.new }
 {
     let ticket = hub.take_owned(worker)?;
+    *waiting = waiting.saturating_sub(1);
     match told(hub, &ticket) {
         Ok(told) => Some(Look::Call { ticket, told }),
         Err(NoMemory) => {

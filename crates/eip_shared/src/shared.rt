@@ -19,6 +19,8 @@ use std::marker::Model;
 pub struct SharedRun {
     hub: Hub,
     began: usize,
+    /// How many exchanges wait for a call, as far as the looks told.
+    waiting: u32,
 }
 
 impl Model for SharedRun {
@@ -53,7 +55,11 @@ impl SharedRun {
         ensures beginning { beginning result ≡ beginning_of hub }
     {
         let began = hub.journal().entries().len();
-        SharedRun { hub, began }
+        SharedRun {
+            hub,
+            began,
+            waiting: 0,
+        }
     }
 
     /// The run, which is shared no longer. Each worker's part of what was done since it was shared is what its deeds say.
@@ -64,7 +70,11 @@ impl SharedRun {
         ensures facts { SharedFacts self }
         ensures parts { (w : ℕ) → Part self w }
     {
-        let SharedRun { hub, began: _ } = self;
+        let SharedRun {
+            hub,
+            began: _,
+            waiting: _,
+        } = self;
         let _ = hub.journal();
         hub
     }
@@ -77,6 +87,12 @@ impl SharedRun {
     {
         let _ = self.hub.journal();
         &self.hub
+    }
+
+    /// How many exchanges wait for a call. It decides how early a source is pulled, and when an idle worker looks, and no contract
+    /// speaks of it.
+    pub fn waiting(&self) -> u32 {
+        self.waiting
     }
 
     /// Enters what came of a call that a worker made outside the lock. It takes no memory.
@@ -110,6 +126,6 @@ impl SharedRun {
         ensures looks { Looks self.old self.new worker result }
         ensures legal { IsLegalRun self.new.hub }
     {
-        next(&mut self.hub, worker)
+        next(&mut self.hub, worker, &mut self.waiting)
     }
 }

@@ -1,7 +1,9 @@
 ghost use Rattle.std.specs.Prelude.{◌≡◌, [], ◌∷◌};
 ghost use Rattle.eip_exchange.specs.declared.birth.Origin.{Origin};
 ghost use Rattle.eip_turnstile.specs.Seats.{lock_id, lock_of, knows};
+ghost use Rattle.eip_turnstile.specs.declared.view.View.{View};
 ghost use Rattle.eip_shared.specs.declared.beginning.Beginning.{Beginning as Began};
+ghost use Rattle.eip_shared.specs.declared.deed.Deed.{Deed};
 ghost use Rattle.eip_shared.specs.Shared.{deed_of};
 ghost use Rattle.eip_shared.specs.Turns.{IsAtWork, Knows, Turned};
 ghost use Rattle.eip_shared.specs.Looks.{Saw};
@@ -11,6 +13,7 @@ use crate::outcome::Outcome;
 use crate::shared::SharedRun;
 use eip_turnstile::{Seat, Turnstile};
 use std::sync::Wait;
+use std::sync::atomic::{AtomicU32, Ordering};
 
 /// Enters in one turn what came of a call that the worker made outside the lock. Whatever others did since the worker took it in hand,
 /// it is still there, so this cannot be refused, and it takes no memory.
@@ -35,11 +38,12 @@ pub fn enter_outcome<R: Wait>(
     lock.leave(held)
 }
 
-/// Looks in one turn what the worker does next.
+/// Looks in one turn what the worker does next, and shows in `waiting` how many exchanges wait for a call then.
 pub fn look<R: Wait>(
     rt: &R,
     lock: &Turnstile<SharedRun>,
     seat: Seat<SharedRun>,
+    waiting: &AtomicU32,
 ) -> (Seat<SharedRun>, Look)
     requires own { lock_of seat ≡ lock_id lock.now }
     requires works { (start : Began) × IsAtWork start (knows seat) }
@@ -52,5 +56,31 @@ pub fn look<R: Wait>(
     let run = held.value();
     let _ = run.hub();
     let what = run.look(worker);
+    waiting.store(run.waiting(), Ordering::SeqCst);
+    (lock.leave(held), what)
+}
+
+/// Enters in one turn what came of a call, as `enter_outcome` does, and looks in the same turn what the worker does next, as `look` does.
+pub fn enter_and_look<R: Wait>(
+    rt: &R,
+    lock: &Turnstile<SharedRun>,
+    seat: Seat<SharedRun>,
+    outcome: Outcome,
+    waiting: &AtomicU32,
+) -> (Seat<SharedRun>, Look)
+    requires own { lock_of seat ≡ lock_id lock.now }
+    requires may { (start : Began) × IsAtWork start (knows seat) × ((from : Origin) × Knows start (knows seat) from outcome) }
+    ensures own { lock_of result.0 ≡ lock_of seat }
+    ensures saw { (start : Began) (from : Origin) → IsAtWork start (knows seat) → Knows start (knows seat) from outcome
+        → (behind : View Deed Began) × Turned (knows seat) behind (deed_of from outcome ∷ []) × IsAtWork start behind × Saw start behind (knows result.0) result.1 }
+    ensures works { (start : Began) → IsAtWork start (knows seat) → IsAtWork start (knows result.0) }
+{
+    let mut held = lock.enter(rt, seat);
+    let worker = held.number();
+    let run = held.value();
+    let _ = run.hub();
+    run.enter(worker, outcome);
+    let what = run.look(worker);
+    waiting.store(run.waiting(), Ordering::SeqCst);
     (lock.leave(held), what)
 }

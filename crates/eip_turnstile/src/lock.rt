@@ -11,8 +11,13 @@ use crate::law::{Claim, Count, Law, NewSeat, Release, TakenIn};
 use crate::seat::{Held, Seat, Turnstile};
 use atomic_table::{Refused, Table};
 use std::alloc::Global;
+use std::hint::spin_loop;
 use std::snapshot::Snapshot;
 use std::sync::Wait;
+
+/// So often a thread that waits for the turn looks whether it is free before it sleeps: to sleep and to be woken takes longer than most
+/// turns.
+const PEEKS: u32 = 1_000;
 
 impl<V: Chronicle> Turnstile<V> {
     /// Locks the value, which has no entries yet, for at most this many seats, and makes the first one, whose number is 0.
@@ -119,9 +124,22 @@ impl<V: Chronicle> Turnstile<V> {
                     value,
                 };
             }
-            shared.park(rt, 1, (found & 0xffff_ffff) as u32);
+            if !self.comes_free() {
+                shared.park(rt, 1, (found & 0xffff_ffff) as u32);
+            }
         }
         unreachable!()
+    }
+
+    /// Whether the turn comes free within a short while.
+    fn comes_free(&self) -> bool {
+        for _ in 0..PEEKS {
+            if self.table.shared.peek(1) == 0 {
+                return true;
+            }
+            spin_loop();
+        }
+        false
     }
 
     /// Sleeps until there are entries that the seat has not seen. It may return before that, so a caller that waits for something looks

@@ -1,24 +1,19 @@
 -- What a worker's deeds say that lanes and inlets did, one after another.
-use Rattle.std.proofs.Common.{◌≡◌, ℕ, Bool, true, false, List, [], ◌∷◌, ◌++◌, Option, Some, None, refl, sym, ap, subst, ◌∙◌, append-nil, append_assoc}
+use Rattle.std.proofs.Common.{◌≡◌, ℕ, true, false, List, [], ◌∷◌, ◌++◌, Option, Some, None, refl, sym, ap, subst, ◌∙◌, append-nil}
 use Rattle.std.specs.List.{AllByRecursion}
 use Rattle.std.proofs.lemmas.Grind.{flat_map-append}
 use Rattle.eip_exchange.specs.declared.birth.Origin.{Origin}
 use Rattle.eip_exchange.specs.declared.birth.Origin.TheVariants as from
-use Rattle.eip_exchange.specs.declared.end.End.{End}
-use Rattle.eip_exchange.specs.declared.message.Message.{Message}
 use Rattle.eip_frames.specs.Fits.{is_outside}
 use Rattle.eip_frames.specs.declared.answer.Answer.{Answer as Reply}
 use Rattle.eip_frames.specs.declared.request.Request.{Request}
 use Rattle.eip_frames.specs.declared.request.Request.TheVariants as request
 use Rattle.eip_ledger.specs.declared.entry.Kind.{Kind}
 use Rattle.eip_ledger.specs.declared.entry.Kind.TheVariants.{Accept, Refuse, SourceEnd, SourceFault}
-use Rattle.eip_endpoint.specs.Inlets.{InletAct, InletView, InletsGrew}
-use Rattle.eip_endpoint.specs.Lanes.{LaneView, LanesGrew}
-use Rattle.eip_endpoint.specs.Outside.{Doors, Answered, calls, calls_for, commits, commits_for}
+use Rattle.eip_endpoint.specs.Inlets.{InletView, InletsGrew}
+use Rattle.eip_endpoint.specs.Outside.{Doors, calls, calls_for, commits, commits_for}
 use Rattle.eip_endpoint.proofs.InletLaws.{InletsGrew-none, InletsGrew-trans}
-use Rattle.eip_endpoint.proofs.LaneLaws.{LanesGrew-none, LanesGrew-trans}
 use Rattle.eip_endpoint.proofs.OutsideLaws.{calls-append, commits-append, commits-give, InletsGrew-mix}
-use Rattle.eip_history.specs.Own.{Past}
 use Rattle.eip_owners.specs.Acts.{pulls, pulls_in}
 use Rattle.eip_owners.proofs.Pulled.{pulls-none, pulls-more, pulls-append, pulls-tell}
 use Rattle.eip_processor.specs.Registered.{RegistryView}

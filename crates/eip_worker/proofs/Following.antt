@@ -1,18 +1,16 @@
 -- How what a worker does follows one another, and what one look with its call adds.
-use Rattle.std.proofs.Common.{◌≡◌, ℕ, false, List, [], ◌∷◌, ◌++◌, Option, Some, None, Ok, Err, refl, sym, ap, subst, ◌∙◌, append-nil, append_assoc}
-use Rattle.std.specs.List.{AllByRecursion, slice_get}
+use Rattle.std.proofs.Common.{◌≡◌, ℕ, false, List, [], ◌∷◌, ◌++◌, Ok, refl, sym, ap, subst, ◌∙◌, append-nil, append_assoc}
+use Rattle.std.specs.List.{AllByRecursion}
 use Rattle.eip_exchange.specs.declared.birth.Origin.{Origin}
-use Rattle.eip_route.specs.declared.route.Route.{Route}
 use Rattle.eip_route.specs.declared.route.RouteSet.{RouteSet}
 use Rattle.eip_ledger.specs.declared.entry.Kind.{Kind}
 use Rattle.eip_ledger.specs.declared.entry.Kind.TheVariants.{Pull, Take, Starve, Accept, Refuse, SourceEnd, SourceFault, Answer}
 use Rattle.eip_endpoint.specs.Inlets.{Act, InletAct, InletView, InletsGrew, inlet_names}
 use Rattle.eip_endpoint.specs.Lanes.{LaneCall, LaneView, LanesGrew, lane_names}
 use Rattle.eip_endpoint.specs.Outside.{Doors, calls, calls_for, commits_for, acts_of}
-use Rattle.eip_endpoint.proofs.InletLaws.{InletsGrew-none, InletsGrew-names}
+use Rattle.eip_endpoint.proofs.InletLaws.{InletsGrew-names}
 use Rattle.eip_endpoint.proofs.LaneLaws.{LanesGrew-none, LanesGrew-trans, LanesGrew-names}
 use Rattle.eip_owners.specs.Acts.{pulls_in}
-use Rattle.eip_owners.proofs.Pulled.{pulls-none}
 use Rattle.eip_books.specs.declared.ticket.Ticket.{Ticket}
 use Rattle.eip_processor.specs.Registered.{RegistryView}
 use Rattle.eip_core.specs.Doors.{doors_among, doors_of}
@@ -27,7 +25,7 @@ use Rattle.eip_shared.specs.declared.deed.Given.{Given}
 use Rattle.eip_shared.specs.declared.outcome.Outcome.{Outcome}
 use Rattle.eip_shared.specs.declared.outcome.Outcome.TheVariants.{Settled, GivenUp, Accepted, Refused, Ended, Faulted}
 use Rattle.eip_worker.specs.Calls.{Calls, Came, Pulls}
-use Rattle.eip_worker.specs.Serves.{IsEquipped, AreTheirDeeds, Serves, KeepsSeat, IsReady, Served, own_acts}
+use Rattle.eip_worker.specs.Serves.{Serves, KeepsSeat, IsReady, Served, own_acts}
 use Rattle.eip_worker.proofs.Done.{calls-both, acts-follow, theirs-both, silent-acts, given-calls, given-acts, inner-calls, inner-acts, inner-theirs}
 
 -- ---- doors

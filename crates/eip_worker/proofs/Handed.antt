@@ -1,29 +1,24 @@
 -- What an exchange in a worker's hand asks, the worker's own lanes and inlets, or the registry, can be asked for it.
-use Rattle.std.proofs.Common.{◌≡◌, ℕ, true, false, List, Option, Some, None, refl, sym, ap, subst, ◌∙◌}
-use Rattle.std.specs.List.{slice_get}
-use Rattle.std.specs.Option.{IsSome}
+use Rattle.std.proofs.Common.{◌≡◌, ℕ, true, false, List, refl, subst}
 use Rattle.eip_exchange.specs.declared.birth.Birth.{Birth}
 use Rattle.eip_exchange.specs.declared.birth.Origin.{Origin}
 use Rattle.eip_exchange.specs.declared.birth.Origin.TheVariants as origin
 use Rattle.eip_frames.specs.Fits.{is_outside}
-use Rattle.eip_frames.specs.Targets.{lane_of}
 use Rattle.eip_frames.specs.declared.request.Request.{Request}
 use Rattle.eip_frames.specs.declared.request.Request.TheVariants as request
 use Rattle.eip_route.specs.Goals.{is_among}
 use Rattle.eip_route.specs.declared.route.RouteSet.{RouteSet}
 use Rattle.eip_endpoint.specs.Inlets.{InletView, inlet_names}
-use Rattle.eip_endpoint.specs.Lanes.{LaneView, first_named, lane_names}
-use Rattle.eip_history.specs.Births.{Asked, asked}
+use Rattle.eip_endpoint.specs.Lanes.{LaneView}
+use Rattle.eip_history.specs.Births.{asked}
 use Rattle.eip_history.specs.Own.{Past}
-use Rattle.eip_history.specs.Owner.{owner, outlet_for, IsOwner}
-use Rattle.eip_history.specs.Rules.{IsSource}
+use Rattle.eip_history.specs.Owner.{outlet_for, IsOwner}
 use Rattle.eip_plan.specs.Plan.{plan_of}
-use Rattle.eip_outlets.specs.Doors.{inlet_at}
 use Rattle.eip_outlets.specs.Outlets.{outlets}
 use Rattle.eip_processor.specs.Registered.{RegistryView}
 use Rattle.eip_core.specs.Doors.{CanRun, HasInlet}
 use Rattle.eip_core.specs.Served.{names_of}
-use Rattle.eip_core.specs.Outside.{IsAskable, HasSource}
+use Rattle.eip_core.specs.Outside.{IsAskable}
 use Rattle.eip_core.proofs.Askable.{asked-askable}
 use Rattle.eip_core.proofs.Handed.{runs-inlets}
 use Rattle.eip_shared.specs.Shared.{IsHeld, IsPulled}

@@ -29,7 +29,7 @@ use Rattle.eip_shared.specs.declared.outcome.Outcome.{Outcome}
 use Rattle.eip_shared.specs.declared.outcome.Outcome.TheVariants.{Settled, GivenUp, Accepted, Refused, Ended, Faulted}
 use Rattle.eip_worker.specs.Calls.{Calls, Pulls}
 use Rattle.eip_worker.specs.Serves.{IsReady, Served}
-use Rattle.eip_worker.proofs.Following.{keeps-refl, served-inner, served-silent}
+use Rattle.eip_worker.proofs.Following.{keeps-refl, served-inner}
 use Rattle.eip_worker.proofs.Handed.{held-askable, pulled-inlet}
 
 -- ---- the look
@@ -37,34 +37,29 @@ use Rattle.eip_worker.proofs.Handed.{held-askable, pulled-inlet}
 -- whatever it answers, lanes and inlets were asked for nothing so far
 pub served-look : {start : Beginning} {u v : View Deed Beginning} {l : List LaneView} {i : List InletView} {registry : RegistryView} (what : Look) → IsAtWork start v → Saw start u v what
     → Served start u v l l i i registry
-served-look look.Did works saw = served-inner works saw.1 saw.2
-served-look {u = u} {v = v} (look.Call t told) works saw = served-silent (Take t.number) works (subst (λ ds. Turned u v ds) saw.2.did saw.1) refl
-served-look {u = u} {v = v} (look.Pull t) works saw = served-silent (Pull t) works (subst (λ ds. Turned u v ds) saw.2.0 saw.1) refl
-served-look {u = u} {v = v} look.Nothing works saw = served-inner works (subst (λ ds. Turned u v ds) saw.2 saw.1) tt
-served-look {u = u} {v = v} look.Stopped works saw = served-inner works (subst (λ ds. Turned u v ds) saw.2.0 saw.1) tt
-served-look {u = u} {v = v} look.NoMemory works saw = served-inner works (subst (λ ds. Turned u v ds) saw.2 saw.1) tt
+served-look what works saw = served-inner works saw.1 saw.2
 
 module _ (start : Beginning) (v : View Deed Beginning) where
   -- ---- a call
 
   -- the exchange of a ticket was taken in hand
-  abbrev pub IsTaken : Ticket → Option (ℕ × List ℕ) → List Deed → Type 0
-  IsTaken t told ds = Took (plan_of start.set) (outlets start.set) start.workers (past_seen start v) v.number t.worker t.number t.request told ds
+  abbrev pub IsTaken : Ticket → Option (ℕ × List ℕ) → Type 0
+  IsTaken t told = Took (plan_of start.set) (outlets start.set) start.workers (past_seen start v) v.number t.worker t.number t.request told
 
-  pub call-askable : (sources : RouteSet) (l : List LaneView) (i : List InletView) (registry : RegistryView) (t : Ticket) (told : Option (ℕ × List ℕ)) (ds : List Deed)
-      → IsReady start v sources l i registry → (took : IsTaken t told ds) → IsAskable sources (names_of l i registry) took.from t.request
-  call-askable sources l i registry t told ds ready took =
+  pub call-askable : (sources : RouteSet) (l : List LaneView) (i : List InletView) (registry : RegistryView) (t : Ticket) (told : Option (ℕ × List ℕ))
+      → IsReady start v sources l i registry → (took : IsTaken t told) → IsAskable sources (names_of l i registry) took.from t.request
+  call-askable sources l i registry t told ready took =
       held-askable start.set sources start.workers v.number t.number (past_seen start v) l i registry took.from t.request ready.routes ready.equipped took.held took.outside
 
-  pub call-known : (sources : RouteSet) (l m : List LaneView) (i j : List InletView) (registry : RegistryView) (t : Ticket) (told : Option (ℕ × List ℕ)) (ds : List Deed) (out : Outcome)
-      (took : IsTaken t told ds) → Calls sources took.from t out l m i j registry → Knows start v took.from out
-  call-known sources l m i j registry t told ds (Settled x a) took called =
+  pub call-known : (sources : RouteSet) (l m : List LaneView) (i j : List InletView) (registry : RegistryView) (t : Ticket) (told : Option (ℕ × List ℕ)) (out : Outcome)
+      (took : IsTaken t told) → Calls sources took.from t out l m i j registry → Knows start v took.from out
+  call-known sources l m i j registry t told (Settled x a) took called =
       subst (λ (y : Ticket). Holds start v y.number took.from y.request × (y.worker ≡ v.number) × (fits y.request a ≡ true)) (sym called.0)
       (took.held, took.holder, called.1.fitting)
-  call-known sources l m i j registry t told ds (GivenUp x) took called =
+  call-known sources l m i j registry t told (GivenUp x) took called =
       subst (λ (y : Ticket). (place (plan_of start.set) (past_seen start v) y.number ≡ Some (InHand v.number)) × (y.worker ≡ v.number)) (sym called.0)
       (took.held.there, took.holder)
-  call-known sources l m i j registry t told ds _ took called = absurd called
+  call-known sources l m i j registry t told _ took called = absurd called
 
   -- ---- a pull
 

@@ -1,5 +1,5 @@
 -- A call that is told the source of an exchange, where one is to be told of an end, does what the exchange's own origin asks.
-use Rattle.std.proofs.Common.{◌≡◌, ℕ, Bool, true, false, List, [], Option, Some, None, Result, Ok, Err, refl, sym, ap, subst, ◌∙◌}
+use Rattle.std.proofs.Common.{◌≡◌, ℕ, Bool, true, false, List, [], Option, Result, Ok, Err, refl, sym, subst, ◌∙◌}
 use Rattle.eip_text.specs.declared.memory.NoMemory.{NoMemory}
 use Rattle.eip_exchange.specs.declared.birth.Origin.{Origin}
 use Rattle.eip_exchange.specs.declared.birth.Origin.TheVariants as origin

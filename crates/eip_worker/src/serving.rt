@@ -18,29 +18,47 @@ use std::sync::atomic::Ordering;
 use std::thread::{Parker, yield_now};
 use std::time::Duration;
 
-/// So many looks in a row that found nothing to do are made at once; behind them there are pauses.
-const LOOKS_AT_ONCE: u32 = 50;
+/// So often a worker that found nothing to do looks at once whether somebody waits for a call, before it sleeps.
+const GLANCES: u32 = 100;
 
-/// How long a worker pauses that finds nothing to do, in microseconds.
-const PAUSE: u64 = 100;
+/// How long it sleeps then, in microseconds, before it looks for that again.
+const PAUSE: u64 = 50;
+
+/// Behind so many sleeps it looks at the run in any case.
+const PAUSES: u32 = 8;
 
 /// Behind so many looks in a row that found nothing to do, a worker ends its round if another one is not at work: where that one could
 /// not be started, the caller does its work behind the others, which must not wait for it for ever.
-const LOOKS_WITHOUT_ALL: u32 = 2_000;
+const LOOKS_WITHOUT_ALL: u32 = 200;
 
 impl<R, G> Round<'_, R, G> {
     /// Whether a worker looks again, behind so many looks in a row that found nothing to do.
     fn goes_on(&self, fruitless: u32) -> bool {
         fruitless < LOOKS_WITHOUT_ALL || self.present.load(Ordering::SeqCst) >= self.workers
     }
-}
 
-/// Lets others work where the last looks found nothing to do: at first by yielding to them, and then by a pause.
-fn pause<W: Wait>(rt: &W, parker: &Parker, fruitless: u32) {
-    match fruitless {
-        0 => {}
-        1..=LOOKS_AT_ONCE => yield_now(),
-        _ => parker.park_timeout(rt, Duration::from_micros(PAUSE)),
+    /// Whether somebody waits for a call, now or soon. It takes no turn.
+    fn is_wanted(&self) -> bool {
+        for _ in 0..GLANCES {
+            if self.waiting.load(Ordering::SeqCst) > 0 {
+                return true;
+            }
+            yield_now();
+        }
+        false
+    }
+
+    /// Where the last looks found nothing to do, lets others work until somebody waits for a call, or for a short while.
+    fn rest<W: Wait>(&self, rt: &W, parker: &Parker, fruitless: u32) {
+        if fruitless == 0 {
+            return;
+        }
+        for _ in 0..PAUSES {
+            if self.is_wanted() {
+                return;
+            }
+            parker.park_timeout(rt, Duration::from_micros(PAUSE));
+        }
     }
 }
 
@@ -70,7 +88,7 @@ fn make_step<E: Endpoint, S: Source, R: Registered, G: Gate, W: Wait>(
         (inlet_views S.Source worker.old.inlets.items) (inlet_views S.Source worker.new.inlets.items) (R.view round.now.registry.now) }
     ensures same { (worker.new.seat ≡ worker.old.seat) × (worker.new.sources ≡ worker.old.sources) }
 {
-    let (seat, what) = look(rt, round.lock, seat);
+    let (seat, what) = look(rt, round.lock, seat, round.waiting);
     let outcome = match what {
         Look::Did => return (seat, Step::Did),
         Look::Nothing => return (seat, Step::Idle),
@@ -128,7 +146,7 @@ fn work<E: Endpoint, S: Source, R: Registered, G: Gate, W: Wait>(
         if !round.goes_on(fruitless) {
             return seat;
         }
-        pause(rt, &parker, fruitless);
+        round.rest(rt, &parker, fruitless);
     }
     unreachable!()
 }

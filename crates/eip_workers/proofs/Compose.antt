@@ -18,7 +18,6 @@ use Rattle.eip_history.specs.Stop.{stop_of}
 use Rattle.eip_ledger.specs.declared.place.Stop.{Stop}
 use Rattle.eip_books.specs.View.{BooksView, plan}
 use Rattle.eip_outlets.specs.Outlets.{outlets}
-use Rattle.eip_history.specs.Owner.{Outlets}
 use Rattle.eip_owners.specs.Acts.{inlet_acts, pulls, seen_answer, seen_answers}
 use Rattle.eip_owners.specs.Owners.{IsOwnedBehind, OwnersPull, entries_of}
 use Rattle.eip_owners.proofs.Owned.{owned-append, puller}

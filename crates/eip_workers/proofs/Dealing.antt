@@ -1,5 +1,5 @@
 -- What a crew may rely on of what was dealt out to it, and what comes of all that it did.
-use Rattle.std.proofs.Common.{◌≡◌, ◌≤◌, ℕ, zero, suc, ◌+◌, ◌<◌, List, [], ◌∷◌, ◌++◌, length, map, get_or, Vec, Global, All, ⊎_elim, refl, sym, ap, subst, ◌∙◌, arith}
+use Rattle.std.proofs.Common.{◌≡◌, ◌≤◌, ℕ, zero, suc, ◌+◌, ◌<◌, List, [], ◌++◌, length, map, Vec, Global, All, ⊎_elim, sym, ap, subst, ◌∙◌, arith}
 use Rattle.std.proofs.lemmas.Bool.{cases_lt}
 use Rattle.std.proofs.lemmas.List.{length-map}
 use Rattle.eip_route.specs.declared.route.RouteSet.{RouteSet}
@@ -30,7 +30,7 @@ use Rattle.eip_shared.specs.Deeds.{own_answers, own_entries}
 use Rattle.eip_shared.specs.Shared.{Part, SharedFacts, SharedView, before, beginning, beginning_of, log, since}
 use Rattle.eip_shared.specs.declared.beginning.Beginning.{Beginning}
 use Rattle.eip_worker.specs.Serves.{AreTheirDeeds, IsEquipped}
-use Rattle.eip_crew.specs.Team.{Did, MayWork, Together, items_at}
+use Rattle.eip_crew.specs.Team.{MayWork, Together, items_at}
 use Rattle.eip_workers.specs.Works.{Works}
 use Rattle.eip_workers.proofs.Answering.{all-theirs, given_behind, seen-behind, served-behind}
 

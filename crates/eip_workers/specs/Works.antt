@@ -1,5 +1,5 @@
 -- What workers did to a run together.
-use Rattle.std.specs.Prelude.{ℕ, ◌≡◌, List, [], ◌++◌}
+use Rattle.std.specs.Prelude.{◌≡◌, List, [], ◌++◌}
 use Rattle.eip_endpoint.specs.Lanes.{LaneView, LanesGrew}
 use Rattle.eip_endpoint.specs.Inlets.{InletView, InletsGrew}
 use Rattle.eip_endpoint.specs.Outside.{calls}

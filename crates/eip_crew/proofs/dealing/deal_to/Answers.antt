@@ -1,4 +1,4 @@
-use Rattle.std.proofs.Common.{◌≡◌, ◌∙◌, length, slice_index_or, sym, ap, subst, arith}
+use Rattle.std.proofs.Common.{◌≡◌, ◌∙◌, length, sym, ap, arith}
 use Rattle.eip_shares.specs.Shares.{share}
 use Rattle.eip_crew.specs.Team.{items_at}
 use Rattle.eip_crew.proofs.Lists.{list-at, whole}

@@ -1,5 +1,4 @@
-use Rattle.std.proofs.Common.{◌≡◌, ◌∙◌, ◌+◌, [], ◌∷◌, ◌++◌, length, map, Some, None, refl, sym, ap, subst, rules, arith, append-nil, length-append}
-use Rattle.std.specs.Prelude.{reverse}
+use Rattle.std.proofs.Common.{◌∙◌, [], ◌∷◌, map, refl, sym, ap, subst, rules, arith, append-nil}
 use Rattle.std.proofs.lemmas.List.{nil_from_length}
 use denote.Param.Send.{sendable}
 use Rattle.eip_turnstile.specs.Seats.{lock_id}

@@ -1,4 +1,4 @@
-use Rattle.std.proofs.Common.{◌≡◌, ◌≤◌, ℕ, ◌+◌, ◌++◌, List, length, map, vec_len, vec_capacity}
+use Rattle.std.proofs.Common.{◌≡◌, ◌≤◌, ◌+◌, ◌++◌, List, length, map, vec_len, vec_capacity}
 use Rattle.std.specs.Prelude.{reverse}
 use Rattle.eip_crew.specs.Crew.{own_of, Gathers}
 use Rattle.eip_crew.proofs.seats.unseat_workers.Given as goal

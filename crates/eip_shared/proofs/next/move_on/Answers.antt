@@ -7,7 +7,7 @@ use Rattle.eip_shared.specs.declared.looks.Look.TheVariants.{Did}
 use Rattle.eip_shared.proofs.next.move_on.Goals as goal
 
 pub returns-in_default-clause-looks : goal.returns-in_default-clause-looks
-returns-in_default-clause-looks c = ([], does-none c.args.hub.now c.tick.new.self c.args.worker c.in_default.ensures.err, refl)
+returns-in_default-clause-looks c = ([], does-none c.args.hub.now c.tick.new.self c.args.worker c.in_default.ensures.err, tt, tt)
 
 pub returns-then-ticked-clause-looks : goal.returns-then-ticked-clause-looks
 returns-then-ticked-clause-looks c =
@@ -24,12 +24,13 @@ returns-in-Ok-true-clause-looks c =
 pub returns-in-Ok-false-clause-looks : goal.returns-in-Ok-false-clause-looks
 returns-in-Ok-false-clause-looks c =
     let same = c.in-Ok-false.ensures.none c.in-Ok-false.field-0-test ∙ c.in-Ok.ensures.none c.if-ticked.false in
-    ([], does-none c.args.hub.now c.force.new.self c.args.worker (subst (λ v. AddsNone c.args.hub.now v) (sym same) (none-same c.args.hub.now)), refl)
+    ([], does-none c.args.hub.now c.force.new.self c.args.worker (subst (λ v. AddsNone c.args.hub.now v) (sym same) (none-same c.args.hub.now)), tt, tt)
 
 pub returns-in-Err-clause-looks : goal.returns-in-Err-clause-looks
 returns-in-Err-clause-looks c = (
   [],
   does-none c.args.hub.now c.force.new.self c.args.worker
       (subst (λ v. AddsNone v c.force.new.self) (c.in-Ok.ensures.none c.if-ticked.false) c.in-Err.ensures.err),
-  refl,
+  tt,
+  tt,
 )

@@ -1,42 +1,25 @@
-use Rattle.std.proofs.Common.{[], ◌∷◌, is_some, refl, sym, ap, subst, ◌∙◌}
-use Rattle.eip_ledger.specs.declared.entry.Kind.TheVariants.{Pull}
-use Rattle.eip_books.specs.View.{AddsNone}
-use Rattle.eip_shared.specs.Deeds.{silent}
-use Rattle.eip_shared.specs.declared.looks.Look.TheVariants as look
-use Rattle.eip_shared.proofs.Doing.{does-none, does-one}
-use Rattle.eip_shared.proofs.Looking.{looks-behind, none-same, pulled-now, looks-started, unlooked-ready}
+use Rattle.std.proofs.Common.{subst}
+use Rattle.eip_shared.specs.Looks.{LooksIn}
+use Rattle.eip_shared.specs.declared.looks.Look.TheVariants.{Did}
+use Rattle.eip_shared.proofs.Looking.{looks-nothing, looks-on}
 use Rattle.eip_shared.proofs.next.next.Goals as goal
 
-pub returns-then-is_some-clause-looks : goal.returns-then-is_some-clause-looks
-returns-then-is_some-clause-looks c = (
-  [],
-  does-none c.args.hub.now c.args.hub.now c.args.worker (none-same c.args.hub.now),
-  (refl, ap is_some (sym c.stop.ensures.stop) ∙ (sym c.is_some.ensures ∙ c.if-is_some.true)),
-)
+pub loop-init : goal.loop-init
+loop-init c = record { looks = looks-nothing c.args.hub.now c.args.worker }
 
-pub returns-then-is_err-clause-looks : goal.returns-then-is_err-clause-looks
-returns-then-is_err-clause-looks c = ([], does-none c.args.hub.now c.reserve.new.self c.args.worker c.reserve.ensures.none, refl)
+pub returns-in_default : goal.returns-in_default
+returns-in_default c = record {
+  looks = looks-on c.args.hub.now c.loop.hub c.step.new.hub c.args.worker c.step.result c.loop.invariant.looks c.step.ensures.looks;
+  legal = c.step.ensures.legal;
+}
 
-pub returns-then-not-below_limit-clause-looks : goal.returns-then-not-below_limit-clause-looks
-returns-then-not-below_limit-clause-looks c = ([], does-none c.args.hub.now c.reserve.new.self c.args.worker c.reserve.ensures.none, refl)
+pub loop-preserved : goal.loop-preserved
+loop-preserved c = record {
+  looks =
+      looks-on c.args.hub.now c.loop.hub c.step.new.hub c.args.worker Did c.loop.invariant.looks
+      (subst (λ what. LooksIn c.loop.hub c.step.new.hub c.args.worker what) c.in-Did.is c.step.ensures.looks);
+}
 
-pub run_inner-requires-clause-ready : goal.run_inner-requires-clause-ready
-run_inner-requires-clause-ready c =
-    unlooked-ready _ c.reserve.new.self.journal.past c.reserve.new.self.outside c.in-Some.number (sym c.unlooked.ensures ∙ c.in-Some.is)
-
-pub returns-in-Some-pull_owned-clause-looks : goal.returns-in-Some-pull_owned-clause-looks
-returns-in-Some-pull_owned-clause-looks c =
-    let pulled = c.in-Some-pull_owned.ensures in
-    let none = subst (λ v. AddsNone c.args.hub.now v) (sym c.in_default-take_call.ensures.none) c.reserve.ensures.none in
-    looks-behind c.args.hub.now c.take_call.new.hub c.pull_owned.new.self c.args.worker (look.Pull c.in-Some-pull_owned.source) none (
-      silent (Pull c.in-Some-pull_owned.source) ∷ [],
-      does-one c.take_call.new.hub c.pull_owned.new.self c.args.worker (Pull c.in-Some-pull_owned.source) pulled.enters.adds pulled.owner,
-      (refl, pulled-now c.take_call.new.hub c.pull_owned.new.self c.args.worker c.in-Some-pull_owned.source pulled.enters.adds pulled.may.0 pulled.owner),
-    )
-
-pub returns-then-is_some-2-clause-looks : goal.returns-then-is_some-2-clause-looks
-returns-then-is_some-2-clause-looks c =
-    let same = c.in_default-pull_owned.ensures.none ∙ c.in_default-take_call.ensures.none in
-    let none = subst (λ v. AddsNone c.args.hub.now v) (sym same) c.reserve.ensures.none in
-    looks-behind c.args.hub.now c.pull_owned.new.self c.start.new.self c.args.worker look.Did none
-    (looks-started c.pull_owned.new.self c.start.new.self c.args.worker c.start.result c.start.ensures.starts (sym c.is_some-2.ensures ∙ c.if-is_some-2.true))
+pub returns-clause-looks : goal.returns-clause-looks
+returns-clause-looks c =
+    looks-on c.args.hub.now c.loop.hub c.step-2.new.hub c.args.worker c.step-2.result c.loop.invariant.looks c.step-2.ensures.looks

@@ -16,8 +16,8 @@ returns-in-Ok-clause-some c =
     let asks = took.asked in (
       silent (Take ticket.number) ∷ [],
       does-one old new w (Take ticket.number) took.enters.adds tt,
+      ((refl, refl), tt),
       record {
-        did = refl;
         holder = took.worker;
         outside = took.of_outside;
         from = asks.0.birth.origin;
@@ -46,4 +46,5 @@ returns-in-Err-clause-some c =
           (does-one old mid w (Take ticket.number) took.enters.adds tt)
           (does-one mid new w (Starve ticket.number) (subst (λ n. Adds mid new n (Starve ticket.number)) took.worker c.give_up.ensures.adds) tt),
       ((refl, refl), ((refl, refl), tt)),
+      tt,
     )

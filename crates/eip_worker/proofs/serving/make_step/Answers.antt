@@ -11,7 +11,7 @@ use Rattle.eip_worker.proofs.serving.make_step.Goals.{in-NoMemory, in-Call, in-P
 pub call-requires-clause-outside : goal.call-requires-clause-outside
 call-requires-clause-outside g c κs within =
     let ready = c.requires.ready in
-    (rw c.in-Call.is at c.look-seat.ensures.saw ready.0 ready.1.works).2.outside
+    (rw c.in-Call.is at c.look-seat.ensures.saw ready.0 ready.1.works).3.outside
 
 pub call-requires-clause-askable : goal.call-requires-clause-askable
 call-requires-clause-askable g c κs within =
@@ -19,9 +19,9 @@ call-requires-clause-askable g c κs within =
     let ready = c.requires.ready.1 in
     let works = c.look-seat.ensures.works start ready.works in
     let saw = c.look-seat.ensures.saw start ready.works in
-    let took = (rw c.in-Call.is at saw).2 in
+    let took = (rw c.in-Call.is at saw).3 in
     let now = ready-on ready (served-look c.look-seat.result.1 works saw) in
-    (took.from, took.told, call-askable start (knows c.look-seat.result.0) _ _ _ _ c.in-Call.ticket c.in-Call.told _ now took)
+    (took.from, took.told, call-askable start (knows c.look-seat.result.0) _ _ _ _ c.in-Call.ticket c.in-Call.told now took)
 
 pub pull-outcome-requires-after_bounds : goal.pull-outcome-requires-after_bounds
 pull-outcome-requires-after_bounds g c κs within =
@@ -29,9 +29,9 @@ pull-outcome-requires-after_bounds g c κs within =
     let ready = c.requires.ready.1 in
     let works = c.look-seat.ensures.works start ready.works in
     let saw = c.look-seat.ensures.saw start ready.works in
-    let pulled = (rw c.in-Pull.is at saw).2 in
+    let pulled = (rw c.in-Pull.is at saw).3 in
     let now = ready-on ready (served-look c.look-seat.result.1 works saw) in
-    pull-inlet start (knows c.look-seat.result.0) _ _ _ _ _ now pulled.1
+    pull-inlet start (knows c.look-seat.result.0) _ _ _ _ _ now pulled
 
 pub enter_outcome-requires-clause-may : goal.enter_outcome-requires-clause-may
 enter_outcome-requires-clause-may g c =
@@ -45,17 +45,17 @@ enter_outcome-requires-clause-may g c =
     elim c.match-what.branch [
       | in-NoMemory w ↦ let none = sym w.outcome-is ∙ c.in-Some.is in absurd (cc none)
       | in-Call w ↦
-          let took = (rw w.in-Call.is at saw).2 in
+          let took = (rw w.in-Call.is at saw).3 in
           let some = sym w.outcome-is ∙ c.in-Some.is in
           let is : w.call.result ≡ c.in-Some.outcome = cc some in
-          let called = rw is at w.call.ensures took.from took.told (call-askable start seat _ _ _ _ w.in-Call.ticket w.in-Call.told _ now took) in
-          let known = call-known start seat sources _ _ _ _ _ w.in-Call.ticket w.in-Call.told _ c.in-Some.outcome took called in
+          let called = rw is at w.call.ensures took.from took.told (call-askable start seat _ _ _ _ w.in-Call.ticket w.in-Call.told now took) in
+          let known = call-known start seat sources _ _ _ _ _ w.in-Call.ticket w.in-Call.told c.in-Some.outcome took called in
           (start, works, (took.from, known))
       | in-Pull w ↦
-          let pulled = (rw w.in-Pull.is at saw).2 in
+          let pulled = (rw w.in-Pull.is at saw).3 in
           let is = sym w.outcome-is ∙ c.in-Some.is in
           let came = rw is at w.pull-outcome.ensures.came in
-          (start, works, (Group 0, pull-known start seat sources _ _ (Group 0) w.in-Pull.source c.in-Some.outcome pulled.1 came))
+          (start, works, (Group 0, pull-known start seat sources _ _ (Group 0) w.in-Pull.source c.in-Some.outcome pulled came))
     ]
 
 pub returns-in-Did-clause-served : goal.returns-in-Did-clause-served
@@ -82,18 +82,18 @@ returns-in-Some-clause-served g c start ready =
     elim c.match-what.branch [
       | in-NoMemory w ↦ let none = sym w.outcome-is ∙ c.in-Some.is in absurd (cc none)
       | in-Call w ↦
-          let took = (rw w.in-Call.is at saw).2 in
+          let took = (rw w.in-Call.is at saw).3 in
           let some = sym w.outcome-is ∙ c.in-Some.is in
           let is : w.call.result ≡ c.in-Some.outcome = cc some in
-          let called = rw is at w.call.ensures took.from took.told (call-askable start seat _ _ _ _ w.in-Call.ticket w.in-Call.told _ now took) in
-          let known = call-known start seat sources _ _ _ _ _ w.in-Call.ticket w.in-Call.told _ c.in-Some.outcome took called in
+          let called = rw is at w.call.ensures took.from took.told (call-askable start seat _ _ _ _ w.in-Call.ticket w.in-Call.told now took) in
+          let known = call-known start seat sources _ _ _ _ _ w.in-Call.ticket w.in-Call.told c.in-Some.outcome took called in
           let turned = c.enter_outcome.ensures.turned start took.from works known in
           rw w.worker-is (served-trans looked (served-call sources took.from w.in-Call.ticket c.in-Some.outcome ready.routes entered called turned))
       | in-Pull w ↦
-          let pulled = (rw w.in-Pull.is at saw).2 in
+          let pulled = (rw w.in-Pull.is at saw).3 in
           let is = sym w.outcome-is ∙ c.in-Some.is in
           let came = rw is at w.pull-outcome.ensures.came in
-          let known = pull-known start seat sources _ _ (Group 0) w.in-Pull.source c.in-Some.outcome pulled.1 came in
+          let known = pull-known start seat sources _ _ (Group 0) w.in-Pull.source c.in-Some.outcome pulled came in
           let turned = c.enter_outcome.ensures.turned start (Group 0) works known in
           rw w.worker-is (served-trans looked (served-pull sources (Group 0) w.in-Pull.source c.in-Some.outcome ready.routes entered came turned))
     ]
