@@ -6,7 +6,8 @@ use Rattle.std.proofs.lemmas.List.Elements.{All-nil}
 use Rattle.eip_text.specs.Names.{is_name}
 use Rattle.eip_uri.specs.Ranges.{is_uri}
 use Rattle.eip_uri.specs.declared.uri.Uri.TheVariants as uri
-use Rattle.eip_route.specs.Faults.{set_fault, outer_numbers, step_numbers, too_nested}
+use Rattle.eip_route.specs.Faults.{set_fault, outer_numbers, too_nested}
+use Rattle.eip_route.specs.Nest.{step_numbers}
 use Rattle.eip_route.specs.Valid.{IsValid, HoldsBatches, are_steps, gathers_batch, is_batch_at, is_batch_block, is_route, places, splits_batch}
 use Rattle.eip_route.specs.declared.route.Block.{Block}
 use Rattle.eip_route.specs.declared.step.Step.{Step}

@@ -4,7 +4,7 @@ use Rattle.eip_exchange.specs.declared.setting.Strategy.TheVariants as strategy
 use Rattle.eip_strategy.specs.Adding.{added}
 use Rattle.eip_uri.specs.declared.uri.Uri.TheVariants as uri
 use Rattle.eip_route.specs.Plain.{plain_handler}
-use Rattle.eip_route.specs.Faults.{step_numbers}
+use Rattle.eip_route.specs.Nest.{step_numbers}
 use Rattle.eip_route.specs.declared.route.RouteSet.{RouteSet}
 use Rattle.eip_route.specs.declared.step.Check.TheVariants as check
 use Rattle.eip_route.specs.declared.step.Expr.TheVariants as expr

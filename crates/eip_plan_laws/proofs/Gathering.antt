@@ -11,7 +11,7 @@ use Rattle.eip_strategy.specs.Adding.{added}
 use Rattle.eip_strategy.specs.Batches.{added_packed, IsPackedOf}
 use Rattle.eip_strategy.specs.declared.fault.StrategyFault.{StrategyFault}
 use Rattle.eip_strategy.proofs.Packed.{batch_begins, batch_grows}
-use Rattle.eip_route.specs.Faults.{step_numbers}
+use Rattle.eip_route.specs.Nest.{step_numbers}
 use Rattle.eip_route.specs.Valid.{IsValid, is_step, are_steps, is_batching, is_batch_key, is_needed_between, is_batch_strategy, is_plain_fan, is_key, is_batch_block, is_batch_at, HoldsBatches}
 use Rattle.eip_route.specs.declared.route.Block.{Block}
 use Rattle.eip_route.specs.declared.route.Names.{Names}

@@ -5,11 +5,9 @@ use Rattle.std.proofs.lemmas.List.Sums.{AllPass-from_list_all}
 use Rattle.std.specs.List.{list_all}
 use Rattle.std.specs.Prelude.{bytes_eq, decimal, is_some, ◌&&◌}
 use Rattle.eip_text.specs.Names.{is_name, is_name_byte}
-use Rattle.eip_route.specs.Faults.{case_numbers, catch_numbers, last_number, step_numbers}
-use Rattle.eip_route.specs.Nest.{Frame, chooses, filters, splits, multicasts, aggregates, runs_once, tries, Catching, HasGroups, IsNamed, FrameNamed, NestedGroups, no_group, group, count, of_last, rest_of, past, cases_with, last_with, checks_of, catches_with, catchings_of, own_repository, repository_of, name_given, fill, held, flat_block, flat_groups}
+use Rattle.eip_route.specs.Nest.{Frame, chooses, filters, splits, multicasts, aggregates, runs_once, tries, Catching, HasGroups, IsNamed, FrameNamed, NestedGroups, no_group, group, count, of_last, rest_of, past, cases_with, last_with, checks_of, catches_with, catchings_of, own_repository, repository_of, name_given, fill, held, flat_block, flat_groups, case_numbers, catch_numbers, last_number, numbers_in, step_numbers}
 use Rattle.eip_route.specs.declared.step.Check.{Check}
 use Rattle.eip_route.specs.declared.step.Step.{Step}
-use Rattle.eip_route.specs.declared.step.Step.TheVariants as step
 
 -- ---- repositories
 
@@ -105,20 +103,9 @@ held_filled (runs_once e name skip eager remove) (n ∷ m ∷ ns) h g = absurd (
 
 -- ---- numbers
 
-abbrev pub numbers_in : Option (Frame × List ℕ) → List ℕ
-numbers_in None = []
-numbers_in (Some r) = r.1
-
 pub held_numbers : (s : Step) → step_numbers s ≡ numbers_in (held s)
 unfolding step_numbers
-held_numbers (step.Choice cases l) = refl
-held_numbers (step.Filter c b) = refl
-held_numbers (step.Split how fan b) = refl
-held_numbers (step.Multicast fan bs) = refl
-held_numbers (step.Aggregate a) = refl
-held_numbers (step.Idempotent e repository skip eager remove b) = refl
-held_numbers (step.Try b catches l) = refl
-held_numbers _ = refl
+held_numbers s = refl
 
 -- a step without blocks has no numbers
 pub leaf_numbers : (s : Step) → held s ≡ None → step_numbers s ≡ []

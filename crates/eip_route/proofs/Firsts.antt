@@ -2,7 +2,8 @@
 use Rattle.std.proofs.Common.{ℕ, zero, suc, ◌+◌, ◌-◌, ◌<◌, ◌≤◌, List, [], ◌∷◌, ◌++◌, drop, length, ◌≡◌, refl, sym, ap, ◌∙◌, arith, slice_get, slice_index_or}
 use Rattle.std.proofs.lemmas.Bool.{false≢true}
 use Rattle.std.specs.Prelude.{Option, Some, None, is_some, true, false}
-use Rattle.eip_route.specs.Faults.{or_else, first_some, step_numbers, steps_numbers, steps_of, too_nested}
+use Rattle.eip_route.specs.Faults.{or_else, first_some, steps_numbers, steps_of, too_nested}
+use Rattle.eip_route.specs.Nest.{step_numbers}
 use Rattle.eip_route.specs.declared.route.Block.{Block}
 use Rattle.eip_route.specs.declared.step.Step.{Step}
 

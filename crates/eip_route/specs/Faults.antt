@@ -3,6 +3,7 @@ use Rattle.std.specs.Prelude.{ℕ, zero, suc, Bool, true, false, ◌||◌, ◌&&
 use Rattle.eip_exchange.specs.declared.setting.Clause.{Clause}
 use Rattle.eip_uri.specs.declared.uri.Uri.{Uri}
 use Rattle.eip_uri.specs.declared.uri.Uri.TheVariants as uri
+use Rattle.eip_route.specs.Nest.{last_number, step_numbers}
 use Rattle.eip_route.specs.declared.fault.SetFault.{SetFault}
 use Rattle.eip_route.specs.declared.fault.SetFault.TheVariants.{TooManyRoutes, BadBlock, TooNested, SecondConsumer, DoubleRouteId, BothHandledAndContinued}
 use Rattle.eip_route.specs.declared.nesting.Wanted.{Wanted}
@@ -10,10 +11,7 @@ use Rattle.eip_route.specs.declared.nesting.Wanted.TheVariants as wanted
 use Rattle.eip_route.specs.declared.route.Block.{Block}
 use Rattle.eip_route.specs.declared.route.Route.{Route}
 use Rattle.eip_route.specs.declared.route.RouteSet.{RouteSet}
-use Rattle.eip_route.specs.declared.step.Catch.{Catch}
-use Rattle.eip_route.specs.declared.step.Check.{Check}
 use Rattle.eip_route.specs.declared.step.Step.{Step}
-use Rattle.eip_route.specs.declared.step.Step.TheVariants as step
 
 abbrev pub or_else : {A : Type 0} → Option A → Option A → Option A
 or_else None b = b
@@ -25,32 +23,6 @@ first_some f [] = None
 first_some f (n ∷ ns) = or_else (f n) (first_some f ns)
 
 -- ---- the numbers of the blocks that stand in something, in their order
-
-abbrev pub last_number : Option ℕ → List ℕ
-last_number None = []
-last_number (Some n) = n ∷ []
-
-abbrev pub case_numbers : List (Check × ℕ) → List ℕ
-case_numbers [] = []
-case_numbers (c ∷ cs) = c.1 ∷ case_numbers cs
-
-abbrev pub catch_numbers : List Catch → List ℕ
-catch_numbers [] = []
-catch_numbers (c ∷ cs) = c.block ∷ catch_numbers cs
-
--- the try block, those of its catches, and the last one
-abbrev pub try_numbers : ℕ → List Catch → Option ℕ → List ℕ
-try_numbers b catches finish = b ∷ (catch_numbers catches ++ last_number finish)
-
-unfoldable pub step_numbers : Step → List ℕ
-step_numbers (step.Choice cases otherwise) = case_numbers cases ++ last_number otherwise
-step_numbers (step.Filter check b) = b ∷ []
-step_numbers (step.Split how fan b) = b ∷ []
-step_numbers (step.Multicast fan bs) = bs
-step_numbers (step.Aggregate a) = a.block ∷ []
-step_numbers (step.Idempotent key repository skip eager remove b) = b ∷ []
-step_numbers (step.Try b catches finish) = try_numbers b catches finish
-step_numbers _ = []
 
 abbrev pub steps_numbers : List Step → List ℕ
 steps_numbers [] = []

@@ -10,7 +10,6 @@ use Rattle.eip_exchange.specs.declared.setting.Strategy.TheVariants as strategy
 use Rattle.eip_simple_read.specs.declared.tree.Predicate.{Predicate}
 use Rattle.eip_text.specs.Names.{is_name}
 use Rattle.eip_uri.specs.declared.uri.Uri.{Uri}
-use Rattle.eip_route.specs.Faults.{case_numbers, try_numbers, last_number}
 use Rattle.eip_route.specs.declared.route.Block.{Block}
 use Rattle.eip_route.specs.declared.route.Handler.{Handler}
 use Rattle.eip_route.specs.declared.route.Names.{Names}
@@ -205,6 +204,24 @@ fill (aggregates g) ns = step.Aggregate (with_block g (first_of ns))
 fill (runs_once e name skip eager remove) ns = step.Idempotent e (repository_of (first_of ns) name) skip eager remove (first_of ns)
 fill (tries cs l) ns = step.Try (first_of ns) (catches_with cs (rest_of ns)) (last_with l (past cs (rest_of ns)))
 
+-- the numbers of the blocks that stand in something, in their order
+
+abbrev pub last_number : Option ℕ → List ℕ
+last_number None = []
+last_number (Some n) = n ∷ []
+
+abbrev pub case_numbers : List (Check × ℕ) → List ℕ
+case_numbers [] = []
+case_numbers (c ∷ cs) = c.1 ∷ case_numbers cs
+
+abbrev pub catch_numbers : List Catch → List ℕ
+catch_numbers [] = []
+catch_numbers (c ∷ cs) = c.block ∷ catch_numbers cs
+
+-- the try block, those of its catches, and the last one
+abbrev pub try_numbers : ℕ → List Catch → Option ℕ → List ℕ
+try_numbers b catches finish = b ∷ (catch_numbers catches ++ last_number finish)
+
 -- and back: the frame of a step and the numbers of its blocks, where it holds blocks
 abbrev pub held : Step → Option (Frame × List ℕ)
 held (step.Choice cases l) = Some (chooses (checks_of cases) (is_some l), case_numbers cases ++ last_number l)
@@ -215,6 +232,14 @@ held (step.Aggregate a) = Some (aggregates (without_block a), a.block ∷ [])
 held (step.Idempotent e repository skip eager remove b) = Some (runs_once e (name_given b repository) skip eager remove, b ∷ [])
 held (step.Try b catches l) = Some (tries (catchings_of catches) (is_some l), try_numbers b catches l)
 held _ = None
+
+abbrev pub numbers_in : Option (Frame × List ℕ) → List ℕ
+numbers_in None = []
+numbers_in (Some r) = r.1
+
+-- the numbers of the blocks that stand in a step
+unfoldable pub step_numbers : Step → List ℕ
+step_numbers s = numbers_in (held s)
 
 -- ---- numbered: each with the blocks nested in it, in their order
 

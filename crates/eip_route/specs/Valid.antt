@@ -15,9 +15,9 @@ use Rattle.eip_uri.specs.Inlets.{inlet_of}
 use Rattle.eip_uri.specs.Ranges.{is_uri, is_between}
 use Rattle.eip_uri.specs.Sides.{is_consumer, is_producer}
 use Rattle.eip_uri.specs.declared.uri.Uri.{Uri}
-use Rattle.eip_route.specs.Faults.{set_fault, outer_numbers, step_numbers, steps_numbers, steps_of}
+use Rattle.eip_route.specs.Faults.{set_fault, outer_numbers, steps_numbers, steps_of}
 use Rattle.eip_route.specs.Goals.{is_among, lane_of}
-use Rattle.eip_route.specs.Nest.{own_repository}
+use Rattle.eip_route.specs.Nest.{own_repository, step_numbers}
 use Rattle.eip_route.specs.declared.route.Block.{Block}
 use Rattle.eip_route.specs.declared.route.Handler.{Handler}
 use Rattle.eip_route.specs.declared.route.Names.{Names}

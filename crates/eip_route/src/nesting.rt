@@ -2,6 +2,7 @@
 
 ghost use Rattle.std.specs.Prelude.{◌≡◌};
 ghost use Rattle.eip_route.specs.Faults as spec;
+ghost use Rattle.eip_route.specs.Nest as nest;
 
 use crate::route::{Block, Route, RouteSet};
 use crate::step::{Catch, Check, Step};
@@ -130,9 +131,9 @@ fn find_in_steps(blocks: &[Block], wanted: Wanted, steps: &[Step]) -> Option<u32
 }
 
 #[cycle(find)]
-#[tactic(auto, unfolding(crate::specs::Faults::step_numbers), using(crate::proofs::Firsts::first_some_append, crate::proofs::Firsts::first_some_one))]
+#[tactic(auto, unfolding(crate::specs::Nest::step_numbers), using(crate::proofs::Firsts::first_some_append, crate::proofs::Firsts::first_some_one))]
 fn find_in_step(blocks: &[Block], wanted: Wanted, step: &Step) -> Option<u32>
-    ensures { result ≡ spec.first_some (spec.found blocks.now wanted) (spec.step_numbers step.now) }
+    ensures { result ≡ spec.first_some (spec.found blocks.now wanted) (nest.step_numbers step.now) }
 {
     match step {
         Step::Choice { cases, otherwise } => match find_in_cases(blocks, wanted, cases.items()) {
@@ -165,7 +166,7 @@ fn find_in_try(
     catches: &[Catch],
     finish: Option<u32>,
 ) -> Option<u32>
-    ensures { result ≡ spec.first_some (spec.found blocks.now wanted) (spec.try_numbers block catches.now finish) }
+    ensures { result ≡ spec.first_some (spec.found blocks.now wanted) (nest.try_numbers block catches.now finish) }
 {
     match find(blocks, wanted, block) {
         Some(block) => Some(block),
@@ -178,7 +179,7 @@ fn find_in_try(
 
 #[cycle(find)]
 fn find_in_catches(blocks: &[Block], wanted: Wanted, catches: &[Catch]) -> Option<u32>
-    ensures { result ≡ spec.first_some (spec.found blocks.now wanted) (spec.catch_numbers catches.now) }
+    ensures { result ≡ spec.first_some (spec.found blocks.now wanted) (nest.catch_numbers catches.now) }
 {
     for catch in catches {
         let found = find(blocks, wanted, catch.block);
@@ -191,7 +192,7 @@ fn find_in_catches(blocks: &[Block], wanted: Wanted, catches: &[Catch]) -> Optio
 
 #[cycle(find)]
 fn find_in_cases(blocks: &[Block], wanted: Wanted, cases: &[(Check, u32)]) -> Option<u32>
-    ensures { result ≡ spec.first_some (spec.found blocks.now wanted) (spec.case_numbers cases.now) }
+    ensures { result ≡ spec.first_some (spec.found blocks.now wanted) (nest.case_numbers cases.now) }
 {
     for (_, block) in cases {
         let found = find(blocks, wanted, *block);
@@ -204,7 +205,7 @@ fn find_in_cases(blocks: &[Block], wanted: Wanted, cases: &[(Check, u32)]) -> Op
 
 #[cycle(find)]
 fn find_in_last(blocks: &[Block], wanted: Wanted, last: Option<u32>) -> Option<u32>
-    ensures { result ≡ spec.first_some (spec.found blocks.now wanted) (spec.last_number last) }
+    ensures { result ≡ spec.first_some (spec.found blocks.now wanted) (nest.last_number last) }
 {
     match last {
         Some(block) => find(blocks, wanted, block),

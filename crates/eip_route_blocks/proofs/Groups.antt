@@ -9,8 +9,7 @@ use Rattle.eip_route.specs.declared.step.Step.TheVariants as step
 use Rattle.eip_route.specs.Nest.{NestedSteps, NestedGroups, batch_groups, plain_fan, no_group, group, FlatStep, FlatGroups, flat_block, flat_step, flat_groups}
 use Rattle.eip_route_grammar.specs.declared.keys.Key.{Key}
 use Rattle.eip_route_grammar.specs.declared.keys.Key.TheVariants as key
-use Rattle.eip_route_values.specs.Nesting.{said, with_groups, with_numbers, followed, at_places, nest_at, nest_value}
-use Rattle.eip_route_values.specs.Places.{places}
+use Rattle.eip_route_values.specs.Nesting.{said, with_groups, with_numbers, followed, places, at_places, nest_at, nest_value}
 use Rattle.eip_route_values.specs.declared.places.Place.{Place}
 use Rattle.eip_route_blocks.proofs.Appended as appended
 
@@ -71,5 +70,3 @@ placed n m ns ms all_ns bs cs all_bs gs hs all e p q r s =
     e ∙ (ap (λ x. appended.with_groups ns bs x) (followed_flat n gs hs)
     ∙ (regrouped ns inner.numbers bs inner.blocks (flat_groups (n + length inner.blocks) hs)
     ∙ (λ i. appended.with_groups (numbers i) (blocks i) (flat_groups (at i) hs))))
-
-pub ruleset grouped = (followed_flat, flat_said, value_said)

@@ -1,4 +1,4 @@
-#![tactic(auto, using(eip_text::proofs::Levels::json_levels, crate::proofs::Groups::grouped, crate::proofs::Groups::batch_flat))]
+#![tactic(auto, using(eip_text::proofs::Levels::json_levels))]
 
 ghost use Rattle.std.specs.Prelude.{◌≡◌, [], ◌∷◌, IfOk};
 ghost use Rattle.eip_text.specs.Json.{json, items_json, members_json};
@@ -6,9 +6,8 @@ ghost use Rattle.eip_route.specs.Nest as nest;
 ghost use Rattle.eip_route_values.specs.Built.{IsStep, AreSteps, AreGroups};
 ghost use Rattle.eip_route_values.specs.Nesting as spec;
 ghost use Rattle.eip_route_values.specs.Parts as parts;
-ghost use Rattle.eip_route_values.specs.Places.{places};
 
-use crate::frames::step_of;
+use crate::frames::{places_of, step_of};
 use eip_exchange::How;
 use eip_route::{Block, Step};
 use eip_route_grammar::keys::Key;
@@ -175,10 +174,10 @@ fn build_object(
     members: &[(Text, Tree)],
 ) -> Result<BuiltStep, NoMemory>
     ensures { let ms = members_json members.now in
-        let step = spec.with_groups (spec.said key ms) (spec.at_places (spec.nest_at ms) (places key)) in
+        let step = spec.with_groups (spec.said key ms) (spec.at_places (spec.nest_at ms) (spec.places key)) in
         IfOk result (λ b. IsStep b (nest.flat_step n step)) }
 {
-    let BuiltGroups { numbers, blocks } = build_places(alloc, n, known, Place::of(key), members)?;
+    let BuiltGroups { numbers, blocks } = build_places(alloc, n, known, places_of(key), members)?;
     let step = step_of(alloc, known, key, members, numbers)?;
     Ok(BuiltStep { step, blocks })
 }
@@ -228,6 +227,7 @@ fn build_place(
 }
 
 /// The block of a split into the messages of a batch, and then that of the steps which each runs.
+#[tactic(auto, using(crate::proofs::Groups::batch_flat))]
 #[cycle(build)]
 fn build_batch(
     alloc: Global,

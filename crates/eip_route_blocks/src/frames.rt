@@ -16,11 +16,32 @@ use eip_route_values::leaves::{exceptions_at, flag_at, members_at};
 use eip_route_values::parts::{
     aggregate_in, batching_in, check_in, expr_in, fan_in, how_in, repository_in,
 };
-use eip_route_values::steps::{
-    log, nothing, process, recipients, remove_header, set_body, set_header, set_property, throw, to,
-};
+use eip_route_values::places::Place;
+use eip_route_values::steps::leaf_said;
 use eip_text::{NoMemory, Series, Text, Tree};
 use std::alloc::Global;
+
+/// The places of a kind of step, in the order in which their blocks are numbered; none for a step
+/// that holds no others (Camel manual, *YAML DSL*).
+pub fn places_of(step: Key) -> &'static [Place]
+    ensures { result.now ≡ spec.places step }
+{
+    match step {
+        Key::Choice => &[Place::Each(Key::When), Place::One(Key::Otherwise)],
+        Key::Filter => &[Place::Steps],
+        Key::Split => &[Place::Steps],
+        Key::Multicast => &[Place::Branches],
+        Key::Aggregate => &[Place::Steps],
+        Key::IdempotentConsumer => &[Place::Steps],
+        Key::DoTry => &[
+            Place::Steps,
+            Place::Each(Key::DoCatch),
+            Place::One(Key::DoFinally),
+        ],
+        Key::Resequence => &[Place::Batch],
+        _ => &[],
+    }
+}
 
 /// The first of these numbers, else 0.
 fn first_of(numbers: &[u32]) -> u32
@@ -327,15 +348,6 @@ pub fn step_of(
 {
     let block = first_of(numbers.as_slice());
     match step {
-        Key::SetBody => set_body(alloc, members),
-        Key::SetHeader => set_header(alloc, members),
-        Key::SetProperty => set_property(alloc, members),
-        Key::RemoveHeader => remove_header(alloc, members),
-        Key::To => to(alloc, members),
-        Key::Log => log(alloc, members),
-        Key::ThrowException => throw(alloc, members),
-        Key::Process => process(alloc, members),
-        Key::RecipientList => recipients(alloc, members),
         Key::Choice => choice(alloc, known, members, numbers.as_slice()),
         Key::Filter => filter(alloc, known, members, block),
         Key::Split => split(alloc, members, block),
@@ -344,6 +356,6 @@ pub fn step_of(
         Key::IdempotentConsumer => idempotent(alloc, members, block),
         Key::DoTry => try_step(alloc, known, members, numbers.as_slice()),
         Key::Resequence => Ok(Step::Aggregate(batching_in(alloc, block, members)?)),
-        _ => nothing(alloc),
+        _ => leaf_said(alloc, step, members),
     }
 }

@@ -2,10 +2,10 @@
 #![tactic(auto)]
 
 pub mod groups;
+pub mod members;
 pub mod object;
-pub mod parts;
 pub mod steps;
 
 pub use groups::Groups;
+pub use members::{put_policy, words};
 pub use object::{Object, alone, word};
-pub use parts::{put_policy, words};

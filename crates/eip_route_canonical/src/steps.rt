@@ -1,21 +1,20 @@
 #![tactic(auto, using(crate::proofs::Objects::trees))]
 
-ghost use Rattle.std.specs.Prelude.{◌≡◌, ◌++◌, Bool, IfOk, OnOk, codes};
+ghost use Rattle.std.specs.Prelude.{◌≡◌, ◌++◌, IfOk, OnOk, codes};
 ghost use Rattle.std.specs.Option.{option_map};
 ghost use Rattle.eip_text.specs.Json.{json, members_of};
 ghost use Rattle.eip_uri.specs.Printed.{printed};
-ghost use Rattle.eip_route.specs.Faults.{case_numbers, catch_numbers, last_number, step_numbers};
-ghost use Rattle.eip_route.specs.Nest.{aggregates, catchings_of, chooses, checks_of, name_given, past, rest_of, tries, without_block};
+ghost use Rattle.eip_route.specs.Nest.{aggregates, catchings_of, chooses, checks_of, name_given, past, tries, without_block, case_numbers, catch_numbers, last_number, step_numbers};
 ghost use Rattle.eip_route_canonical.specs.Canonical as spec;
 ghost use Rattle.eip_route_canonical.specs.Trees as trees;
 
 use crate::groups::Groups;
-use crate::object::{Object, alone, word};
-use crate::parts::{
+use crate::members::{
     expr_tree, put_batch_config, put_check, put_constant, put_count, put_delimiter,
     put_group_strategy, put_json_path, put_named, put_order, put_predicate, put_simple,
     put_strategy, put_token, words,
 };
+use crate::object::{Object, alone, word};
 use eip_exchange::{How, Key, Strategy};
 use eip_route::{Aggregate, Catch, Check, Expr, Fan, Step, own_repository};
 use eip_simple_read::{Template, print_template};
@@ -464,7 +463,7 @@ fn push_last(numbers: &mut Vec<u32>, last: Option<u32>) -> Result<(), NoMemory>
 }
 
 /// The numbers of a step's blocks, in the order of its groups.
-#[tactic(auto, unfolding(eip_route::specs::Faults::step_numbers))]
+#[tactic(auto, unfolding(eip_route::specs::Nest::step_numbers))]
 pub fn block_numbers(alloc: Global, step: &Step) -> Result<Vec<u32>, NoMemory>
     ensures { IfOk result (λ ns. ns.items ≡ step_numbers step.now) }
 {

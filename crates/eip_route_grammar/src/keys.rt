@@ -1,4 +1,5 @@
-ghost use Rattle.std.specs.Prelude.{◌≡◌, bytes_eq};
+ghost use Rattle.std.specs.Prelude.{◌≡◌, ◌∷◌, ℕ, List, false, bytes_eq};
+ghost use Rattle.std.specs.Option.{option_map_or};
 ghost use Rattle.eip_route_grammar.specs.Keys.{spelled, dashed, is_spelled};
 
 /// A word that an object of a route file may have as a key, by the names of Camel's YAML DSL.
@@ -164,94 +165,54 @@ impl Key {
         }
     }
 
-    /// The key in kebab-case: each upper case letter as a dash and its lower case.
-    #[tactic(auto, unfolding(crate::specs::Keys::spelled, crate::specs::Keys::dashed))]
-    fn dash(self) -> &'static str
-        ensures { result.now ≡ dashed (spelled self) }
-    {
-        match self {
-            Key::Route => "route",
-            Key::From => "from",
-            Key::ErrorHandler => "error-handler",
-            Key::OnException => "on-exception",
-            Key::Id => "id",
-            Key::Description => "description",
-            Key::Uri => "uri",
-            Key::Parameters => "parameters",
-            Key::Steps => "steps",
-            Key::Name => "name",
-            Key::Expression => "expression",
-            Key::DeadLetterChannel => "dead-letter-channel",
-            Key::DefaultErrorHandler => "default-error-handler",
-            Key::DeadLetterUri => "dead-letter-uri",
-            Key::RedeliveryPolicy => "redelivery-policy",
-            Key::MaximumRedeliveries => "maximum-redeliveries",
-            Key::RedeliveryDelay => "redelivery-delay",
-            Key::BackOffMultiplier => "back-off-multiplier",
-            Key::UseExponentialBackOff => "use-exponential-back-off",
-            Key::MaximumRedeliveryDelay => "maximum-redelivery-delay",
-            Key::Exception => "exception",
-            Key::Handled => "handled",
-            Key::Continued => "continued",
-            Key::SetBody => "set-body",
-            Key::SetHeader => "set-header",
-            Key::SetProperty => "set-property",
-            Key::RemoveHeader => "remove-header",
-            Key::To => "to",
-            Key::Log => "log",
-            Key::ThrowException => "throw-exception",
-            Key::Process => "process",
-            Key::Choice => "choice",
-            Key::Filter => "filter",
-            Key::Split => "split",
-            Key::Multicast => "multicast",
-            Key::RecipientList => "recipient-list",
-            Key::Aggregate => "aggregate",
-            Key::IdempotentConsumer => "idempotent-consumer",
-            Key::Simple => "simple",
-            Key::Constant => "constant",
-            Key::Header => "header",
-            Key::ExchangeProperty => "exchange-property",
-            Key::Ref => "ref",
-            Key::Tokenize => "tokenize",
-            Key::Token => "token",
-            Key::Jsonpath => "jsonpath",
-            Key::Message => "message",
-            Key::LogName => "log-name",
-            Key::LoggingLevel => "logging-level",
-            Key::ExceptionType => "exception-type",
-            Key::When => "when",
-            Key::Otherwise => "otherwise",
-            Key::AggregationStrategy => "aggregation-strategy",
-            Key::ParallelProcessing => "parallel-processing",
-            Key::StopOnException => "stop-on-exception",
-            Key::ShareUnitOfWork => "share-unit-of-work",
-            Key::Delimiter => "delimiter",
-            Key::CorrelationExpression => "correlation-expression",
-            Key::CompletionSize => "completion-size",
-            Key::CompletionTimeout => "completion-timeout",
-            Key::CompletionPredicate => "completion-predicate",
-            Key::ForceCompletionOnStop => "force-completion-on-stop",
-            Key::IdempotentRepository => "idempotent-repository",
-            Key::Eager => "eager",
-            Key::SkipDuplicate => "skip-duplicate",
-            Key::RemoveOnFailure => "remove-on-failure",
-            Key::DoTry => "do-try",
-            Key::DoCatch => "do-catch",
-            Key::DoFinally => "do-finally",
-            Key::OnWhen => "on-when",
-            Key::Resequence => "resequence",
-            Key::BatchConfig => "batch-config",
-            Key::BatchSize => "batch-size",
-            Key::BatchTimeout => "batch-timeout",
-        }
-    }
-
-    /// Whether the text is one of the key's two spellings.
+    /// Whether the text is one of the key's two spellings: camelCase, or kebab-case, in which an upper case letter is a
+    /// dash and its lower case.
     #[tactic(auto, unfolding(crate::specs::Keys::is_spelled))]
     pub fn is(self, text: &str) -> bool
         ensures { result ≡ is_spelled self text.now }
     {
-        text == self.spell() || text == self.dash()
+        text == self.spell() || is_dashed(self.spell(), text)
+    }
+}
+
+/// Whether a text is a word of camelCase in kebab-case.
+#[tactic(auto, unfolding(crate::specs::Keys::dashed))]
+fn is_dashed(word: &str, text: &str) -> bool
+    ensures { result ≡ bytes_eq text.now (dashed word.now) }
+{
+    let mut rest = text.as_bytes();
+    for letter in word.as_bytes() {
+        match behind_dashed(*letter, rest) {
+            Some(behind) => rest = behind,
+            None => return false,
+        }
+    }
+    rest.is_empty()
+}
+
+/// What stands behind a letter of camelCase in kebab-case.
+#[tactic(auto, unfolding(crate::specs::Keys::dashed))]
+fn behind_dashed(letter: u8, text: &[u8]) -> Option<&[u8]>
+    ensures { (word : List ℕ) → bytes_eq text.now (dashed (letter ∷ word))
+        ≡ option_map_or (λ rest. bytes_eq rest.now (dashed word)) result false }
+{
+    if letter.is_ascii_uppercase() {
+        match behind(b'-', text) {
+            Some(rest) => behind(letter.to_ascii_lowercase(), rest),
+            None => None,
+        }
+    } else {
+        behind(letter, text)
+    }
+}
+
+/// What stands behind a byte that comes first.
+fn behind(byte: u8, text: &[u8]) -> Option<&[u8]>
+    ensures { (bytes : List ℕ) → bytes_eq text.now (byte ∷ bytes)
+        ≡ option_map_or (λ rest. bytes_eq rest.now bytes) result false }
+{
+    match text {
+        [] => None,
+        [first, rest @ ..] => { if *first == byte { Some(rest) } else { None } }
     }
 }

@@ -3,9 +3,8 @@ use Rattle.std.proofs.Common.{◌≡◌, ℕ, zero, suc, ◌+◌, ◌<◌, ◌�
 use Rattle.std.specs.Prelude.{Option, Some, None, true, false}
 use Rattle.std.proofs.Math.Path.{fun_ext}
 use Rattle.std.proofs.lemmas.Bool.{cases_lt, lt-ltb, le-ltb, eq-eqb, ne_eqb}
-use Rattle.eip_route.proofs.Filled.{held_numbers, numbers_in}
-use Rattle.eip_route.specs.Faults.{step_numbers}
-use Rattle.eip_route.specs.Nest.{Frame, NestedSteps, none, held, un_block, un_groups, un_held, un_steps, un_last, un_clauses, un_routes}
+use Rattle.eip_route.proofs.Filled.{held_numbers}
+use Rattle.eip_route.specs.Nest.{Frame, NestedSteps, none, held, un_block, un_groups, un_held, un_steps, un_last, un_clauses, un_routes, step_numbers, numbers_in}
 use Rattle.eip_exchange.specs.declared.setting.Clause.{Clause}
 use Rattle.eip_route.specs.declared.route.Block.{Block}
 use Rattle.eip_route.specs.declared.route.Route.{Route}

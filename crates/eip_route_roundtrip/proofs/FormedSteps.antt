@@ -2,7 +2,7 @@
 use Rattle.std.proofs.Common.{◌≡◌, ℕ, suc, ◌+◌, List, [], ◌∷◌, All, arith}
 use Rattle.eip_route.specs.Nest.{NestedStep, NestedSteps, NestedGroups, NestedLast, NestedClause, NestedRoute, NestedSet, leaf, holds, none, more, no_group, group, no_last, last, flat_set, un_set}
 use Rattle.eip_route.specs.declared.route.Names.{Names}
-use Rattle.eip_route_validity.proofs.Frames.{bare_leaf, frame_named}
+use Rattle.eip_route_validity.proofs.GoodSteps.{bare_leaf, frame_named}
 use Rattle.eip_route_validity.specs.Fit.{StepsFit, StepFits, GroupsFit, LastFits, ClauseFits, RouteFits, SetFits}
 use Rattle.eip_route_print.specs.Formed.{AreFormed, StepFormed, GroupsFormed, LastFormed, ClausesFormed, RoutesFormed, SetFormed}
 use Rattle.eip_route_print.proofs.Numbered.{back_set}

@@ -1,12 +1,12 @@
 -- Steps that hold blocks: what is printed of them has no fault and its keys in order.
-use Rattle.std.proofs.Common.{◌≡◌, ℕ, ◌+◌, ◌^◌, Bool, true, false, List, [], ◌∷◌, length, Option, Some, None, is_some, option_map, refl, sym, ap, subst, ◌∙◌, arith, ◌<◌, ◌||◌, cond, ◌++◌, suc, ◌-◌, ◌≤◌, codes}
-use Rattle.std.specs.Prelude.{unwrap_or, nat_le, is_none, not, ◌&&◌}
+use Rattle.std.proofs.Common.{◌≡◌, ℕ, ◌+◌, Bool, true, false, List, [], ◌∷◌, Option, Some, None, is_some, refl, sym, ap, subst, ◌∙◌, arith, ◌<◌, ◌||◌, cond, ◌++◌, suc, ◌-◌, ◌≤◌, codes}
+use Rattle.std.specs.Prelude.{nat_le, is_none, not, ◌&&◌}
 use Rattle.std.proofs.lemmas.Bool.{and_parts, lt-leb, false≢true}
 use Rattle.eip_text.specs.Json.{Json, items_of, Members, members_of, flag, word, list, Items}
 use Rattle.eip_exchange.specs.declared.setting.How.{How}
 use Rattle.eip_exchange.specs.declared.setting.Key as setting
 use Rattle.eip_exchange.specs.declared.setting.Strategy.{Strategy}
-use Rattle.eip_route.specs.Nest.{Gathering, Frame, chooses, filters, splits, multicasts, aggregates, runs_once, tries, Catching, NestedSteps, NestedGroups, holds, none, more, no_group, group, count, of_last, rest_of, past, plain_fan, batching, batch_groups}
+use Rattle.eip_route.specs.Nest.{Gathering, Frame, chooses, filters, splits, multicasts, aggregates, runs_once, tries, Catching, NestedSteps, NestedGroups, holds, none, more, no_group, group, rest_of, past, plain_fan, batching, batch_groups}
 use Rattle.eip_route.specs.Valid.{is_fan, is_given_name, is_completed, is_token, is_filled, is_split, is_batch_strategy, is_key, is_plain_fan}
 use Rattle.eip_uri.specs.Ranges.{is_between}
 use Rattle.eip_route.specs.declared.route.Names.{Names}
@@ -17,15 +17,10 @@ use Rattle.eip_route_grammar.specs.Keys.{is_spelled, spelled, dashed}
 use Rattle.eip_route_grammar.specs.Objects.{value_at, has_key, plainly, completes}
 use Rattle.eip_route_grammar.specs.Table.{rows, rule_of, shape_of, list_of as listed}
 use Rattle.eip_route_validity.specs.Fit.{ExprFits, CheckFits, MayCheckFit, ChecksFit, CatchesFit, GatheringFits, AnyGatheringFits, is_parts, gathers, FrameFits, AreBranches, FrameHolds, MayPredicateFit, HasGroup, GroupsFit}
-use Rattle.eip_route_values.specs.Leaves.{texts_of, flag_given, flag_at, count_of, small_count_at, count_at, members_given}
-use Rattle.eip_route_values.specs.Nesting.{nest_list, nest_steps, nest_step, nest_in, nest_inner, nest_each, nest_branches, nest_branch_list, nest_branches_in, followed, case_check, checks_of, catching_of, catchings_of}
-use Rattle.eip_route_values.specs.Parts.{expr_in, expr_of, check_in as check_read, fan_in, how_given, gathering_in, strategy_given, completion_of, repository_given}
-use Rattle.eip_route_values.specs.Sets.{steps_given}
-use Rattle.eip_route_canonical.specs.Canonical.{Pairs, object_of, list_of, alone, expr_pairs, check_pairs, words, guarded_json, choice_json, nested_pairs, catch_json, try_json, split_json, splits_json, multicast_json, aggregate_json, resequence_json, idempotent_json, first_json, all_json, cases_json, catches_json, last_steps, frame_json, steps_json, step_json, groups_json}
+use Rattle.eip_route_values.specs.Nesting.{nest_steps, nest_step}
+use Rattle.eip_route_canonical.specs.Canonical.{Pairs, object_of, list_of, alone, check_pairs, words, guarded_json, choice_json, nested_pairs, catch_json, try_json, split_json, splits_json, multicast_json, aggregate_json, resequence_json, idempotent_json, first_json, all_json, cases_json, catches_json, last_steps, frame_json, steps_json, groups_json}
 use Rattle.eip_route_roundtrip.proofs.Batches.{resequence_again, resequence_fine, resequence_good, batch_fine}
-use Rattle.eip_route_roundtrip.proofs.Nested.{steps_slot, branches_slot}
-use Rattle.eip_route_roundtrip.proofs.Objects.{set_value, unset_value, word_value, strategy_value, expr_puts, split_slots, split_puts, multicast_slots, multicast_puts, aggregate_slots, aggregate_puts, idempotent_slots, idempotent_puts, number_value, completion_value, nested_value, catches_value, when_value, choice_slots, choice_puts, catch_slots, catch_puts, try_slots, try_puts}
-use Rattle.eip_route_roundtrip.proofs.Parts.{words_again, predicate_again, unhashed_name, set_again, unset_again, number_again, group_again, fan_again, expr_slot, simple_again, plain_expr_again, completion_again, repository_again}
+use Rattle.eip_route_roundtrip.proofs.Objects.{set_value, unset_value, word_value, strategy_value, number_value, completion_value, nested_value, catches_value, when_value}
 use Rattle.eip_route_roundtrip.proofs.Slots.{Slot, filled, slot_at, value_filled, sure, key_value, put_one, ◌and◌}
 use Rattle.eip_simple_read.specs.Spelling.{predicate_text}
 use Rattle.eip_simple_read.specs.declared.tree.Predicate.{Predicate}
@@ -35,12 +30,12 @@ use Rattle.eip_route_grammar.specs.declared.table.Listed.{Listed}
 use Rattle.eip_route_grammar.specs.declared.table.Nests.TheVariants as nests
 use Rattle.eip_route_grammar.specs.declared.table.Kind.{Kind}
 use Rattle.eip_route_roundtrip.proofs.Fine.{Fine, MayBeFine, ItemsFine, SlotsFine, HasKeys, none_found, none_both, word_fine, object_fine, alone_fine, no_items_fine, item_fine}
-use Rattle.eip_route_roundtrip.proofs.FramesAgain.{other_gathering}
+use Rattle.eip_route_roundtrip.proofs.FramesAgain.{other_gathering, split_slots, split_puts, multicast_slots, multicast_puts, aggregate_slots, aggregate_puts, idempotent_slots, idempotent_puts, choice_slots, choice_puts, catch_slots, catch_puts, try_slots, try_puts}
 use Rattle.eip_route_roundtrip.proofs.Keyed.{keys_fine}
 use Rattle.eip_route_roundtrip.proofs.Values.{predicate_fine, filled_fine, repository_fine, stored_fine, flag_fine, set_fine, unset_fine, number_fine, strategy_fine, group_fine}
 use Rattle.eip_route_roundtrip.proofs.Ordered.{Good, deeper as higher, AllGood, no_good, more_good, list_good, both_good, Run, join, single, object_good, alone_good, set_in, unset_in, word_in}
 use Rattle.eip_route_roundtrip.proofs.OrderedParts.{constant_in, named_in, simple_in, expr_good, check_in, strategy_in, group_in, predicate_in, path_in, token_in, number_in, MayBeGood, nested_in, when_in, catches_in, words_good}
-use Rattle.eip_route_roundtrip.proofs.Leaves.{object_step, simple_fine, constant_fine, named_fine, value_fine}
+use Rattle.eip_route_roundtrip.proofs.Leaves.{simple_fine, constant_fine, named_fine, value_fine}
 use Rattle.eip_exchange.specs.declared.setting.How.TheVariants as how
 use Rattle.eip_exchange.specs.declared.setting.Strategy.TheVariants as strategy
 use Rattle.eip_route.specs.declared.step.Check.TheVariants as check

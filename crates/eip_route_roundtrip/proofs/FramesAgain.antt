@@ -1,53 +1,126 @@
 -- A step that holds blocks is read again as its frame, with what its groups are read as.
-use Rattle.std.proofs.Common.{◌≡◌, ℕ, ◌+◌, ◌^◌, Bool, true, false, List, [], ◌∷◌, length, Option, Some, None, is_some, option_map, refl, sym, ap, subst, ◌∙◌, arith, ◌<◌, ◌||◌, cond, ◌++◌, suc, ◌-◌, ◌≤◌, codes}
-use Rattle.std.specs.Prelude.{unwrap_or, nat_le, is_none, not, ◌&&◌}
-use Rattle.std.proofs.lemmas.Bool.{and_parts, lt-leb, false≢true}
-use Rattle.eip_text.specs.Json.{Json, items_of, Members, members_of, flag, word, list, Items}
+use Rattle.std.proofs.Common.{◌≡◌, ℕ, ◌+◌, ◌^◌, Bool, true, false, List, [], ◌∷◌, length, Option, Some, None, is_some, option_map, refl, ap, subst, ◌∙◌, arith, cond, ◌++◌, ◌-◌, codes}
+use Rattle.std.specs.Prelude.{unwrap_or}
+use Rattle.std.proofs.lemmas.Bool.{and_parts}
+use Rattle.eip_text.specs.Json.{Json, items_of, Members, members_of}
 use Rattle.eip_exchange.specs.declared.setting.How.{How}
 use Rattle.eip_exchange.specs.declared.setting.Key as setting
-use Rattle.eip_exchange.specs.declared.setting.Strategy.{Strategy}
-use Rattle.eip_route.specs.Nest.{Gathering, Frame, chooses, filters, splits, multicasts, aggregates, runs_once, tries, Catching, NestedSteps, NestedGroups, holds, none, more, no_group, group, count, of_last, rest_of, past, plain_fan, batching, batch_groups}
-use Rattle.eip_route.specs.Valid.{is_fan, is_given_name, is_completed, is_token, is_filled, is_split, is_batch_strategy, is_key, is_plain_fan}
-use Rattle.eip_uri.specs.Ranges.{is_between}
+use Rattle.eip_route.specs.Nest.{Gathering, Frame, chooses, filters, splits, multicasts, aggregates, runs_once, tries, Catching, NestedSteps, NestedGroups, holds, none, more, no_group, group, count, of_last, rest_of, past}
+use Rattle.eip_route.specs.Valid.{is_fan, is_given_name, is_token, is_filled, is_split, is_batch_strategy}
 use Rattle.eip_route.specs.declared.route.Names.{Names}
 use Rattle.eip_route.specs.declared.step.Check.{Check}
 use Rattle.eip_route.specs.declared.step.Expr.{Expr}
 use Rattle.eip_route.specs.declared.step.Fan.{Fan}
 use Rattle.eip_route_grammar.specs.Keys.{is_spelled, spelled, dashed}
-use Rattle.eip_route_grammar.specs.Objects.{value_at, has_key, plainly, completes}
-use Rattle.eip_route_grammar.specs.Table.{rows, rule_of, shape_of, list_of as listed}
-use Rattle.eip_route_validity.specs.Fit.{ExprFits, CheckFits, MayCheckFit, ChecksFit, CatchesFit, GatheringFits, AnyGatheringFits, is_parts, gathers, FrameFits, AreBranches, FrameHolds, MayPredicateFit, HasGroup, GroupsFit}
+use Rattle.eip_route_grammar.specs.Objects.{value_at}
+use Rattle.eip_route_grammar.specs.Table.{rows}
+use Rattle.eip_route_validity.specs.Fit.{ExprFits, CheckFits, MayCheckFit, ChecksFit, CatchesFit, GatheringFits, AnyGatheringFits, is_parts, gathers, AreBranches, FrameHolds}
 use Rattle.eip_route_values.specs.Leaves.{texts_of, flag_given, flag_at, count_of, small_count_at, count_at, members_given}
 use Rattle.eip_route_values.specs.Nesting.{nest_list, nest_steps, nest_step, nest_in, nest_inner, nest_each, nest_branches, nest_branch_list, nest_branches_in, followed, case_check, checks_of, catching_of, catchings_of}
 use Rattle.eip_route_values.specs.Parts.{expr_in, expr_of, check_in as check_read, fan_in, how_given, gathering_in, strategy_given, completion_of, repository_given}
 use Rattle.eip_route_values.specs.Sets.{steps_given}
-use Rattle.eip_route_canonical.specs.Canonical.{Pairs, object_of, list_of, alone, expr_pairs, check_pairs, words, guarded_json, choice_json, nested_pairs, catch_json, try_json, split_json, splits_json, multicast_json, aggregate_json, resequence_json, idempotent_json, first_json, all_json, cases_json, catches_json, last_steps, frame_json, steps_json, step_json, groups_json}
-use Rattle.eip_route_roundtrip.proofs.Batches.{resequence_again, resequence_fine, resequence_good, batch_fine}
+use Rattle.eip_route_canonical.specs.Canonical.{Pairs, object_of, list_of, alone, expr_pairs, check_pairs, words, guarded_json, choice_json, nested_pairs, catch_json, try_json, split_json, splits_json, multicast_json, aggregate_json, resequence_json, idempotent_json, first_json, all_json, cases_json, catches_json, last_steps, frame_json, steps_json, step_json, groups_json, one, where_set, where_unset, given_word, given_number, constant_pairs, named_pairs, simple_pairs, strategy_pairs, group_pairs, predicate_pairs, json_path, token_pairs, when_pairs, catches_pairs}
 use Rattle.eip_route_roundtrip.proofs.Nested.{steps_slot, branches_slot}
-use Rattle.eip_route_roundtrip.proofs.Objects.{set_value, unset_value, word_value, strategy_value, expr_puts, split_slots, split_puts, multicast_slots, multicast_puts, aggregate_slots, aggregate_puts, idempotent_slots, idempotent_puts, number_value, completion_value, nested_value, catches_value, when_value, choice_slots, choice_puts, catch_slots, catch_puts, try_slots, try_puts}
+use Rattle.eip_route_roundtrip.proofs.Objects.{set_value, unset_value, word_value, strategy_value, expr_puts, number_value, completion_value, nested_value, catches_value, when_value, constant_slots, group_value, may, must, named_slots, path_slots, put_catches, put_completion, put_constant, put_group, put_named, put_nested, put_number, put_path, put_set, put_simple, put_strategy, put_token, put_unset, put_when, put_word, simple_slots, token_slots}
 use Rattle.eip_route_roundtrip.proofs.Parts.{words_again, predicate_again, unhashed_name, set_again, unset_again, number_again, group_again, fan_again, expr_slot, simple_again, plain_expr_again, completion_again, repository_again}
-use Rattle.eip_route_roundtrip.proofs.Slots.{Slot, filled, slot_at, value_filled, sure, key_value, put_one, ◌and◌}
-use Rattle.eip_simple_read.specs.Spelling.{predicate_text}
-use Rattle.eip_simple_read.specs.declared.tree.Predicate.{Predicate}
-use Rattle.eip_route_faults.specs.Sites.{found, has_none, own_list, item_kind, deeper, sites_at, items_sites, first_fault}
-use Rattle.eip_route_grammar.specs.declared.keys.Key.{Key}
-use Rattle.eip_route_grammar.specs.declared.table.Listed.{Listed}
-use Rattle.eip_route_grammar.specs.declared.table.Nests.TheVariants as nests
-use Rattle.eip_route_grammar.specs.declared.table.Kind.{Kind}
-use Rattle.eip_route_roundtrip.proofs.Fine.{Fine, MayBeFine, ItemsFine, SlotsFine, HasKeys, none_found, none_both, word_fine, object_fine, alone_fine, no_items_fine, item_fine}
-use Rattle.eip_route_roundtrip.proofs.Keyed.{keys_fine}
-use Rattle.eip_route_roundtrip.proofs.Values.{predicate_fine, filled_fine, repository_fine, stored_fine, flag_fine, set_fine, unset_fine, number_fine, strategy_fine, group_fine}
-use Rattle.eip_route_roundtrip.proofs.Ordered.{Good, deeper as higher, AllGood, no_good, more_good, list_good, both_good, Run, join, single, object_good, alone_good, set_in, unset_in, word_in}
-use Rattle.eip_route_roundtrip.proofs.OrderedParts.{constant_in, named_in, simple_in, expr_good, check_in, strategy_in, group_in, predicate_in, path_in, token_in, number_in, MayBeGood, nested_in, when_in, catches_in, words_good}
-use Rattle.eip_route_roundtrip.proofs.Leaves.{object_step, simple_fine, constant_fine, named_fine, value_fine}
+use Rattle.eip_route_roundtrip.proofs.Slots.{Slot, filled, slot_at, value_filled, put_one, ◌and◌, Puts}
+use Rattle.eip_route_roundtrip.proofs.Leaves.{object_step}
 use Rattle.eip_exchange.specs.declared.setting.How.TheVariants as how
 use Rattle.eip_exchange.specs.declared.setting.Strategy.TheVariants as strategy
 use Rattle.eip_route.specs.declared.step.Check.TheVariants as check
 use Rattle.eip_route.specs.declared.step.Expr.TheVariants as expr
 use Rattle.eip_route_grammar.specs.declared.keys.Key.TheVariants as key
-use Rattle.eip_route_grammar.specs.declared.fault.Cause.TheVariants as cause
-use Rattle.eip_route_grammar.specs.declared.table.Kind.TheVariants as kind
-use Rattle.eip_route_grammar.specs.declared.table.Rule.TheVariants as rule
+
+-- ---- the slots of their objects
+
+abbrev pub choice_slots : Option Json → Json → List Slot
+choice_slots otherwise cases = may (codes "otherwise") (nested_value otherwise) ++ must (codes "when") cases
+
+pub choice_puts : (otherwise : Option Json) (cases : Json) → Puts (nested_pairs (codes "otherwise") otherwise ++ one (codes "when") cases) (choice_slots otherwise cases)
+choice_puts otherwise cases = put_nested otherwise and put_one
+
+abbrev pub split_slots : How → Fan → Json → List Slot
+split_slots h fan steps = may (codes "aggregationStrategy") (strategy_value fan.strategy)
+    ++ path_slots h
+    ++ may (codes "parallelProcessing") (set_value fan.parallel)
+    ++ may (codes "shareUnitOfWork") (set_value fan.share)
+    ++ must (codes "steps") steps
+    ++ may (codes "stopOnException") (set_value fan.stop)
+    ++ token_slots h
+
+pub split_puts : (h : How) (fan : Fan) (steps : Json) → Puts (strategy_pairs fan.strategy
+    ++ json_path h
+    ++ where_set (codes "parallelProcessing") fan.parallel
+    ++ where_set (codes "shareUnitOfWork") fan.share
+    ++ one (codes "steps") steps
+    ++ where_set (codes "stopOnException") fan.stop
+    ++ token_pairs h) (split_slots h fan steps)
+split_puts h fan steps = put_strategy fan.strategy and put_path h and put_set fan.parallel and put_set fan.share and put_one and put_set fan.stop and put_token h
+
+abbrev pub multicast_slots : Fan → Json → List Slot
+multicast_slots fan steps = may (codes "aggregationStrategy") (strategy_value fan.strategy)
+    ++ may (codes "parallelProcessing") (set_value fan.parallel)
+    ++ may (codes "shareUnitOfWork") (set_value fan.share)
+    ++ must (codes "steps") steps
+    ++ may (codes "stopOnException") (set_value fan.stop)
+
+pub multicast_puts : (fan : Fan) (steps : Json) → Puts (strategy_pairs fan.strategy
+    ++ where_set (codes "parallelProcessing") fan.parallel
+    ++ where_set (codes "shareUnitOfWork") fan.share
+    ++ one (codes "steps") steps
+    ++ where_set (codes "stopOnException") fan.stop) (multicast_slots fan steps)
+multicast_puts fan steps = put_strategy fan.strategy and put_set fan.parallel and put_set fan.share and put_one and put_set fan.stop
+
+abbrev pub aggregate_slots : Gathering → Json → List Slot
+aggregate_slots g steps = may (codes "aggregationStrategy") (group_value g.strategy)
+    ++ may (codes "completionPredicate") (completion_value g.predicate)
+    ++ may (codes "completionSize") (number_value g.size)
+    ++ may (codes "completionTimeout") (number_value g.timeout)
+    ++ must (codes "correlationExpression") (object_of (expr_pairs g.key))
+    ++ may (codes "forceCompletionOnStop") (set_value g.force)
+    ++ must (codes "steps") steps
+
+pub aggregate_puts : (g : Gathering) (steps : Json) → Puts (group_pairs g.strategy
+    ++ predicate_pairs g.predicate
+    ++ given_number (codes "completionSize") g.size
+    ++ given_number (codes "completionTimeout") g.timeout
+    ++ one (codes "correlationExpression") (object_of (expr_pairs g.key))
+    ++ where_set (codes "forceCompletionOnStop") g.force
+    ++ one (codes "steps") steps) (aggregate_slots g steps)
+aggregate_puts g steps = put_group g.strategy and put_completion g.predicate and put_number g.size and put_number g.timeout and put_one and put_set g.force and put_one
+
+abbrev pub idempotent_slots : Expr → Option (List ℕ) → Bool → Bool → Bool → Json → List Slot
+idempotent_slots e name skip eager remove steps = constant_slots e
+    ++ may (codes "eager") (unset_value eager)
+    ++ named_slots e
+    ++ may (codes "idempotentRepository") (word_value name)
+    ++ may (codes "removeOnFailure") (unset_value remove)
+    ++ simple_slots e
+    ++ may (codes "skipDuplicate") (unset_value skip)
+    ++ must (codes "steps") steps
+
+pub idempotent_puts : (e : Expr) (name : Option (List ℕ)) (skip eager remove : Bool) (steps : Json) → Puts (constant_pairs e
+    ++ where_unset (codes "eager") eager
+    ++ named_pairs e
+    ++ given_word (codes "idempotentRepository") name
+    ++ where_unset (codes "removeOnFailure") remove
+    ++ simple_pairs e
+    ++ where_unset (codes "skipDuplicate") skip
+    ++ one (codes "steps") steps) (idempotent_slots e name skip eager remove steps)
+idempotent_puts e name skip eager remove steps =
+    put_constant e and put_unset eager and put_named e and put_word name and put_unset remove and put_simple e and put_unset skip and put_one
+
+abbrev pub catch_slots : List (List ℕ) → Option Check → Json → List Slot
+catch_slots names check steps = must (codes "exception") (list_of (words names)) ++ may (codes "onWhen") (when_value check) ++ must (codes "steps") steps
+
+pub catch_puts : (names : List (List ℕ)) (check : Option Check) (steps : Json) → Puts (one (codes "exception") (list_of (words names)) ++ when_pairs check ++ one (codes "steps") steps) (catch_slots names check steps)
+catch_puts names check steps = put_one and put_when check and put_one
+
+abbrev pub try_slots : List Json → Option Json → Json → List Slot
+try_slots catches finish steps = may (codes "doCatch") (catches_value catches) ++ may (codes "doFinally") (nested_value finish) ++ must (codes "steps") steps
+
+pub try_puts : (catches : List Json) (finish : Option Json) (steps : Json) → Puts (catches_pairs catches ++ nested_pairs (codes "doFinally") finish ++ one (codes "steps") steps) (try_slots catches finish steps)
+try_puts catches finish steps = put_catches catches and put_nested finish and put_one
 
 -- ---- choices and filters
 

@@ -20,10 +20,10 @@ use Rattle.eip_route_validity.specs.Fit.{TemplateFits, ExprFits, LeafFits, Regis
 use Rattle.eip_route_values.specs.Leaves.{text_given}
 use Rattle.eip_route_values.specs.Nesting.{nest_step}
 use Rattle.eip_route_values.specs.Parts.{template, expr_in, fan_in, delimiter_given}
-use Rattle.eip_route_canonical.specs.Canonical.{Pairs, object_of, alone, set_body_json, named_value_json, log_json, throw_json, text_json, recipients_json, leaf_json, one, constant_pairs, named_pairs, simple_pairs, expr_pairs}
-use Rattle.eip_route_roundtrip.proofs.Objects.{set_value, strategy_value, delimiter_value, expr_puts, named_value_slots, named_value_puts, recipients_slots, recipients_puts, expr_slots}
+use Rattle.eip_route_canonical.specs.Canonical.{Pairs, object_of, alone, set_body_json, named_value_json, log_json, throw_json, text_json, recipients_json, leaf_json, one, where_set, constant_pairs, named_pairs, simple_pairs, expr_pairs, strategy_pairs, delimiter_pairs, is_comma}
+use Rattle.eip_route_roundtrip.proofs.Objects.{set_value, strategy_value, delimiter_value, expr_puts, expr_slots, may, must, constant_slots, named_slots, simple_slots, put_set, put_strategy, put_delimiter, put_constant, put_named, put_simple}
 use Rattle.eip_route_roundtrip.proofs.Parts.{template_again, endpoint_again, unhashed_name, kind_again, fan_again, expr_slot, simple_again, plain_expr_again, delimiter_again}
-use Rattle.eip_route_roundtrip.proofs.Slots.{Slot, filled, slot_at, value_filled, sure, put_one, ◌and◌}
+use Rattle.eip_route_roundtrip.proofs.Slots.{Slot, Puts, filled, slot_at, value_filled, sure, put_one, ◌and◌}
 use Rattle.eip_route_roundtrip.proofs.Fine.{Fine, MayBeFine, SlotsFine, HasKeys, word_fine, object_fine, alone_fine}
 use Rattle.eip_route_roundtrip.proofs.Keyed.{keys_fine}
 use Rattle.eip_route_roundtrip.proofs.Values.{template_fine, name_fine, kind_fine, delimiter_fine, processor_fine, target_fine, set_fine, strategy_fine}
@@ -34,6 +34,37 @@ use Rattle.eip_route.specs.declared.step.Step.TheVariants as step
 use Rattle.eip_route_grammar.specs.declared.keys.Key.TheVariants as key
 use Rattle.eip_route_grammar.specs.declared.table.Kind.TheVariants as kind
 use Rattle.eip_route_grammar.specs.declared.table.Rule.TheVariants as rule
+
+-- ---- the slots of their objects
+
+abbrev named_value_slots : List ℕ → Expr → List Slot
+named_value_slots name e = constant_slots e ++ named_slots e ++ must (codes "name") (word name) ++ simple_slots e
+
+named_value_puts : (name : List ℕ) (e : Expr) → Puts (constant_pairs e ++ named_pairs e ++ one (codes "name") (word name) ++ simple_pairs e) (named_value_slots name e)
+named_value_puts name e = put_constant e and put_named e and put_one and put_simple e
+
+abbrev recipients_slots : Expr → List ℕ → Fan → List Slot
+recipients_slots e delimiter fan = may (codes "aggregationStrategy") (strategy_value fan.strategy)
+    ++ constant_slots e
+    ++ may (codes "delimiter") (delimiter_value delimiter)
+    ++ named_slots e
+    ++ may (codes "parallelProcessing") (set_value fan.parallel)
+    ++ may (codes "shareUnitOfWork") (set_value fan.share)
+    ++ simple_slots e
+    ++ may (codes "stopOnException") (set_value fan.stop)
+
+recipients_puts : (e : Expr) (delimiter : List ℕ) (fan : Fan) → Puts (strategy_pairs fan.strategy
+    ++ constant_pairs e
+    ++ delimiter_pairs delimiter
+    ++ named_pairs e
+    ++ where_set (codes "parallelProcessing") fan.parallel
+    ++ where_set (codes "shareUnitOfWork") fan.share
+    ++ simple_pairs e
+    ++ where_set (codes "stopOnException") fan.stop) (recipients_slots e delimiter fan)
+recipients_puts e delimiter fan =
+    put_strategy fan.strategy and put_constant e and put_delimiter delimiter (is_comma delimiter) and put_named e and put_set fan.parallel and put_set fan.share and put_simple e and put_set fan.stop
+
+-- ---- what each says
 
 -- a step of an object that pairs put
 abbrev pub object_step : List ℕ → Pairs → NestedStep

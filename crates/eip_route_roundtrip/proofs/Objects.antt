@@ -1,4 +1,4 @@
--- The slots of each object that is printed.
+-- The slots of each object that is printed, but for those of steps: a leaf's stand in Leaves, a frame's in FramesAgain.
 use Rattle.std.proofs.Common.{ℕ, pos, Bool, true, false, cond, List, [], ◌∷◌, ◌++◌, Option, Some, None}
 use Rattle.std.specs.Prelude.{codes, nat_eq}
 use Rattle.eip_text.specs.Json.{Json, flag, whole, word}
@@ -13,12 +13,10 @@ use Rattle.eip_simple_read.specs.Spelling.{template_text, predicate_text}
 use Rattle.eip_simple_read.specs.declared.tree.Predicate.{Predicate}
 use Rattle.eip_uri.specs.Printed.{printed}
 use Rattle.eip_uri.specs.declared.uri.Uri.{Uri}
-use Rattle.eip_route.specs.Nest.{Gathering}
 use Rattle.eip_route.specs.declared.step.Check.{Check}
 use Rattle.eip_route.specs.declared.step.Expr.{Expr}
 use Rattle.eip_route.specs.declared.step.Expr.TheVariants as expr
-use Rattle.eip_route.specs.declared.step.Fan.{Fan}
-use Rattle.eip_route_canonical.specs.Canonical.{Pairs, object_of, list_of, one, alone, where_set, where_unset, given_word, given_number, where_any, constant_pairs, named_pairs, simple_pairs, expr_pairs, is_comma, strategy_text, strategy_pairs, group_pairs, predicate_pairs, delimiter_pairs, json_path, token_pairs, backing_pairs, policy_pairs, policy_in, check_pairs, nested_pairs, when_pairs, catches_pairs, words, steps_pairs, order_pairs, where_other}
+use Rattle.eip_route_canonical.specs.Canonical.{Pairs, object_of, list_of, one, alone, where_set, where_unset, given_word, given_number, where_any, constant_pairs, named_pairs, simple_pairs, expr_pairs, is_comma, strategy_text, strategy_pairs, group_pairs, predicate_pairs, json_path, token_pairs, backing_pairs, policy_pairs, policy_in, check_pairs, nested_pairs, when_pairs, catches_pairs, words, steps_pairs, order_pairs, where_other}
 use Rattle.eip_route_roundtrip.proofs.Slots.{Slot, sure, maybe, Puts, put_none, put_one, put_given, ◌and◌}
 
 -- ---- values that may be absent
@@ -79,10 +77,10 @@ catches_value (j ∷ js) = Some (list_of (j ∷ js))
 
 -- ---- slots
 
-abbrev must : List ℕ → Json → List Slot
+abbrev pub must : List ℕ → Json → List Slot
 must k j = sure k j ∷ []
 
-abbrev may : List ℕ → Option Json → List Slot
+abbrev pub may : List ℕ → Option Json → List Slot
 may k o = maybe k o ∷ []
 
 -- ---- parts that are there in one of several ways
@@ -117,19 +115,19 @@ order_slots (order.Property name) = sure (codes "exchangeProperty") (word name) 
 
 -- ---- what each part puts
 
-put_set : {k : List ℕ} (b : Bool) → Puts (where_set k b) (maybe k (set_value b) ∷ [])
+pub put_set : {k : List ℕ} (b : Bool) → Puts (where_set k b) (maybe k (set_value b) ∷ [])
 put_set true = put_given
 put_set false = put_given
 
-put_unset : {k : List ℕ} (b : Bool) → Puts (where_unset k b) (maybe k (unset_value b) ∷ [])
+pub put_unset : {k : List ℕ} (b : Bool) → Puts (where_unset k b) (maybe k (unset_value b) ∷ [])
 put_unset true = put_given
 put_unset false = put_given
 
-put_word : {k : List ℕ} (o : Option (List ℕ)) → Puts (given_word k o) (maybe k (word_value o) ∷ [])
+pub put_word : {k : List ℕ} (o : Option (List ℕ)) → Puts (given_word k o) (maybe k (word_value o) ∷ [])
 put_word None = put_given
 put_word (Some w) = put_given
 
-put_number : {k : List ℕ} (o : Option ℕ) → Puts (given_number k o) (maybe k (number_value o) ∷ [])
+pub put_number : {k : List ℕ} (o : Option ℕ) → Puts (given_number k o) (maybe k (number_value o) ∷ [])
 put_number None = put_given
 put_number (Some n) = put_given
 
@@ -137,11 +135,11 @@ put_object : {k : List ℕ} (ps : Pairs) → Puts (where_any k ps) (maybe k (obj
 put_object [] = put_given
 put_object (m ∷ ms) = put_given
 
-put_strategy : (s : Option Strategy) → Puts (strategy_pairs s) (maybe (codes "aggregationStrategy") (strategy_value s) ∷ [])
+pub put_strategy : (s : Option Strategy) → Puts (strategy_pairs s) (maybe (codes "aggregationStrategy") (strategy_value s) ∷ [])
 put_strategy None = put_given
 put_strategy (Some s) = put_given
 
-put_group : (s : Strategy) → Puts (group_pairs s) (maybe (codes "aggregationStrategy") (group_value s) ∷ [])
+pub put_group : (s : Strategy) → Puts (group_pairs s) (maybe (codes "aggregationStrategy") (group_value s) ∷ [])
 put_group strategy.Latest = put_given
 put_group strategy.Original = put_given
 put_group (strategy.Joined between) = put_given
@@ -149,11 +147,11 @@ put_group strategy.Grouped = put_given
 put_group strategy.Sum = put_given
 put_group strategy.Batch = put_given
 
-put_completion : (o : Option Predicate) → Puts (predicate_pairs o) (maybe (codes "completionPredicate") (completion_value o) ∷ [])
+pub put_completion : (o : Option Predicate) → Puts (predicate_pairs o) (maybe (codes "completionPredicate") (completion_value o) ∷ [])
 put_completion None = put_given
 put_completion (Some t) = put_given
 
-put_delimiter : (d : List ℕ) (b : Bool) → Puts (cond b [] (one (codes "delimiter") (word d))) (maybe (codes "delimiter") (cond b None (Some (word d))) ∷ [])
+pub put_delimiter : (d : List ℕ) (b : Bool) → Puts (cond b [] (one (codes "delimiter") (word d))) (maybe (codes "delimiter") (cond b None (Some (word d))) ∷ [])
 put_delimiter d true = put_given
 put_delimiter d false = put_given
 
@@ -161,15 +159,15 @@ put_backing : (o : Option Bool) → Puts (backing_pairs o) (maybe (codes "useExp
 put_backing None = put_given
 put_backing (Some b) = put_given
 
-put_nested : {k : List ℕ} (o : Option Json) → Puts (nested_pairs k o) (maybe k (nested_value o) ∷ [])
+pub put_nested : {k : List ℕ} (o : Option Json) → Puts (nested_pairs k o) (maybe k (nested_value o) ∷ [])
 put_nested None = put_given
 put_nested (Some s) = put_given
 
-put_when : (o : Option Check) → Puts (when_pairs o) (maybe (codes "onWhen") (when_value o) ∷ [])
+pub put_when : (o : Option Check) → Puts (when_pairs o) (maybe (codes "onWhen") (when_value o) ∷ [])
 put_when None = put_given
 put_when (Some c) = put_given
 
-put_catches : (js : List Json) → Puts (catches_pairs js) (maybe (codes "doCatch") (catches_value js) ∷ [])
+pub put_catches : (js : List Json) → Puts (catches_pairs js) (maybe (codes "doCatch") (catches_value js) ∷ [])
 put_catches [] = put_given
 put_catches (j ∷ js) = put_given
 
@@ -177,30 +175,30 @@ put_steps : (o : Option Json) → Puts (steps_pairs o) (maybe (codes "steps") o 
 put_steps None = put_given
 put_steps (Some s) = put_given
 
-put_constant : (e : Expr) → Puts (constant_pairs e) (constant_slots e)
+pub put_constant : (e : Expr) → Puts (constant_pairs e) (constant_slots e)
 put_constant (expr.Constant text) = put_one
 put_constant (expr.Simple template) = put_none
 put_constant (expr.Header name) = put_none
 put_constant (expr.Property name) = put_none
 
-put_named : (e : Expr) → Puts (named_pairs e) (named_slots e)
+pub put_named : (e : Expr) → Puts (named_pairs e) (named_slots e)
 put_named (expr.Header name) = put_one
 put_named (expr.Property name) = put_one
 put_named (expr.Simple template) = put_none
 put_named (expr.Constant text) = put_none
 
-put_simple : (e : Expr) → Puts (simple_pairs e) (simple_slots e)
+pub put_simple : (e : Expr) → Puts (simple_pairs e) (simple_slots e)
 put_simple (expr.Simple template) = put_one
 put_simple (expr.Constant text) = put_none
 put_simple (expr.Header name) = put_none
 put_simple (expr.Property name) = put_none
 
-put_path : (h : How) → Puts (json_path h) (path_slots h)
+pub put_path : (h : How) → Puts (json_path h) (path_slots h)
 put_path (how.Token token) = put_none
 put_path how.JsonArray = put_one
 put_path (how.Batch k) = put_none
 
-put_token : (h : How) → Puts (token_pairs h) (token_slots h)
+pub put_token : (h : How) → Puts (token_pairs h) (token_slots h)
 put_token (how.Token token) = put_one
 put_token how.JsonArray = put_none
 put_token (how.Batch k) = put_none
@@ -217,129 +215,13 @@ other_by false n = put_given
 put_other : {k : List ℕ} (default n : ℕ) → Puts (where_other k default (Some n)) (maybe k (other_value default (Some n)) ∷ [])
 put_other default n = other_by (nat_eq n default) n
 
--- ---- the objects of steps
+-- ---- the objects of expressions and batches
 
 abbrev pub expr_slots : Expr → List Slot
 expr_slots e = constant_slots e ++ named_slots e ++ simple_slots e
 
 pub expr_puts : (e : Expr) → Puts (expr_pairs e) (expr_slots e)
 expr_puts e = put_constant e and put_named e and put_simple e
-
-abbrev pub named_value_slots : List ℕ → Expr → List Slot
-named_value_slots name e = constant_slots e ++ named_slots e ++ must (codes "name") (word name) ++ simple_slots e
-
-pub named_value_puts : (name : List ℕ) (e : Expr) → Puts (constant_pairs e ++ named_pairs e ++ one (codes "name") (word name) ++ simple_pairs e) (named_value_slots name e)
-named_value_puts name e = put_constant e and put_named e and put_one and put_simple e
-
-abbrev pub choice_slots : Option Json → Json → List Slot
-choice_slots otherwise cases = may (codes "otherwise") (nested_value otherwise) ++ must (codes "when") cases
-
-pub choice_puts : (otherwise : Option Json) (cases : Json) → Puts (nested_pairs (codes "otherwise") otherwise ++ one (codes "when") cases) (choice_slots otherwise cases)
-choice_puts otherwise cases = put_nested otherwise and put_one
-
-abbrev pub split_slots : How → Fan → Json → List Slot
-split_slots h fan steps = may (codes "aggregationStrategy") (strategy_value fan.strategy)
-    ++ path_slots h
-    ++ may (codes "parallelProcessing") (set_value fan.parallel)
-    ++ may (codes "shareUnitOfWork") (set_value fan.share)
-    ++ must (codes "steps") steps
-    ++ may (codes "stopOnException") (set_value fan.stop)
-    ++ token_slots h
-
-pub split_puts : (h : How) (fan : Fan) (steps : Json) → Puts (strategy_pairs fan.strategy
-    ++ json_path h
-    ++ where_set (codes "parallelProcessing") fan.parallel
-    ++ where_set (codes "shareUnitOfWork") fan.share
-    ++ one (codes "steps") steps
-    ++ where_set (codes "stopOnException") fan.stop
-    ++ token_pairs h) (split_slots h fan steps)
-split_puts h fan steps = put_strategy fan.strategy and put_path h and put_set fan.parallel and put_set fan.share and put_one and put_set fan.stop and put_token h
-
-abbrev pub multicast_slots : Fan → Json → List Slot
-multicast_slots fan steps = may (codes "aggregationStrategy") (strategy_value fan.strategy)
-    ++ may (codes "parallelProcessing") (set_value fan.parallel)
-    ++ may (codes "shareUnitOfWork") (set_value fan.share)
-    ++ must (codes "steps") steps
-    ++ may (codes "stopOnException") (set_value fan.stop)
-
-pub multicast_puts : (fan : Fan) (steps : Json) → Puts (strategy_pairs fan.strategy
-    ++ where_set (codes "parallelProcessing") fan.parallel
-    ++ where_set (codes "shareUnitOfWork") fan.share
-    ++ one (codes "steps") steps
-    ++ where_set (codes "stopOnException") fan.stop) (multicast_slots fan steps)
-multicast_puts fan steps = put_strategy fan.strategy and put_set fan.parallel and put_set fan.share and put_one and put_set fan.stop
-
-abbrev pub recipients_slots : Expr → List ℕ → Fan → List Slot
-recipients_slots e delimiter fan = may (codes "aggregationStrategy") (strategy_value fan.strategy)
-    ++ constant_slots e
-    ++ may (codes "delimiter") (delimiter_value delimiter)
-    ++ named_slots e
-    ++ may (codes "parallelProcessing") (set_value fan.parallel)
-    ++ may (codes "shareUnitOfWork") (set_value fan.share)
-    ++ simple_slots e
-    ++ may (codes "stopOnException") (set_value fan.stop)
-
-pub recipients_puts : (e : Expr) (delimiter : List ℕ) (fan : Fan) → Puts (strategy_pairs fan.strategy
-    ++ constant_pairs e
-    ++ delimiter_pairs delimiter
-    ++ named_pairs e
-    ++ where_set (codes "parallelProcessing") fan.parallel
-    ++ where_set (codes "shareUnitOfWork") fan.share
-    ++ simple_pairs e
-    ++ where_set (codes "stopOnException") fan.stop) (recipients_slots e delimiter fan)
-recipients_puts e delimiter fan =
-    put_strategy fan.strategy and put_constant e and put_delimiter delimiter (is_comma delimiter) and put_named e and put_set fan.parallel and put_set fan.share and put_simple e and put_set fan.stop
-
-abbrev pub aggregate_slots : Gathering → Json → List Slot
-aggregate_slots g steps = may (codes "aggregationStrategy") (group_value g.strategy)
-    ++ may (codes "completionPredicate") (completion_value g.predicate)
-    ++ may (codes "completionSize") (number_value g.size)
-    ++ may (codes "completionTimeout") (number_value g.timeout)
-    ++ must (codes "correlationExpression") (object_of (expr_pairs g.key))
-    ++ may (codes "forceCompletionOnStop") (set_value g.force)
-    ++ must (codes "steps") steps
-
-pub aggregate_puts : (g : Gathering) (steps : Json) → Puts (group_pairs g.strategy
-    ++ predicate_pairs g.predicate
-    ++ given_number (codes "completionSize") g.size
-    ++ given_number (codes "completionTimeout") g.timeout
-    ++ one (codes "correlationExpression") (object_of (expr_pairs g.key))
-    ++ where_set (codes "forceCompletionOnStop") g.force
-    ++ one (codes "steps") steps) (aggregate_slots g steps)
-aggregate_puts g steps = put_group g.strategy and put_completion g.predicate and put_number g.size and put_number g.timeout and put_one and put_set g.force and put_one
-
-abbrev pub idempotent_slots : Expr → Option (List ℕ) → Bool → Bool → Bool → Json → List Slot
-idempotent_slots e name skip eager remove steps = constant_slots e
-    ++ may (codes "eager") (unset_value eager)
-    ++ named_slots e
-    ++ may (codes "idempotentRepository") (word_value name)
-    ++ may (codes "removeOnFailure") (unset_value remove)
-    ++ simple_slots e
-    ++ may (codes "skipDuplicate") (unset_value skip)
-    ++ must (codes "steps") steps
-
-pub idempotent_puts : (e : Expr) (name : Option (List ℕ)) (skip eager remove : Bool) (steps : Json) → Puts (constant_pairs e
-    ++ where_unset (codes "eager") eager
-    ++ named_pairs e
-    ++ given_word (codes "idempotentRepository") name
-    ++ where_unset (codes "removeOnFailure") remove
-    ++ simple_pairs e
-    ++ where_unset (codes "skipDuplicate") skip
-    ++ one (codes "steps") steps) (idempotent_slots e name skip eager remove steps)
-idempotent_puts e name skip eager remove steps =
-    put_constant e and put_unset eager and put_named e and put_word name and put_unset remove and put_simple e and put_unset skip and put_one
-
-abbrev pub catch_slots : List (List ℕ) → Option Check → Json → List Slot
-catch_slots names check steps = must (codes "exception") (list_of (words names)) ++ may (codes "onWhen") (when_value check) ++ must (codes "steps") steps
-
-pub catch_puts : (names : List (List ℕ)) (check : Option Check) (steps : Json) → Puts (one (codes "exception") (list_of (words names)) ++ when_pairs check ++ one (codes "steps") steps) (catch_slots names check steps)
-catch_puts names check steps = put_one and put_when check and put_one
-
-abbrev pub try_slots : List Json → Option Json → Json → List Slot
-try_slots catches finish steps = may (codes "doCatch") (catches_value catches) ++ may (codes "doFinally") (nested_value finish) ++ must (codes "steps") steps
-
-pub try_puts : (catches : List Json) (finish : Option Json) (steps : Json) → Puts (catches_pairs catches ++ nested_pairs (codes "doFinally") finish ++ one (codes "steps") steps) (try_slots catches finish steps)
-try_puts catches finish steps = put_catches catches and put_nested finish and put_one
 
 abbrev pub config_slots : ℕ → ℕ → List Slot
 config_slots size timeout = may (codes "batchSize") (other_value 100 (Some size)) ++ may (codes "batchTimeout") (other_value 1000 (Some timeout))

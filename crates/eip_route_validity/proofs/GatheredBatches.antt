@@ -7,14 +7,15 @@ use Rattle.std.proofs.lemmas.List.Elements.{All-nil, All-cons, All-append, All-h
 use Rattle.std.proofs.lemmas.Option.{slice_get_read}
 use Rattle.eip_exchange.specs.declared.setting.How.TheVariants as how
 use Rattle.eip_route.proofs.Filled.{leaf_numbers}
-use Rattle.eip_route.specs.Faults.{last_number, step_numbers, clauses_numbers, routes_numbers, outer_numbers, steps_of}
-use Rattle.eip_route.specs.Nest.{Frame, chooses, filters, splits, multicasts, aggregates, runs_once, tries, NestedStep, NestedSteps, NestedGroups, NestedLast, NestedClause, NestedRoute, NestedSet, leaf, holds, none, more, no_group, group, no_last, last, fill, FlatStep, FlatSteps, FlatGroups, headed, number_of, flat_steps, flat_step, flat_groups, flat_last, flat_block, flat_clauses, flat_routes, flat_set}
+use Rattle.eip_route.specs.Faults.{clauses_numbers, routes_numbers, outer_numbers, steps_of}
+use Rattle.eip_route.specs.Nest.{Frame, splits, aggregates, NestedStep, NestedSteps, NestedGroups, NestedLast, NestedClause, NestedRoute, NestedSet, leaf, holds, none, more, no_group, group, no_last, last, fill, FlatStep, FlatSteps, FlatGroups, headed, number_of, flat_steps, flat_step, flat_groups, flat_last, flat_block, flat_clauses, flat_routes, flat_set, last_number, step_numbers}
 use Rattle.eip_route.specs.Valid.{gathers_batch, splits_batch, is_batch_block, is_batch_at, HoldsBatches}
 use Rattle.eip_route.specs.declared.route.Block.{Block}
 use Rattle.eip_route.specs.declared.route.Names.{Names}
 use Rattle.eip_route.specs.declared.step.Step.{Step}
 use Rattle.eip_route.specs.declared.step.Step.TheVariants as step
-use Rattle.eip_route_validity.proofs.Frames.{bare_leaf, frame_numbers}
+use Rattle.eip_route_validity.proofs.Frames.{frame_numbers}
+use Rattle.eip_route_validity.proofs.GoodSteps.{bare_leaf}
 use Rattle.eip_route_validity.proofs.NotTooDeep.{At, left, right, got, within}
 use Rattle.eip_route_validity.specs.Fit.{LeafFits, StepsFit, StepFits, GroupsFit, LastFits, ClauseFits, RouteFits, SetFits, is_parts, gathers, AreBatched, IsBatched, GroupsBatched, LastBatched}
 
@@ -25,33 +26,18 @@ leaf_splits n (step.Split h fan b) f = absurd f
 leaf_splits n _ f = refl
 
 filled_splits : (f : Frame) (ns : List ℕ) → splits_batch (fill f ns) ≡ is_parts f
-filled_splits (chooses cs l) ns = refl
-filled_splits (filters c) ns = refl
 filled_splits (splits (how.Token token) fan) ns = refl
 filled_splits (splits how.JsonArray fan) ns = refl
 filled_splits (splits (how.Batch k) fan) ns = refl
-filled_splits (multicasts fan) ns = refl
-filled_splits (aggregates g) ns = refl
-filled_splits (runs_once e name skip eager remove) ns = refl
-filled_splits (tries cs l) ns = refl
+filled_splits _ ns = refl
 
 filled_gathers : (f : Frame) (ns : List ℕ) → gathers_batch (fill f ns) ≡ gathers f
-filled_gathers (chooses cs l) ns = refl
-filled_gathers (filters c) ns = refl
-filled_gathers (splits h fan) ns = refl
-filled_gathers (multicasts fan) ns = refl
 filled_gathers (aggregates g) ns = refl
-filled_gathers (runs_once e name skip eager remove) ns = refl
-filled_gathers (tries cs l) ns = refl
+filled_gathers _ ns = refl
 
 parts_gather : (f : Frame) → is_parts f ≡ true → gathers f ≡ false
 parts_gather (splits h fan) e = refl
-parts_gather (chooses cs l) e = absurd (cc)
-parts_gather (filters c) e = absurd (cc)
-parts_gather (multicasts fan) e = absurd (cc)
-parts_gather (aggregates g) e = absurd (cc)
-parts_gather (runs_once k name skip eager remove) e = absurd (cc)
-parts_gather (tries cs l) e = absurd (cc)
+parts_gather _ e = absurd (cc)
 
 no_batch_block : (ss : List Step) → list_any splits_batch ss ≡ false → is_batch_block ss ≡ false
 no_batch_block [] h = refl

@@ -4,7 +4,7 @@ use Rattle.std.proofs.lemmas.Bool.{and_from, or_left, or_right}
 use Rattle.std.proofs.lemmas.Slice.Eq.{bytes_eq-Decides}
 use Rattle.std.proofs.lemmas.List.Elements.{All-nil, All-cons, All-append, All-head, All-tail}
 use Rattle.eip_exchange.specs.declared.setting.Clause.{Clause}
-use Rattle.eip_route.specs.Nest.{Gathering, Frame, chooses, filters, splits, multicasts, aggregates, runs_once, tries, Catching, NestedStep, NestedSteps, NestedGroups, NestedLast, NestedClause, NestedRoute, leaf, holds, none, more, no_group, group, no_last, last, first_of, rest_of, past, cases_with, catches_with, fill, FlatSteps, headed, with_block, own_repository, repository_of, flat_steps, flat_step, flat_groups, flat_last, flat_block, flat_clauses, flat_routes, number_of}
+use Rattle.eip_route.specs.Nest.{Gathering, Frame, chooses, filters, splits, multicasts, aggregates, runs_once, tries, Catching, NestedStep, NestedSteps, NestedGroups, NestedLast, NestedClause, NestedRoute, leaf, holds, none, more, no_group, group, no_last, last, first_of, rest_of, past, cases_with, catches_with, IsNamed, FrameNamed, fill, held, FlatSteps, headed, with_block, own_repository, repository_of, flat_steps, flat_step, flat_groups, flat_last, flat_block, flat_clauses, flat_routes, number_of}
 use Rattle.eip_route.specs.Valid.{is_filled, is_aggregate, is_batching, is_batch_strategy, is_given_name, is_repository, are_cases, is_given_check, are_catches, is_step, are_steps, is_route, is_clause}
 use Rattle.eip_route.specs.declared.route.Block.{Block}
 use Rattle.eip_route.specs.declared.route.Names.{Names}
@@ -97,6 +97,25 @@ good_frame n k (multicasts fan) gs h s = and_from _ _ (filled_groups k gs s.0) h
 good_frame n k (aggregates g) gs h s = good_any_gathering (is_batch_strategy g.strategy) g (first_of (flat_groups k gs).numbers) h
 good_frame n k (runs_once e name skip eager remove) gs h s = and_from _ _ (good_expr e h.0) (good_repository (first_of (flat_groups k gs).numbers) name h.1)
 good_frame n k (tries cs l) gs h s = good_catches n cs (rest_of (flat_groups k gs).numbers) h
+
+-- a leaf holds no blocks, and a frame's repository has a name of the form
+pub bare_leaf : (n : Names) (s : Step) → LeafFits n s → held s ≡ None
+bare_leaf n (step.Choice cases l) h = absurd h
+bare_leaf n (step.Filter c b) h = absurd h
+bare_leaf n (step.Split how fan b) h = absurd h
+bare_leaf n (step.Multicast fan bs) h = absurd h
+bare_leaf n (step.Aggregate a) h = absurd h
+bare_leaf n (step.Idempotent e repository skip eager remove b) h = absurd h
+bare_leaf n (step.Try b catches l) h = absurd h
+bare_leaf n _ h = refl
+
+name_given : (o : Option (List ℕ)) → is_given_name o ≡ true → IsNamed o
+name_given None h = tt
+name_given (Some name) h = h
+
+pub frame_named : (n : Names) (f : Frame) → FrameFits n f → FrameNamed f
+frame_named n (runs_once e name skip eager remove) h = name_given name h.1
+frame_named n _ h = tt
 
 -- ---- steps
 

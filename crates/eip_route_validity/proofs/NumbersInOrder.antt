@@ -3,12 +3,13 @@
 use Rattle.std.proofs.Common.{ℕ, ◌+◌, ◌<◌, List, [], ◌∷◌, ◌++◌, length, ◌≡◌, sym, subst, All, arith}
 use Rattle.std.proofs.lemmas.List.Elements.{All-head, All-tail}
 use Rattle.eip_route.proofs.Filled.{leaf_numbers}
-use Rattle.eip_route.specs.Faults.{last_number, step_numbers, steps_numbers, clauses_numbers, routes_numbers, outer_numbers}
-use Rattle.eip_route.specs.Nest.{NestedStep, NestedSteps, NestedGroups, NestedLast, NestedClause, NestedRoute, NestedSet, leaf, holds, none, more, no_group, group, no_last, last, FlatSteps, headed, number_of, flat_steps, flat_step, flat_groups, flat_last, flat_block, flat_clauses, flat_routes, flat_set}
+use Rattle.eip_route.specs.Faults.{steps_numbers, clauses_numbers, routes_numbers, outer_numbers}
+use Rattle.eip_route.specs.Nest.{NestedStep, NestedSteps, NestedGroups, NestedLast, NestedClause, NestedRoute, NestedSet, leaf, holds, none, more, no_group, group, no_last, last, FlatSteps, headed, number_of, flat_steps, flat_step, flat_groups, flat_last, flat_block, flat_clauses, flat_routes, flat_set, last_number, step_numbers}
 use Rattle.eip_route.specs.declared.route.Block.{Block}
 use Rattle.eip_route.specs.declared.route.Names.{Names}
 use Rattle.eip_route.specs.declared.step.Step.{Step}
-use Rattle.eip_route_validity.proofs.Frames.{bare_leaf, frame_numbers}
+use Rattle.eip_route_validity.proofs.Frames.{frame_numbers}
+use Rattle.eip_route_validity.proofs.GoodSteps.{bare_leaf}
 use Rattle.eip_route_validity.specs.Fit.{StepsFit, StepFits, GroupsFit, LastFits, BlockFits, ClauseFits, RouteFits, SetFits}
 
 -- P d k ns bs: of the numbers ns and the blocks bs, of which the first has the number k, inside d blocks

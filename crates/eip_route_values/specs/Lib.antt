@@ -1,6 +1,5 @@
 pub mod Leaves
 pub mod Parts
-pub mod Places
 pub mod Nesting
 pub mod Sets
 pub mod Built

@@ -9,12 +9,13 @@ use Rattle.eip_route.specs.declared.step.Step.TheVariants as step
 use Rattle.eip_route.specs.Nest.{Frame, chooses, filters, splits, multicasts, aggregates, runs_once, tries, Catching, NestedStep, NestedSteps, NestedGroups, leaf, holds, none, more, no_group, group, batch_groups, fill}
 use Rattle.eip_route_grammar.specs.Keys.{is_spelled}
 use Rattle.eip_route_grammar.specs.Objects.{value_at}
+use Rattle.eip_route_grammar.specs.Table.{rows, row_for, key_in}
 use Rattle.eip_route_grammar.specs.Texts.{unhashed, last_segment}
 use Rattle.eip_route_grammar.specs.declared.keys.Key.{Key}
 use Rattle.eip_route_grammar.specs.declared.keys.Key.TheVariants as key
+use Rattle.eip_route_grammar.specs.declared.table.Kind.TheVariants as kind
 use Rattle.eip_route_values.specs.Leaves.{text_of, text_at, exceptions_given, flag_at, members_at}
 use Rattle.eip_route_values.specs.Parts.{template, endpoint, endpoint_in, expr_in, check_in, fan_in, how_given, delimiter_given, gathering_in, order_key_in, batching_in, repository_given}
-use Rattle.eip_route_values.specs.Places.{places, step_key}
 use Rattle.eip_route_values.specs.declared.places.Place.{Place}
 use Rattle.eip_route_values.specs.declared.places.Place.TheVariants as place
 
@@ -54,26 +55,30 @@ catchings_of (item t ts) = catching_of t ∷ catchings_of ts
 abbrev pub catchings_in : Members → List Catching
 catchings_in ms = catchings_of (items_given (value_at key.DoCatch ms))
 
+-- what stands for no step
+abbrev pub no_step : Step
+no_step = step.RemoveHeader []
+
+-- a step that holds no others, by an object with these members
+abbrev pub leaf_said : Key → Members → Step
+leaf_said key.SetBody ms = step.SetBody (expr_in ms)
+leaf_said key.SetHeader ms = step.SetHeader (text_at key.Name ms) (expr_in ms)
+leaf_said key.SetProperty ms = step.SetProperty (text_at key.Name ms) (expr_in ms)
+leaf_said key.RemoveHeader ms = step.RemoveHeader (text_at key.Name ms)
+leaf_said key.To ms = step.To (endpoint_in ms)
+leaf_said key.Log ms = step.Log (option_map text_of (value_at key.LogName ms)) (template (text_at key.Message ms))
+leaf_said key.ThrowException ms = step.Throw (last_segment (text_at key.ExceptionType ms)) (template (text_at key.Message ms))
+leaf_said key.Process ms = step.Process (unhashed (text_at key.Ref ms))
+leaf_said key.RecipientList ms = step.Recipients (expr_in ms) (delimiter_given (value_at key.Delimiter ms)) (fan_in ms)
+leaf_said _ ms = no_step
+
 -- what an object says but for the steps that it holds: a step, or the frame of one
 pub data Said : Type 0 where
   bare : Step → Said
   framed : Frame → Said
 
--- what stands for no step
-abbrev pub no_step : Step
-no_step = step.RemoveHeader []
-
 -- by an object with these members
 abbrev pub said : Key → Members → Said
-said key.SetBody ms = bare (step.SetBody (expr_in ms))
-said key.SetHeader ms = bare (step.SetHeader (text_at key.Name ms) (expr_in ms))
-said key.SetProperty ms = bare (step.SetProperty (text_at key.Name ms) (expr_in ms))
-said key.RemoveHeader ms = bare (step.RemoveHeader (text_at key.Name ms))
-said key.To ms = bare (step.To (endpoint_in ms))
-said key.Log ms = bare (step.Log (option_map text_of (value_at key.LogName ms)) (template (text_at key.Message ms)))
-said key.ThrowException ms = bare (step.Throw (last_segment (text_at key.ExceptionType ms)) (template (text_at key.Message ms)))
-said key.Process ms = bare (step.Process (unhashed (text_at key.Ref ms)))
-said key.RecipientList ms = bare (step.Recipients (expr_in ms) (delimiter_given (value_at key.Delimiter ms)) (fan_in ms))
 said key.Choice ms = framed (chooses (checks_in ms) (is_some (value_at key.Otherwise ms)))
 said key.Filter ms = framed (filters (check_in ms))
 said key.Split ms = framed (splits (how_given (value_at key.Tokenize ms)) (fan_in ms))
@@ -83,7 +88,7 @@ said key.IdempotentConsumer ms =
     framed (runs_once (expr_in ms) (repository_given (value_at key.IdempotentRepository ms)) (flag_at true key.SkipDuplicate ms) (flag_at true key.Eager ms) (flag_at true key.RemoveOnFailure ms))
 said key.DoTry ms = framed (tries (catchings_in ms) (is_some (value_at key.DoFinally ms)))
 said key.Resequence ms = framed (aggregates (batching_in ms))
-said _ ms = bare no_step
+said k ms = bare (leaf_said k ms)
 
 -- by a text
 abbrev pub text_said : Key → List ℕ → Step
@@ -101,6 +106,24 @@ with_groups (framed f) gs = holds f gs
 abbrev pub with_numbers : Said → List ℕ → Step
 with_numbers (bare s) ns = s
 with_numbers (framed f) ns = fill f ns
+
+-- ---- which step a key says, and where the steps that its object holds stand
+
+-- a kind of step goes by its key, in either spelling
+abbrev pub step_key : List ℕ → Option Key
+step_key text = option_map key_in (row_for text (rows kind.Step))
+
+-- in the order in which their blocks are numbered
+abbrev pub places : Key → List Place
+places key.Choice = place.Each key.When ∷ place.One key.Otherwise ∷ []
+places key.Filter = place.Steps ∷ []
+places key.Split = place.Steps ∷ []
+places key.Multicast = place.Branches ∷ []
+places key.Aggregate = place.Steps ∷ []
+places key.IdempotentConsumer = place.Steps ∷ []
+places key.DoTry = place.Steps ∷ place.Each key.DoCatch ∷ place.One key.DoFinally ∷ []
+places key.Resequence = place.Batch ∷ []
+places _ = []
 
 -- ---- the steps that it holds
 

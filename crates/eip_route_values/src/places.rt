@@ -1,5 +1,5 @@
 ghost use Rattle.std.specs.Prelude.{◌≡◌};
-ghost use Rattle.eip_route_values.specs.Places.{places, step_key};
+ghost use Rattle.eip_route_values.specs.Nesting.{step_key};
 
 use eip_route_grammar::keys::Key;
 use eip_route_grammar::table::{Kind, Row};
@@ -18,30 +18,6 @@ pub enum Place {
     One(Key),
     /// The list `steps`: one group of a split into the messages of a batch, which holds these steps.
     Batch,
-}
-
-impl Place {
-    /// The places of a kind of step, in the order in which their blocks are numbered; none for a step
-    /// that holds no others (Camel manual, *YAML DSL*).
-    pub fn of(step: Key) -> &'static [Place]
-        ensures { result.now ≡ places step }
-    {
-        match step {
-            Key::Choice => &[Place::Each(Key::When), Place::One(Key::Otherwise)],
-            Key::Filter => &[Place::Steps],
-            Key::Split => &[Place::Steps],
-            Key::Multicast => &[Place::Branches],
-            Key::Aggregate => &[Place::Steps],
-            Key::IdempotentConsumer => &[Place::Steps],
-            Key::DoTry => &[
-                Place::Steps,
-                Place::Each(Key::DoCatch),
-                Place::One(Key::DoFinally),
-            ],
-            Key::Resequence => &[Place::Batch],
-            _ => &[],
-        }
-    }
 }
 
 /// The kind of step that a key of a step's object says, by the table of the language.

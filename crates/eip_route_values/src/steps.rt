@@ -5,7 +5,7 @@ ghost use Rattle.eip_text.specs.Json.{members_json};
 ghost use Rattle.eip_route_grammar.specs.Texts as texts;
 ghost use Rattle.eip_route_grammar.specs.Objects as objects;
 ghost use Rattle.eip_route_values.specs.Leaves as leaves;
-ghost use Rattle.eip_route_values.specs.Nesting.{text_said};
+ghost use Rattle.eip_route_values.specs.Nesting.{leaf_said, text_said};
 ghost use Rattle.eip_route_values.specs.Parts as parts;
 
 use crate::leaves::{text_at, text_of};
@@ -18,7 +18,7 @@ use eip_text::{NoMemory, Text, Tree};
 use std::alloc::Global;
 
 /// `setBody`: the value replaces the body.
-pub fn set_body(alloc: Global, members: &[(Text, Tree)]) -> Result<Step, NoMemory>
+fn set_body(alloc: Global, members: &[(Text, Tree)]) -> Result<Step, NoMemory>
     ensures { let ms = members_json members.now in
         IfOk result (λ s. s ≡ Step.SetBody (parts.expr_in ms)) }
 {
@@ -27,7 +27,7 @@ pub fn set_body(alloc: Global, members: &[(Text, Tree)]) -> Result<Step, NoMemor
 }
 
 /// `setHeader`: the value becomes the header of a name.
-pub fn set_header(alloc: Global, members: &[(Text, Tree)]) -> Result<Step, NoMemory>
+fn set_header(alloc: Global, members: &[(Text, Tree)]) -> Result<Step, NoMemory>
     ensures { let ms = members_json members.now in
         let name = leaves.text_at Key.Name ms in
         IfOk result (λ s. s ≡ Step.SetHeader name (parts.expr_in ms)) }
@@ -38,7 +38,7 @@ pub fn set_header(alloc: Global, members: &[(Text, Tree)]) -> Result<Step, NoMem
 }
 
 /// `setProperty`: the value becomes the exchange property of a name.
-pub fn set_property(alloc: Global, members: &[(Text, Tree)]) -> Result<Step, NoMemory>
+fn set_property(alloc: Global, members: &[(Text, Tree)]) -> Result<Step, NoMemory>
     ensures { let ms = members_json members.now in
         let name = leaves.text_at Key.Name ms in
         IfOk result (λ s. s ≡ Step.SetProperty name (parts.expr_in ms)) }
@@ -57,7 +57,7 @@ fn remove_header_text(alloc: Global, name: &str) -> Result<Step, NoMemory>
 }
 
 /// `removeHeader`: the header of a name goes.
-pub fn remove_header(alloc: Global, members: &[(Text, Tree)]) -> Result<Step, NoMemory>
+fn remove_header(alloc: Global, members: &[(Text, Tree)]) -> Result<Step, NoMemory>
     ensures { let name = leaves.text_at Key.Name (members_json members.now) in
         IfOk result (λ s. s ≡ Step.RemoveHeader name) }
 {
@@ -79,7 +79,7 @@ fn to_text(alloc: Global, text: &str) -> Result<Step, NoMemory>
 }
 
 /// `to`: the message goes to an endpoint.
-pub fn to(alloc: Global, members: &[(Text, Tree)]) -> Result<Step, NoMemory>
+fn to(alloc: Global, members: &[(Text, Tree)]) -> Result<Step, NoMemory>
     ensures { let ms = members_json members.now in
         IfOk result (λ s. s ≡ Step.To (parts.endpoint_in ms)) }
 {
@@ -106,7 +106,7 @@ fn log_name(alloc: Global, members: &[(Text, Tree)]) -> Result<Option<Text>, NoM
 }
 
 /// `log`: a line of the log.
-pub fn log(alloc: Global, members: &[(Text, Tree)]) -> Result<Step, NoMemory>
+fn log(alloc: Global, members: &[(Text, Tree)]) -> Result<Step, NoMemory>
     ensures { let ms = members_json members.now in
         let name = option_map leaves.text_of (objects.value_at Key.LogName ms) in
         let message = parts.template (leaves.text_at Key.Message ms) in
@@ -118,7 +118,7 @@ pub fn log(alloc: Global, members: &[(Text, Tree)]) -> Result<Step, NoMemory>
 }
 
 /// `throwException`: a fault whose kind is the last segment of the exception's type.
-pub fn throw(alloc: Global, members: &[(Text, Tree)]) -> Result<Step, NoMemory>
+fn throw(alloc: Global, members: &[(Text, Tree)]) -> Result<Step, NoMemory>
     ensures { let ms = members_json members.now in
         let kind = texts.last_segment (leaves.text_at Key.ExceptionType ms) in
         let message = parts.template (leaves.text_at Key.Message ms) in
@@ -137,7 +137,7 @@ fn process_text(alloc: Global, name: &str) -> Result<Step, NoMemory>
 }
 
 /// `process`: the message is handed to a processor.
-pub fn process(alloc: Global, members: &[(Text, Tree)]) -> Result<Step, NoMemory>
+fn process(alloc: Global, members: &[(Text, Tree)]) -> Result<Step, NoMemory>
     ensures { let name = texts.unhashed (leaves.text_at Key.Ref (members_json members.now)) in
         IfOk result (λ s. s ≡ Step.Process name) }
 {
@@ -145,7 +145,7 @@ pub fn process(alloc: Global, members: &[(Text, Tree)]) -> Result<Step, NoMemory
 }
 
 /// `recipientList`: a copy goes to each endpoint that a list names.
-pub fn recipients(alloc: Global, members: &[(Text, Tree)]) -> Result<Step, NoMemory>
+fn recipients(alloc: Global, members: &[(Text, Tree)]) -> Result<Step, NoMemory>
     ensures { let ms = members_json members.now in
         let delimiter = parts.delimiter_given (objects.value_at Key.Delimiter ms) in
         IfOk result (λ s. s ≡ Step.Recipients (parts.expr_in ms) delimiter (parts.fan_in ms)) }
@@ -158,6 +158,24 @@ pub fn recipients(alloc: Global, members: &[(Text, Tree)]) -> Result<Step, NoMem
         delimiter,
         fan,
     })
+}
+
+/// The step that an object says of a kind of step that holds no others (Camel manual, *YAML DSL*).
+pub fn leaf_said(alloc: Global, step: Key, members: &[(Text, Tree)]) -> Result<Step, NoMemory>
+    ensures { IfOk result (λ s. s ≡ leaf_said step (members_json members.now)) }
+{
+    match step {
+        Key::SetBody => set_body(alloc, members),
+        Key::SetHeader => set_header(alloc, members),
+        Key::SetProperty => set_property(alloc, members),
+        Key::RemoveHeader => remove_header(alloc, members),
+        Key::To => to(alloc, members),
+        Key::Log => log(alloc, members),
+        Key::ThrowException => throw(alloc, members),
+        Key::Process => process(alloc, members),
+        Key::RecipientList => recipients(alloc, members),
+        _ => nothing(alloc),
+    }
 }
 
 /// The step that a text says of a kind of step.

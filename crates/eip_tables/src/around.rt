@@ -1,6 +1,7 @@
 ghost use Rattle.std.specs.Prelude.{◌≡◌, ◌≤◌, eqb, length, unwrap_or};
 ghost use Rattle.std.specs.List.{list_any, position};
-ghost use Rattle.eip_route.specs.Faults.{case_numbers, catch_numbers, last_number, step_numbers, steps_numbers};
+ghost use Rattle.eip_route.specs.Faults.{steps_numbers};
+ghost use Rattle.eip_route.specs.Nest.{case_numbers, catch_numbers, last_number, step_numbers};
 ghost use Rattle.eip_plan.specs.Plan.{outermost, route_around};
 
 use eip_route::{Block, Catch, Check, Route, RouteSet, Step};
@@ -50,7 +51,7 @@ fn is_last(last: Option<u32>, block: usize) -> bool
 }
 
 /// Whether this is the number of a block that stands in a step.
-#[tactic(auto, unfolding(eip_route::specs::Faults::step_numbers), using(crate::proofs::AnyNumber::any_one, crate::proofs::AnyNumber::any_both))]
+#[tactic(auto, unfolding(eip_route::specs::Nest::step_numbers), using(crate::proofs::AnyNumber::any_one, crate::proofs::AnyNumber::any_both))]
 fn is_in_step(step: &Step, number: usize) -> bool
     ensures { result ≡ list_any (λ i. eqb i number) (step_numbers step.now) }
 {

@@ -1,5 +1,5 @@
 -- In the steps that a file says, a batch's split stands in the block of its aggregator, and nowhere else.
-use Rattle.std.proofs.Common.{◌≡◌, Bool, true, false, cond, Option, Some, None, refl, sym, subst}
+use Rattle.std.proofs.Common.{◌≡◌, Bool, true, false, not, cond, ◌||◌, List, [], ◌∷◌, Option, Some, None, refl, sym, ap, subst}
 use Rattle.std.specs.Prelude.{unwrap_or}
 use Rattle.std.proofs.lemmas.Bool.{cond_both}
 use Rattle.eip_text.specs.Json.{Json, list, object, word, Items, no_items, item, Members, no_members, member}
@@ -12,10 +12,11 @@ use Rattle.eip_route_grammar.specs.Keys.{is_spelled}
 use Rattle.eip_route_grammar.specs.Objects.{value_at}
 use Rattle.eip_route_grammar.specs.declared.keys.Key.{Key}
 use Rattle.eip_route_grammar.specs.declared.keys.Key.TheVariants as key
-use Rattle.eip_route_values.specs.Nesting.{said, with_groups, followed, at_places, nest_at, nest_list, nest_steps, nest_step, nest_only, nest_value, nest_in, nest_inner, nest_branches_in, nest_branch_list, nest_branches, nest_each_in, nest_each_list, nest_each, nest_one_in}
-use Rattle.eip_route_values.specs.Parts.{how_given, strategy_given}
-use Rattle.eip_route_values.specs.Places.{places, step_key}
-use Rattle.eip_route_validity.specs.Fit.{is_parts, AreBatched, IsBatched, GroupsBatched}
+use Rattle.eip_route_values.specs.Nesting.{Said, bare, framed, said, with_groups, followed, at_places, nest_at, nest_list, nest_steps, nest_step, nest_only, nest_value, nest_in, nest_inner, nest_branches_in, nest_branch_list, nest_branches, nest_each_in, nest_each_list, nest_each, nest_one_in, places, step_key}
+use Rattle.eip_route_values.specs.Parts.{how_given, strategy_given, fan_in}
+use Rattle.eip_route_values.specs.declared.places.Place.{Place}
+use Rattle.eip_route_values.specs.declared.places.Place.TheVariants as place
+use Rattle.eip_route_validity.specs.Fit.{is_parts, gathers, AreBatched, IsBatched, GroupsBatched}
 use Rattle.eip_route_validity.proofs.fitting.Parts.{given_strategy}
 
 -- ---- one step
@@ -44,19 +45,57 @@ record InnerBatched (ms : Members) : Type 0 where
   each : (q : Key) → GroupsBatched false (nest_each_in q ms)
   one : (q : Key) → GroupsBatched false (nest_one_in q ms)
 
+-- an object that says no batch and gathers none
+abbrev is_plain : Said → Bool
+is_plain (bare s) = true
+is_plain (framed f) = not (is_parts f || gathers f)
+
+-- every key but that of a resequencer
+abbrev IsOther : Key → Type 0
+IsOther key.Resequence = ⊥
+IsOther _ = Unit {0}
+
+plain_said : (k : Key) (ms : Members) → IsOther k → is_plain (said k ms) ≡ true
+plain_said key.Split ms o = ap (λ (b : Bool). not (b || false)) (no_parts (value_at key.Tokenize ms) (fan_in ms))
+plain_said key.Aggregate ms o = ap not (no_batch (strategy_given (value_at key.AggregationStrategy ms)) (given_strategy (value_at key.AggregationStrategy ms)))
+plain_said key.Resequence ms o = absurd o
+plain_said _ ms o = refl
+
+neither : (a b : Bool) → not (a || b) ≡ true → (a ≡ false) × (b ≡ false)
+neither true b h = absurd cc
+neither false true h = absurd cc
+neither false false h = (refl, refl)
+
+said_batched : (s : Said) (gs : NestedGroups) → is_plain s ≡ true → GroupsBatched false gs → IsBatched (with_groups s gs)
+said_batched (bare s) gs p g = tt
+said_batched (framed f) gs p g =
+    let plain = neither (is_parts f) (gathers f) p in
+    (plain.0, subst (λ (b : Bool). GroupsBatched b gs) (sym plain.1) g)
+
+-- places of which none is a batch's
+abbrev are_plain : List Place → Bool
+are_plain [] = true
+are_plain (place.Batch ∷ ps) = false
+are_plain (_ ∷ ps) = are_plain ps
+
+plain_places : (k : Key) → IsOther k → are_plain (places k) ≡ true
+plain_places key.Resequence o = absurd o
+plain_places _ o = refl
+
+places_batched : (ms : Members) (ps : List Place) → InnerBatched ms → are_plain ps ≡ true → GroupsBatched false (at_places (nest_at ms) ps)
+places_batched ms [] i p = tt
+places_batched ms (place.Steps ∷ ps) i p = (i.steps, places_batched ms ps i p)
+places_batched ms (place.Branches ∷ ps) i p = followed_batched (nest_branches_in ms) (at_places (nest_at ms) ps) i.branches (places_batched ms ps i p)
+places_batched ms (place.Each q ∷ ps) i p = followed_batched (nest_each_in q ms) (at_places (nest_at ms) ps) (i.each q) (places_batched ms ps i p)
+places_batched ms (place.One q ∷ ps) i p = followed_batched (nest_one_in q ms) (at_places (nest_at ms) ps) (i.one q) (places_batched ms ps i p)
+places_batched ms (place.Batch ∷ ps) i p = absurd cc
+
+other_batched : (k : Key) (ms : Members) → IsOther k → InnerBatched ms → IsBatched (with_groups (said k ms) (at_places (nest_at ms) (places k)))
+other_batched k ms o i = said_batched (said k ms) (at_places (nest_at ms) (places k)) (plain_said k ms o) (places_batched ms (places k) i (plain_places k o))
+
 object_batched : (k : Key) (ms : Members) → InnerBatched ms → IsBatched (with_groups (said k ms) (at_places (nest_at ms) (places k)))
-object_batched key.Choice ms i = (refl, followed_batched (nest_each_in key.When ms) (followed (nest_one_in key.Otherwise ms) no_group) (i.each key.When) (followed_batched (nest_one_in key.Otherwise ms) no_group (i.one key.Otherwise) tt))
-object_batched key.Filter ms i = (refl, (i.steps, tt))
-object_batched key.Split ms i = (no_parts (value_at key.Tokenize ms) _, (i.steps, tt))
-object_batched key.Multicast ms i = (refl, followed_batched (nest_branches_in ms) no_group i.branches tt)
-object_batched key.Aggregate ms i =
-    let other = no_batch (strategy_given (value_at key.AggregationStrategy ms)) (given_strategy (value_at key.AggregationStrategy ms)) in
-    (refl, subst (λ (b : Bool). GroupsBatched b (group (nest_in ms) no_group)) (sym other) (i.steps, tt))
-object_batched key.IdempotentConsumer ms i = (refl, (i.steps, tt))
-object_batched key.DoTry ms i =
-    (refl, (i.steps, followed_batched (nest_each_in key.DoCatch ms) (followed (nest_one_in key.DoFinally ms) no_group) (i.each key.DoCatch) (followed_batched (nest_one_in key.DoFinally ms) no_group (i.one key.DoFinally) tt)))
 object_batched key.Resequence ms i = (refl, (refl, i.steps))
-object_batched _ ms i = tt
+object_batched k ms i = other_batched k ms tt i
 
 -- ---- nested
 

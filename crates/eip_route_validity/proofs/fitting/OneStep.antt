@@ -27,15 +27,14 @@ use Rattle.eip_route_grammar.specs.declared.table.Rule.TheVariants as rule
 use Rattle.eip_route_grammar.specs.declared.table.Shape.TheVariants as shape
 use Rattle.eip_route_validity.specs.Fit.{TemplateFits, Registered, ChecksFit, CheckFits, MayCheckFit, CatchFits, CatchesFit, GatheringFits, AnyGatheringFits, Inside, LeafFits, HasGroup, AreBranches, FrameHolds, StepsFit, StepFits, GroupsFit}
 use Rattle.eip_route_values.specs.Leaves.{text_given, members_given, exceptions_given}
-use Rattle.eip_route_values.specs.Nesting.{said, text_said, with_groups, followed, at_places, nest_at, case_check, checks_of, items_given, checks_in, catching_in, catching_of, catchings_of, catchings_in, nest_in, nest_branches_in, nest_each_in, nest_each_list, nest_each, nest_one_in, nest_inner}
+use Rattle.eip_route_values.specs.Nesting.{said, text_said, with_groups, followed, at_places, nest_at, case_check, checks_of, items_given, checks_in, catching_in, catching_of, catchings_of, catchings_in, nest_in, nest_branches_in, nest_each_in, nest_each_list, nest_each, nest_one_in, nest_inner, places}
 use Rattle.eip_route_values.specs.Parts.{template, check_in, fan_in, how_given, gathering_in, batch_size, batch_timeout, order_key_in}
-use Rattle.eip_route_values.specs.Places.{places}
 use Rattle.eip_route_validity.proofs.fitting.Faultless.{IsFaultless, WordFits, ObjectFits, fits, first_item}
 use Rattle.eip_route_validity.proofs.fitting.Keyed.{HasRow, value_fits, with_must, with_may}
 use Rattle.eip_route_validity.proofs.fitting.Values.{IsTextRule, IsForObjects, with_object, for_case, for_nested, for_catch, for_when, IsForLists, with_list, with_text_or_object}
 use Rattle.eip_route_validity.proofs.fitting.Tables.{value_values, named_values, recipients_values, idempotent_values, case_checks, when_checks}
 use Rattle.eip_route_validity.proofs.fitting.StepTables as tables
-use Rattle.eip_route_validity.proofs.fitting.StepKinds.{step_kind, IsStepKey}
+use Rattle.eip_route_validity.proofs.fitting.StepTables.{step_kind, IsStepKey}
 use Rattle.eip_route_validity.proofs.fitting.Endpoints.{target_fits}
 use Rattle.eip_route_validity.proofs.fitting.Leaves.{template_word, template_leaf, name_word, name_leaf, given_name, given_repository, exceptions_filled, registered_word, processor_leaf, thrown_leaf, given_delimiter}
 use Rattle.eip_route_validity.proofs.fitting.Parts.{how_fits, fan_fits, expr_fits, check_fits, target_in}

@@ -25,7 +25,8 @@ use Rattle.eip_route_validity.proofs.fitting.Faultless.{IsFaultless, fits, first
 use Rattle.eip_route_validity.proofs.fitting.Keyed.{HasRow, row_of_key, must_be_there}
 use Rattle.eip_route_validity.proofs.fitting.Values.{IsForObjects, with_object, IsForLists, with_list}
 use Rattle.eip_route_validity.proofs.fitting.StepTables as tables
-use Rattle.eip_route_validity.proofs.fitting.StepKinds.{step_kind, IsStepKey, step_is}
+use Rattle.eip_route_validity.proofs.fitting.StepTables.{step_kind, IsStepKey}
+use Rattle.eip_route_validity.proofs.fitting.StepKinds.{step_is}
 use Rattle.eip_route_validity.proofs.fitting.OneStep.{IsHolder, AreHolders, step_keyed, step_value, text_step_fits, object_step_fits}
 
 -- ---- values of other forms

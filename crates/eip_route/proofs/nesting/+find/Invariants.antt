@@ -1,5 +1,6 @@
 use Rattle.std.proofs.Common.{◌≡◌, ℕ, ◌+◌, ◌*◌, drop}
-use Rattle.eip_route.specs.Faults.{first_some, found, case_numbers, catch_numbers, steps_numbers}
+use Rattle.eip_route.specs.Faults.{first_some, found, steps_numbers}
+use Rattle.eip_route.specs.Nest.{case_numbers, catch_numbers}
 use Rattle.eip_route.specs.declared.nesting.Wanted.{Wanted}
 use Rattle.eip_route.specs.declared.nesting.Wanted.TheVariants.{Bad, Deep}
 use Rattle.eip_route.proofs.nesting.+find.Given as goal

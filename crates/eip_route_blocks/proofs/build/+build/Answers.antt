@@ -3,15 +3,14 @@ use Rattle.std.proofs.lemmas.List.{at_drop_more}
 use Rattle.eip_text.proofs.Levels.{json_object}
 use Rattle.eip_text.specs.Json.{json, members_json, object}
 use Rattle.eip_route.specs.Nest.{flat_step, flat_groups}
-use Rattle.eip_route_values.specs.Nesting.{said, with_groups, at_places, nest_at, nest_value}
-use Rattle.eip_route_values.specs.Places.{places}
+use Rattle.eip_route_values.specs.Nesting.{said, with_groups, places, at_places, nest_at, nest_value}
 use Rattle.eip_route_values.specs.declared.places.Place.TheVariants as place
 use Rattle.eip_route_blocks.proofs.Appended as appended
 use Rattle.eip_route_blocks.proofs.Groups.{object_built, placed, value_said}
 use Rattle.eip_route_blocks.proofs.build.+build.Goals as goal
 
 pub build_object-returns : goal.build_object-returns
-build_object-returns t c = object_built c.args.n c.args.key (members_json c.args.members.now) c.of.result.now _ _ _ c.of.ensures c.in_ok-numbers.ensures c.in_ok-step.ensures
+build_object-returns t c = object_built c.args.n c.args.key (members_json c.args.members.now) c.places_of.result.now _ _ _ c.places_of.ensures c.in_ok-numbers.ensures c.in_ok-step.ensures
 
 pub build_places-loop-place-preserved : goal.build_places-loop-place-preserved
 build_places-loop-place-preserved t c =

@@ -1,5 +1,5 @@
 use Rattle.std.proofs.Common.{◌≡◌, ◌++◌, drop}
-use Rattle.eip_route.specs.Faults.{case_numbers}
+use Rattle.eip_route.specs.Nest.{case_numbers}
 use Rattle.eip_route_canonical.proofs.steps.push_cases.Given as goal
 
 abbrev pub invariant-loop-block : goal.invariant-loop-block

@@ -1,5 +1,5 @@
 use Rattle.std.proofs.Common.{◌≡◌, ◌++◌, drop}
-use Rattle.eip_route.specs.Faults.{catch_numbers}
+use Rattle.eip_route.specs.Nest.{catch_numbers}
 use Rattle.eip_route_canonical.proofs.steps.push_catches.Given as goal
 
 abbrev pub invariant-loop-catch : goal.invariant-loop-catch

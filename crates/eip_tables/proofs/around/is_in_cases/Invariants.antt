@@ -1,6 +1,6 @@
 use Rattle.std.proofs.Common.{◌≡◌, eqb, drop}
 use Rattle.std.specs.List.{list_any}
-use Rattle.eip_route.specs.Faults.{case_numbers}
+use Rattle.eip_route.specs.Nest.{case_numbers}
 use Rattle.eip_tables.proofs.around.is_in_cases.Given as goal
 
 abbrev pub invariant-loop-case : goal.invariant-loop-case

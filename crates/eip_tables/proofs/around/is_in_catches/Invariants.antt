@@ -1,6 +1,6 @@
 use Rattle.std.proofs.Common.{◌≡◌, eqb, drop}
 use Rattle.std.specs.List.{list_any}
-use Rattle.eip_route.specs.Faults.{catch_numbers}
+use Rattle.eip_route.specs.Nest.{catch_numbers}
 use Rattle.eip_tables.proofs.around.is_in_catches.Given as goal
 
 abbrev pub invariant-loop-catch : goal.invariant-loop-catch

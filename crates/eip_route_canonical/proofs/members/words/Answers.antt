@@ -5,7 +5,7 @@ use Rattle.eip_route_canonical.proofs.Loops.{pushed, all_pushed}
 use Rattle.eip_route_canonical.proofs.Objects.{list_tree}
 use Rattle.eip_route_canonical.specs.Canonical.{list_of, words}
 use Rattle.eip_route_canonical.specs.Trees.{values_of}
-use Rattle.eip_route_canonical.proofs.parts.words.Goals as goal
+use Rattle.eip_route_canonical.proofs.members.words.Goals as goal
 
 pub loop-text-preserved : goal.loop-text-preserved
 loop-text-preserved c =

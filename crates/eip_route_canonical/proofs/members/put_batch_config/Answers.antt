@@ -1,7 +1,7 @@
 use Rattle.std.proofs.Common.{◌≡◌, ◌++◌, OnOk, codes, subst}
 use Rattle.eip_route_canonical.specs.Canonical.{Pairs, where_any}
 use Rattle.eip_route_canonical.specs.Trees.{made}
-use Rattle.eip_route_canonical.proofs.parts.put_batch_config.Goals as goal
+use Rattle.eip_route_canonical.proofs.members.put_batch_config.Goals as goal
 
 pub returns : goal.returns
 returns c =
