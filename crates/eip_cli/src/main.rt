@@ -2,16 +2,13 @@
 #![tactic(auto)]
 
 mod answer;
-mod doors;
-mod objects;
 
 use answer::answer;
-use doors::Wiping;
+use eip_doors::{Wiping, handed_in, patterns};
 use eip_host::{
     HostFileSystem, HostFiles, HostNetwork, Output, Progress, ReaderLink, SharedProgress, words_of,
 };
 use eip_peers::PeerLink;
-use objects::{handed_in, patterns};
 use std::env;
 use std::io::{IsTerminal, Stderr};
 use std::process::ExitCode;
@@ -36,6 +33,7 @@ fn main(rt: HostRuntime) -> ExitCode {
     let heard = PeerLink::new(alloc, HostNetwork::new(alloc, rt));
     let progress = progress(rt);
     answer(
+        &rt,
         alloc,
         words_of(alloc, env::args(&rt)),
         handed_in(alloc, input, (written, taken), (called, heard), &progress),

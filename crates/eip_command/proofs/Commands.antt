@@ -1,7 +1,7 @@
 -- Words that are a command are those of that command.
 use Rattle.std.proofs.Common.{◌≡◌, ℕ, ◌≤◌, Bool, true, false, cond, List, [], ◌∷◌, Option, Some, None, refl, sym, ap, ◌∙◌, arith, codes, drop, subst}
 use Rattle.std.specs.Prelude.{nat_le, unwrap_or}
-use Rattle.std.specs.Fmt.{digits, decimal}
+use Rattle.std.specs.Fmt.{decimal}
 use Rattle.std.proofs.lemmas.Bool.{and_parts, leb-true}
 use Rattle.std.proofs.lemmas.Option.{same_Some}
 use Rattle.std.specs.Str.{bytes_eq}
@@ -12,11 +12,11 @@ use Rattle.eip_text.proofs.Cutting.{guarded}
 use Rattle.eip_command.specs.declared.words.Command.{Command}
 use Rattle.eip_command.specs.declared.words.Command.TheVariants as command
 use Rattle.eip_command.specs.declared.words.Verb.TheVariants as verb
-use Rattle.eip_command.specs.Forms.{Options, is_path, is_between, fits, are_pairs, follow}
+use Rattle.eip_command.specs.Forms.{Options, is_path, is_between, fits, value_of, are_pairs, follow}
 use Rattle.eip_command.specs.declared.forms.Rule.TheVariants as rule
-use Rattle.eip_command.specs.Words.{drain_options, turns_in, journal_in, items_in, command_by, file_at, first_file, second_file, command_of, IsOn, IsOnTwo, SaysOptions, IsDrain, IsLoad, IsCommand, IsFile}
+use Rattle.eip_command.specs.Words.{drain_options, workers_in, turns_in, journal_in, first_count, second_count, command_by, file_at, first_file, second_file, command_of, IsOn, IsOnTwo, IsDrain, IsLoad, IsCommand, IsFile}
 use Rattle.eip_command.proofs.Paths.{file_is}
-use Rattle.eip_command.proofs.Said.{Says, options-said}
+use Rattle.eip_command.proofs.Said.{Says, said-or, workers_said, turns_said, options-said}
 
 -- ---- the words are those of the command
 
@@ -46,16 +46,20 @@ is-on first word behind words e is = record {
 }
 
 is-drain : (word : List ℕ) (words : List (List ℕ)) → bytes_eq (codes "drain") word ≡ true → follow (rule.Path ∷ []) drain_options words ≡ true
-    → IsDrain (word ∷ words) (first_file words) (turns_in (drop 1 words)) (journal_in (drop 1 words))
+    → IsDrain (word ∷ words) (first_file words) (workers_in (drop 1 words)) (turns_in (drop 1 words)) (journal_in (drop 1 words))
 is-drain word words e h =
     let p = one-path drain_options words h in
     let same : drop 1 words ≡ p.0 = ap (λ (ws : List (List ℕ)). drop 1 ws) p.1.said in
-    let t : Says (drop 1 words) (turns_in (drop 1 words)) (journal_in (drop 1 words)) =
-    subst (λ (ws : List (List ℕ)). Says ws (turns_in ws) (journal_in ws)) (sym same) (options-said p.0 p.2) in
+    let t : Says (drop 1 words) = subst Says (sym same) (options-said p.0 p.2) in
     record {
-      behind = p.0;
-      on = is-on (codes "drain") word p.0 words e p.1;
-      says = subst (λ (ws : List (List ℕ)). SaysOptions ws (turns_in (drop 1 words)) (journal_in (drop 1 words))) same t.says;
+      behind = drop 1 words;
+      on = subst (λ (ws : List (List ℕ)). IsOn (codes "drain") ws (word ∷ words) (first_file words)) (sym same) (is-on (codes "drain") word p.0 words e p.1);
+      workers_named = workers_said (drop 1 words);
+      turns_named = turns_said (drop 1 words);
+      names = t.names;
+      workers_are = said-or 0 (value_of (codes "--workers") (drop 1 words));
+      turns_are = said-or 100000 (value_of (codes "--turns") (drop 1 words));
+      few = t.few;
       some = t.some;
       most = t.most;
     }
@@ -86,15 +90,12 @@ is-on-two first word words e h =
     let p = two-paths words h in
     record { path = p.0; on = is-on first word (p.0 ∷ []) words e p.1; fit = p.2; file = subst (IsFile p.0) (sym p.3) (file_is p.0) }
 
-zero-digit : decimal 0 ≡ codes "0"
-unfolding digits
-zero-digit = refl
-
 -- a load's number of items, and of workers
 record IsLoadOf (words : List (List ℕ)) : Type 0 where
-  pub said : words ≡ decimal (items_in words) ∷ (codes "0" ∷ [])
-  pub some : 1 ≤ items_in words
-  pub most : items_in words ≤ 20000
+  pub said : words ≡ decimal (first_count words) ∷ (decimal (second_count words) ∷ [])
+  pub some : 1 ≤ first_count words
+  pub most : first_count words ≤ 20000
+  pub few : second_count words ≤ 16
 
 -- a word that is a number from the first to the second is its decimal text
 counted : (least most : ℕ) (word : List ℕ) → fits (rule.Count least most) word ≡ true → (n : ℕ) × (count_of word ≡ Some n) × (word ≡ decimal n) × (least ≤ n) × (n ≤ most)
@@ -107,33 +108,36 @@ counted least most word h = by_count (count_of word) refl h
         let both = and_parts (nat_le least n) (nat_le n most) f in
         (n, e, (count_is word n e).1, leb-true least n both.0, leb-true n most both.1)
 
-two-counts : (words : List (List ℕ)) → follow (rule.Count 1 20000 ∷ rule.Count 0 0 ∷ []) [] words ≡ true → IsLoadOf words
+two-counts : (words : List (List ℕ)) → follow (rule.Count 1 20000 ∷ rule.Count 0 16 ∷ []) [] words ≡ true → IsLoadOf words
 two-counts [] h = absurd (cc h)
 two-counts (word ∷ []) h = absurd (cc (and_parts (fits (rule.Count 1 20000) word) false h).1)
 two-counts (word ∷ (workers ∷ rest)) h =
     let first = and_parts (fits (rule.Count 1 20000) word) _ h in
-    let second = and_parts (fits (rule.Count 0 0) workers) _ first.1 in
+    let second = and_parts (fits (rule.Count 0 16) workers) _ first.1 in
     let n = counted 1 20000 word first.0 in
-    let m = counted 0 0 workers second.0 in
-    let items : items_in (word ∷ (workers ∷ rest)) ≡ n.0 = ap (λ (o : Option ℕ). unwrap_or o 0) n.1 in
-    let none : m.0 ≡ 0 = omega (arith, m.4) in
-    let zero_word : workers ≡ codes "0" = m.2 ∙ ap decimal none ∙ zero-digit in
+    let m = counted 0 16 workers second.0 in
+    let items : first_count (word ∷ (workers ∷ rest)) ≡ n.0 = ap (λ (o : Option ℕ). unwrap_or o 0) n.1 in
+    let hands : second_count (word ∷ (workers ∷ rest)) ≡ m.0 = ap (λ (o : Option ℕ). unwrap_or o 0) m.1 in
+    let items_word : word ≡ decimal (first_count (word ∷ (workers ∷ rest))) = n.2 ∙ ap decimal (sym items) in
+    let hands_word : workers ≡ decimal (second_count (word ∷ (workers ∷ rest))) = m.2 ∙ ap decimal (sym hands) in
     record {
-      said = ap (λ (w : List ℕ). w ∷ (workers ∷ rest)) (n.2 ∙ ap decimal (sym items))
-          ∙ ap (λ (w : List ℕ). decimal (items_in (word ∷ (workers ∷ rest))) ∷ (w ∷ rest)) zero_word
-          ∙ ap (λ (ws : List (List ℕ)). decimal (items_in (word ∷ (workers ∷ rest))) ∷ (codes "0" ∷ ws)) (no-pairs rest second.1);
+      said = ap (λ (w : List ℕ). w ∷ (workers ∷ rest)) items_word
+          ∙ ap (λ (w : List ℕ). decimal (first_count (word ∷ (workers ∷ rest))) ∷ (w ∷ rest)) hands_word
+          ∙ ap (λ (ws : List (List ℕ)). decimal (first_count (word ∷ (workers ∷ rest))) ∷ (decimal (second_count (word ∷ (workers ∷ rest))) ∷ ws)) (no-pairs rest second.1);
       some = omega (arith, items, n.3);
       most = omega (arith, items, n.4);
+      few = omega (arith, hands, m.4);
     }
 
-is-load : (word : List ℕ) (words : List (List ℕ)) → bytes_eq (codes "load") word ≡ true → follow (rule.Count 1 20000 ∷ rule.Count 0 0 ∷ []) [] words ≡ true
-    → IsLoad (word ∷ words) (items_in words)
+is-load : (word : List ℕ) (words : List (List ℕ)) → bytes_eq (codes "load") word ≡ true → follow (rule.Count 1 20000 ∷ rule.Count 0 16 ∷ []) [] words ≡ true
+    → IsLoad (word ∷ words) (first_count words) (second_count words)
 is-load word words e h =
     let p = two-counts words h in
     record {
       said = ap (λ (w : List ℕ). w ∷ words) (sym ((bytes_eq-Decides (codes "load") word).0 e)) ∙ ap (λ (ws : List (List ℕ)). codes "load" ∷ ws) p.said;
       some = p.some;
       most = p.most;
+      few = p.few;
     }
 
 asked-by : (b d a l m : Bool) (word : List ℕ) (words : List (List ℕ)) (c : Command) → bytes_eq (codes "drain") word ≡ b → bytes_eq (codes "check") word ≡ d
@@ -141,7 +145,7 @@ asked-by : (b d a l m : Bool) (word : List ℕ) (words : List (List ℕ)) (c : C
     → command_by (cond b (Some verb.Drain) (cond d (Some verb.Check) (cond a (Some verb.Audit) (cond l (Some verb.Load) (cond m (Some verb.Migrate) None))))) words ≡ Some c
     → IsCommand (word ∷ words) c
 asked-by true d a l m word words c is_drain is_check is_audit is_load is_move e =
-    let made : Command = command.Drain (first_file words) (turns_in (drop 1 words)) (journal_in (drop 1 words)) in
+    let made : Command = command.Drain (first_file words) (workers_in (drop 1 words)) (turns_in (drop 1 words)) (journal_in (drop 1 words)) in
     let g = guarded (follow (rule.Path ∷ []) drain_options words) (Some made) c e in
     subst (IsCommand (word ∷ words)) (same_Some made c g.1) (is-drain word words is_drain g.0)
 asked-by false true a l m word words c is_drain is_check is_audit is_load is_move e =
@@ -153,8 +157,8 @@ asked-by false false true l m word words c is_drain is_check is_audit is_load is
     let g = guarded (follow (rule.Path ∷ rule.Path ∷ []) [] words) (Some made) c e in
     subst (IsCommand (word ∷ words)) (same_Some made c g.1) (is-on-two (codes "audit") word words is_audit g.0)
 asked-by false false false true m word words c is_drain is_check is_audit is_load is_move e =
-    let made : Command = command.Load (items_in words) in
-    let g = guarded (follow (rule.Count 1 20000 ∷ rule.Count 0 0 ∷ []) [] words) (Some made) c e in
+    let made : Command = command.Load (first_count words) (second_count words) in
+    let g = guarded (follow (rule.Count 1 20000 ∷ rule.Count 0 16 ∷ []) [] words) (Some made) c e in
     subst (IsCommand (word ∷ words)) (same_Some made c g.1) (is-load word words is_load g.0)
 asked-by false false false false true word words c is_drain is_check is_audit is_load is_move e =
     let made : Command = command.Migrate (first_file words) (second_file words) in

@@ -110,7 +110,7 @@ row-zero_in_front = refl
 pub row-no_value : admits run_form (codes "r.json" ∷ codes "--turns" ∷ []) ≡ false
 row-no_value = refl
 
-pub row-unknown : admits run_form (codes "r.json" ∷ codes "--workers" ∷ codes "5" ∷ []) ≡ false
+pub row-unknown : admits run_form (codes "r.json" ∷ codes "--limit" ∷ codes "5" ∷ []) ≡ false
 row-unknown = refl
 
 pub row-in_front : admits run_form (codes "--turns" ∷ codes "5" ∷ codes "r.json" ∷ []) ≡ false

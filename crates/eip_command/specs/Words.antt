@@ -37,14 +37,14 @@ file_at bs = record { folder = folder_of bs; name = name_of bs }
 
 -- the options of a drain
 abbrev pub drain_options : Options
-drain_options = (codes "--turns", rule.Count 1 1000000) ∷ (codes "--journal", rule.Path) ∷ []
+drain_options = (codes "--workers", rule.Count 0 16) ∷ (codes "--turns", rule.Count 1 1000000) ∷ (codes "--journal", rule.Path) ∷ []
 
 -- the form of each
 abbrev pub form : Verb → CommandForm
 form verb.Drain = record { word = codes "drain"; operands = rule.Path ∷ []; options = drain_options }
 form verb.Check = record { word = codes "check"; operands = rule.Path ∷ []; options = [] }
 form verb.Audit = record { word = codes "audit"; operands = rule.Path ∷ rule.Path ∷ []; options = [] }
-form verb.Load = record { word = codes "load"; operands = rule.Count 1 20000 ∷ rule.Count 0 0 ∷ []; options = [] }
+form verb.Load = record { word = codes "load"; operands = rule.Count 1 20000 ∷ rule.Count 0 16 ∷ []; options = [] }
 form verb.Migrate = record { word = codes "migrate"; operands = rule.Path ∷ rule.Path ∷ []; options = [] }
 
 abbrev pub verbs : List Verb
@@ -68,33 +68,47 @@ abbrev pub second_file : List (List ℕ) → Path
 second_file [] = file_at []
 second_file (path ∷ words) = first_file words
 
+-- the number of workers of a drain whose words name none: without any it runs on the caller's own thread
+abbrev pub default_workers : ℕ
+default_workers = 0
+
 -- the limit on turns of a drain whose words name none
 abbrev pub default_turns : ℕ
 default_turns = 100000
 
-abbrev pub turns_or : Option (List ℕ) → ℕ
-turns_or None = default_turns
-turns_or (Some value) = unwrap_or (count_of value) default_turns
+-- the number that the value of an option is, or this one where the option isn't given
+abbrev pub count_or : ℕ → Option (List ℕ) → ℕ
+count_or otherwise None = otherwise
+count_or otherwise (Some value) = unwrap_or (count_of value) otherwise
 
--- the limit on turns that the options of a drain name
+-- the number of workers that the options of a drain name
+abbrev pub workers_in : List (List ℕ) → ℕ
+workers_in options = count_or default_workers (value_of (codes "--workers") options)
+
+-- the limit on turns that they name
 abbrev pub turns_in : List (List ℕ) → ℕ
-turns_in options = turns_or (value_of (codes "--turns") options)
+turns_in options = count_or default_turns (value_of (codes "--turns") options)
 
 -- the file that the options of a drain name for its journal
 abbrev pub journal_in : List (List ℕ) → Option Path
 journal_in options = option_map file_at (value_of (codes "--journal") options)
 
--- how many items the first of the words behind `load` names
-abbrev pub items_in : List (List ℕ) → ℕ
-items_in [] = 0
-items_in (word ∷ words) = unwrap_or (count_of word) 0
+-- the number that the first of the words behind a verb names
+abbrev pub first_count : List (List ℕ) → ℕ
+first_count [] = 0
+first_count (word ∷ words) = unwrap_or (count_of word) 0
+
+-- and the second
+abbrev pub second_count : List (List ℕ) → ℕ
+second_count [] = 0
+second_count (word ∷ words) = first_count words
 
 -- what a verb asks for, with these words behind it
 abbrev pub asked : Verb → List (List ℕ) → Command
-asked verb.Drain words = command.Drain (first_file words) (turns_in (drop 1 words)) (journal_in (drop 1 words))
+asked verb.Drain words = command.Drain (first_file words) (workers_in (drop 1 words)) (turns_in (drop 1 words)) (journal_in (drop 1 words))
 asked verb.Check words = command.Check (first_file words)
 asked verb.Audit words = command.Audit (first_file words) (second_file words)
-asked verb.Load words = command.Load (items_in words)
+asked verb.Load words = command.Load (first_count words) (second_count words)
 asked verb.Migrate words = command.Migrate (first_file words) (second_file words)
 
 abbrev pub command_by : Option Verb → List (List ℕ) → Option Command
@@ -108,19 +122,27 @@ command_of (word ∷ words) = command_by (verb_of word) words
 
 -- the path of the route file that a command names; the routes of a load are built in, and a migration has none
 abbrev pub path_in : Command → Option Path
-path_in (command.Drain routes turns journal) = Some routes
+path_in (command.Drain routes workers turns journal) = Some routes
 path_in (command.Check routes) = Some routes
 path_in (command.Audit routes journal) = Some routes
-path_in (command.Load items) = None
+path_in (command.Load items workers) = None
 path_in (command.Migrate old new) = None
 
 -- the file that a command names for the journal of its run
 abbrev pub journal_of : Command → Option Path
-journal_of (command.Drain routes turns journal) = journal
+journal_of (command.Drain routes workers turns journal) = journal
 journal_of (command.Check routes) = None
 journal_of (command.Audit routes journal) = None
-journal_of (command.Load items) = None
+journal_of (command.Load items workers) = None
 journal_of (command.Migrate old new) = None
+
+-- by how many workers a command runs its routes
+abbrev pub workers_of : Command → ℕ
+workers_of (command.Drain routes workers turns journal) = workers
+workers_of (command.Check routes) = 0
+workers_of (command.Audit routes journal) = 0
+workers_of (command.Load items workers) = workers
+workers_of (command.Migrate old new) = 0
 
 -- ---- the same said without cutting
 
@@ -148,58 +170,56 @@ pub record IsOnTwo (first : List ℕ) (words : List (List ℕ)) (one other : Pat
   pub fit : is_path path ≡ true
   pub file : IsFile path other
 
--- an option and its value say the limit on turns
-pub record SaysTurns (word value : List ℕ) (turns : ℕ) : Type 0 where
-  pub is : word ≡ codes "--turns"
-  pub count : count_of value ≡ Some turns
+-- options in any order, each once at most, that name a number of workers, a limit on turns and a file for the journal; none of what isn't given
+pub data Names : List (List ℕ) → (workers turns : Option ℕ) → (journal : Option Path) → Type 0 where
+  NamesNothing : Names [] None None None
+  NamesWorkers : (value : List ℕ) (n : ℕ) (behind : List (List ℕ)) (turns : Option ℕ) (journal : Option Path) → count_of value ≡ Some n
+      → Names behind None turns journal → Names (codes "--workers" ∷ (value ∷ behind)) (Some n) turns journal
+  NamesTurns : (value : List ℕ) (n : ℕ) (behind : List (List ℕ)) (workers : Option ℕ) (journal : Option Path) → count_of value ≡ Some n
+      → Names behind workers None journal → Names (codes "--turns" ∷ (value ∷ behind)) workers (Some n) journal
+  NamesJournal : (value : List ℕ) (file : Path) (behind : List (List ℕ)) (workers turns : Option ℕ) → is_path value ≡ true → IsFile value file
+      → Names behind workers turns None → Names (codes "--journal" ∷ (value ∷ behind)) workers turns (Some file)
 
--- an option and its value say the file of the journal
-pub record SaysJournal (word value : List ℕ) (journal : Option Path) : Type 0 where
-  pub is : word ≡ codes "--journal"
-  pub fit : is_path value ≡ true
-  pub file : Path
-  pub named : journal ≡ Some file
-  pub at : IsFile value file
-
--- the words are no option, one, or both in one of two orders; where none says the limit on turns it is 100,000
-abbrev pub SaysOptions : List (List ℕ) → ℕ → Option Path → Type 0
-SaysOptions [] turns journal = (turns ≡ 100000) × (journal ≡ None)
-SaysOptions (word ∷ (value ∷ [])) turns journal =
-    (SaysTurns word value turns × (journal ≡ None)) ⊎ ((turns ≡ 100000) × SaysJournal word value journal)
-SaysOptions (word ∷ (value ∷ (other ∷ (behind ∷ [])))) turns journal =
-    (SaysTurns word value turns × SaysJournal other behind journal) ⊎ (SaysJournal word value journal × SaysTurns other behind turns)
-SaysOptions _ turns journal = ⊥
-
--- the words are those of a drain
-pub record IsDrain (words : List (List ℕ)) (routes : Path) (turns : ℕ) (journal : Option Path) : Type 0 where
+-- the words are those of a drain: where they name no workers there are none, and where they name no limit on turns it is 100,000
+pub record IsDrain (words : List (List ℕ)) (routes : Path) (workers turns : ℕ) (journal : Option Path) : Type 0 where
   pub behind : List (List ℕ)
   pub on : IsOn (codes "drain") behind words routes
-  pub says : SaysOptions behind turns journal
+  pub workers_named : Option ℕ
+  pub turns_named : Option ℕ
+  pub names : Names behind workers_named turns_named journal
+  pub workers_are : workers ≡ unwrap_or workers_named 0
+  pub turns_are : turns ≡ unwrap_or turns_named 100000
+  pub few : workers ≤ 16
   pub some : 1 ≤ turns
   pub most : turns ≤ 1000000
 
--- the words are those of a load of so many items, without workers
-pub record IsLoad (words : List (List ℕ)) (items : ℕ) : Type 0 where
-  pub said : words ≡ codes "load" ∷ (decimal items ∷ (codes "0" ∷ []))
+-- the words are those of a load of so many items, with so many workers
+pub record IsLoad (words : List (List ℕ)) (items workers : ℕ) : Type 0 where
+  pub said : words ≡ codes "load" ∷ (decimal items ∷ (decimal workers ∷ []))
   pub some : 1 ≤ items
   pub most : items ≤ 20000
+  pub few : workers ≤ 16
 
 -- the words are those of the command
 abbrev pub IsCommand : List (List ℕ) → Command → Type 0
-IsCommand words (command.Drain routes turns journal) = IsDrain words routes turns journal
+IsCommand words (command.Drain routes workers turns journal) = IsDrain words routes workers turns journal
 IsCommand words (command.Check routes) = IsOn (codes "check") [] words routes
 IsCommand words (command.Audit routes journal) = IsOnTwo (codes "audit") words routes journal
-IsCommand words (command.Load items) = IsLoad words items
+IsCommand words (command.Load items workers) = IsLoad words items workers
 IsCommand words (command.Migrate old new) = IsOnTwo (codes "migrate") words old new
 
 -- ---- worked rows
 
 abbrev pub drained : List ℕ → List ℕ → Option Command
-drained folder name = Some (command.Drain (record { folder = folder; name = name }) 100000 None)
+drained folder name = Some (command.Drain (record { folder = folder; name = name }) 0 100000 None)
 
 -- the routes are those of `r.json`
 abbrev pub drained_here : ℕ → Option Path → Option Command
-drained_here turns journal = Some (command.Drain (record { folder = codes "."; name = codes "r.json" }) turns journal)
+drained_here turns journal = Some (command.Drain (record { folder = codes "."; name = codes "r.json" }) 0 turns journal)
+
+-- and so many workers run them
+abbrev pub drained_by : ℕ → ℕ → Option Path → Option Command
+drained_by workers turns journal = Some (command.Drain (record { folder = codes "."; name = codes "r.json" }) workers turns journal)
 
 -- the words behind `drain r.json`
 abbrev pub drained_with : List (List ℕ) → Option Command
@@ -247,6 +267,46 @@ pub row-turns_twice : drained_with (codes "--turns" ∷ codes "5" ∷ codes "--t
 unfolding count_of digits
 row-turns_twice = refl
 
+pub row-workers : drained_with (codes "--workers" ∷ codes "4" ∷ []) ≡ drained_by 4 100000 None
+unfolding count_of digits
+row-workers = refl
+
+pub row-most_workers : drained_with (codes "--workers" ∷ codes "16" ∷ []) ≡ drained_by 16 100000 None
+unfolding count_of digits
+row-most_workers = refl
+
+pub row-too_many_workers : drained_with (codes "--workers" ∷ codes "17" ∷ []) ≡ None
+unfolding count_of digits
+row-too_many_workers = refl
+
+pub row-no_worker : drained_with (codes "--workers" ∷ codes "0" ∷ []) ≡ drained_here 100000 None
+unfolding count_of digits
+row-no_worker = refl
+
+pub row-worker_with_zero_in_front : drained_with (codes "--workers" ∷ codes "01" ∷ []) ≡ None
+unfolding count_of digits
+row-worker_with_zero_in_front = refl
+
+pub row-workers_twice : drained_with (codes "--workers" ∷ codes "1" ∷ codes "--workers" ∷ codes "1" ∷ []) ≡ None
+unfolding count_of digits
+row-workers_twice = refl
+
+pub row-workers_in_front : drained_with (codes "--workers" ∷ codes "2" ∷ codes "--turns" ∷ codes "5" ∷ []) ≡ drained_by 2 5 None
+unfolding count_of digits
+row-workers_in_front = refl
+
+pub row-workers_behind : drained_with (codes "--turns" ∷ codes "5" ∷ codes "--workers" ∷ codes "2" ∷ []) ≡ drained_by 2 5 None
+unfolding count_of digits
+row-workers_behind = refl
+
+pub row-all_options : drained_with (codes "--journal" ∷ codes "j" ∷ codes "--workers" ∷ codes "2" ∷ codes "--turns" ∷ codes "5" ∷ [])
+    ≡ drained_by 2 5 (Some (record { folder = codes "."; name = codes "j" }))
+unfolding count_of digits
+row-all_options = refl
+
+pub row-check_with_workers : command_of (codes "check" ∷ codes "r.json" ∷ codes "--workers" ∷ codes "2" ∷ []) ≡ None
+row-check_with_workers = refl
+
 pub row-no_number : drained_with (codes "--turns" ∷ []) ≡ None
 row-no_number = refl
 
@@ -283,7 +343,7 @@ row-load_with_journal = refl
 pub row-check_with_turns : command_of (codes "check" ∷ codes "r.json" ∷ codes "--turns" ∷ codes "5" ∷ []) ≡ None
 row-check_with_turns = refl
 
-pub row-load : command_of (codes "load" ∷ codes "10" ∷ codes "0" ∷ []) ≡ Some (command.Load 10)
+pub row-load : command_of (codes "load" ∷ codes "10" ∷ codes "0" ∷ []) ≡ Some (command.Load 10 0)
 unfolding count_of digits
 row-load = refl
 
@@ -295,9 +355,13 @@ pub row-too_many_items : command_of (codes "load" ∷ codes "20001" ∷ codes "0
 unfolding count_of digits
 row-too_many_items = refl
 
-pub row-a_worker : command_of (codes "load" ∷ codes "10" ∷ codes "1" ∷ []) ≡ None
+pub row-load_with_workers : command_of (codes "load" ∷ codes "10" ∷ codes "4" ∷ []) ≡ Some (command.Load 10 4)
 unfolding count_of digits
-row-a_worker = refl
+row-load_with_workers = refl
+
+pub row-load_with_too_many_workers : command_of (codes "load" ∷ codes "10" ∷ codes "17" ∷ []) ≡ None
+unfolding count_of digits
+row-load_with_too_many_workers = refl
 
 pub row-no_workers : command_of (codes "load" ∷ codes "10" ∷ []) ≡ None
 unfolding count_of digits

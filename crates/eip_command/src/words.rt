@@ -1,5 +1,5 @@
 ghost use Rattle.std.specs.Prelude.{◌≡◌, ◌↔◌, true, Some, None, IfOk, IsErrOf};
-ghost use Rattle.eip_command.specs.Forms.{admits, form_seen};
+ghost use Rattle.eip_command.specs.Forms.{admits, form_seen, value_of as spec_value_of};
 ghost use Rattle.eip_command.specs.Words as spec;
 ghost use Rattle.eip_command.specs.declared.words.Verb.TheVariants as verb;
 
@@ -16,22 +16,27 @@ pub struct Path {
     pub name: Text,
 }
 
+/// The number of workers of a drain whose words name none.
+const NO_WORKERS: u32 = 0;
+
 /// The limit on turns of a drain whose words name none.
 pub const TURN_LIMIT: u32 = 100_000;
 
 /// The most items of a load.
 const MOST_ITEMS: u32 = 20_000;
 
-/// The most workers of a load: its routes run on the caller's own thread.
-const MOST_WORKERS: u32 = 0;
+/// The most workers of a drain or a load.
+const MOST_WORKERS: u32 = 16;
 
 /// What the words behind the program's name ask for.
 #[derive(Debug, Drop)]
 pub enum Command {
-    /// `drain ROUTES [--turns N] [--journal FILE]`: the routes of this file run until nothing is left to do, for at most so
-    /// many turns, and the journal of the run is written to the file that the words name for it.
+    /// `drain ROUTES [--workers N] [--turns N] [--journal FILE]`: the routes of this file run until nothing is left to do, by so
+    /// many workers or without any on the caller's own thread, for at most so many turns, and the journal of the run is written
+    /// to the file that the words name for it.
     Drain {
         routes: Path,
+        workers: u32,
         turns: u32,
         journal: Option<Path>,
     },
@@ -44,9 +49,11 @@ pub enum Command {
         routes: Path,
         journal: Path,
     },
-    /// `load N 0`: the built-in routes of the load test run with so many items, without workers.
+    /// `load N W`: the built-in routes of the load test run with so many items, by so many workers or without any on the
+    /// caller's own thread.
     Load {
         items: u32,
+        workers: u32,
     },
     /// `migrate OLD NEW`: the journal in the old dump, of whichever version, is written to the new one in the latest version.
     Migrate {
@@ -95,7 +102,11 @@ const VERBS: [Verb; 5] = [
 ];
 
 /// The options of a drain.
-const DRAIN_OPTIONS: [OptionRule; 2] = [
+const DRAIN_OPTIONS: [OptionRule; 3] = [
+    OptionRule {
+        word: "--workers",
+        value: Rule::Count(0, MOST_WORKERS),
+    },
     OptionRule {
         word: "--turns",
         value: Rule::Count(1, 1_000_000),
@@ -160,10 +171,12 @@ impl Verb {
         match self {
             Verb::Drain => {
                 let routes = Path::read(alloc, words[0].as_str())?;
+                let workers = workers_in(&words[1..]);
                 let turns = turns_in(&words[1..]);
                 let journal = journal_in(alloc, &words[1..])?;
                 Ok(Command::Drain {
                     routes,
+                    workers,
                     turns,
                     journal,
                 })
@@ -177,8 +190,8 @@ impl Verb {
                 Ok(Command::Audit { routes, journal })
             }
             Verb::Load => {
-                let items = items_in(words);
-                Ok(Command::Load { items })
+                let (items, workers) = two_counts(words);
+                Ok(Command::Load { items, workers })
             }
             Verb::Migrate => {
                 let (old, new) = two_files(alloc, words)?;
@@ -198,25 +211,39 @@ fn two_files(alloc: Global, words: &[Text]) -> Result<(Path, Path), NoMemory>
     Ok((first, second))
 }
 
-/// How many items the words behind `load` name.
-fn items_in(words: &[Text]) -> u32
+/// The numbers of items and of workers that the words behind `load` name.
+fn two_counts(words: &[Text]) -> (u32, u32)
     requires form { admits (spec.form verb.Load) words.now ≡ true }
-    ensures { result ≡ spec.items_in words.now }
+    ensures { (result.0 ≡ spec.first_count words.now) × (result.1 ≡ spec.second_count words.now) }
 {
-    match read_count(words[0].as_str()) {
-        Some(items) => items,
-        None => unreachable!(),
+    match (read_count(words[0].as_str()), read_count(words[1].as_str())) {
+        (Some(items), Some(workers)) => (items, workers),
+        _ => unreachable!(),
     }
+}
+
+/// The number that an option names, or this one where it isn't given.
+fn count_or(options: &[Text], option: &str, otherwise: u32) -> u32
+    ensures { result ≡ spec.count_or otherwise (spec_value_of option.now options.now) }
+{
+    match value_of(options, option) {
+        Some(value) => read_count(value.as_str()).unwrap_or(otherwise),
+        None => otherwise,
+    }
+}
+
+/// The number of workers that the options of a drain name, or that of words that name none.
+fn workers_in(options: &[Text]) -> u32
+    ensures { result ≡ spec.workers_in options.now }
+{
+    count_or(options, "--workers", NO_WORKERS)
 }
 
 /// The limit on turns that the options of a drain name, or that of words that name none.
 fn turns_in(options: &[Text]) -> u32
     ensures { result ≡ spec.turns_in options.now }
 {
-    match value_of(options, "--turns") {
-        Some(value) => read_count(value.as_str()).unwrap_or(TURN_LIMIT),
-        None => TURN_LIMIT,
-    }
+    count_or(options, "--turns", TURN_LIMIT)
 }
 
 /// The file that the options of a drain name for its journal, if any.
@@ -229,12 +256,13 @@ fn journal_in(alloc: Global, options: &[Text]) -> Result<Option<Path>, NoMemory>
     }
 }
 
-/// The command that words give, by the form of each: `drain ROUTES [--turns N] [--journal FILE]`, `check ROUTES`,
-/// `audit ROUTES JOURNAL` or `migrate OLD NEW`, where N is a number from 1 to 1,000,000 and all others are paths, or `load N 0`,
-/// where N is a number from 1 to 20,000. The options stand in any order, each once at most. A path isn't empty, doesn't begin
+/// The command that words give, by the form of each: `drain ROUTES [--workers W] [--turns N] [--journal FILE]`, `check ROUTES`,
+/// `audit ROUTES JOURNAL` or `migrate OLD NEW`, where W is a number from 0 to 16, N one from 1 to 1,000,000 and all others are
+/// paths, or `load N W`, where N is a number from 1 to 20,000 and W one from 0 to 16. Numbers are decimal digits without a
+/// needless zero in front. The options stand in any order, each once at most. A path isn't empty, doesn't begin
 /// with `-` and doesn't end with `/`. Its folder is what stands before its last `/`, or `.` without one, or `/` where nothing
-/// stands before it; the name is what stands behind. A drain without `--turns` has 100,000 turns; one without `--journal` writes
-/// no file. `Refused` exactly for every other list of words.
+/// stands before it; the name is what stands behind. A drain without `--workers` has none, one without `--turns` has 100,000
+/// turns, and one without `--journal` writes no file. `Refused` exactly for every other list of words.
 pub fn read_words(alloc: Global, words: &[Text]) -> Result<Command, WordsFault>
     ensures command { IfOk result (λ c. spec.command_of words.now ≡ Some c) }
     ensures file { IfOk result (λ c. spec.IsCommand words.now c) }

@@ -5,7 +5,9 @@ use eip_line::LineSource;
 use eip_test_support::repeated;
 use eip_text::{NoMemory, Text};
 use std::alloc::Global;
+use std::sync::Wait;
 use std::test::Fail;
+use std::thread::Threads;
 
 /// A route that takes the files of a folder and does nothing with them.
 const TAKEN: &str = r#"[{"from":{"uri":"file:d","steps":[]}}]"#;
@@ -44,16 +46,17 @@ fn are_left(files: &MemoryFiles, left: &[Held]) -> bool {
 }
 
 /// Whether a drain of the files of a folder prints this and leaves these files.
-fn takes(
-    alloc: Global,
+fn takes<W: AllocGlobal + Threads + Wait + Sync>(
+    rt: &W,
     held: &[Held],
     failing: Vec<u64>,
     text: &str,
     left: &[Held],
 ) -> Result<bool, NoMemory> {
+    let alloc = rt.alloc();
     let mut lanes: Vec<Lane<MemoryLane>> = Vec::new(alloc);
     let mut inlets = inlet(alloc, files_of(alloc, held, failing)?)?;
-    let told = is_drained(alloc, TAKEN, &mut lanes, &mut inlets, text)?;
+    let told = is_drained(rt, TAKEN, &mut lanes, &mut inlets, text)?;
     let Some(inlet) = inlets.first() else {
         return Ok(false);
     };
@@ -79,7 +82,7 @@ fn a_file_that_was_taken_is_moved_and_one_that_was_refused_stays(
         ("d", "b.txt", b"\xff"),
         ("d", "c.txt", long),
     ];
-    let taken = takes(alloc, &held, Vec::new(alloc), text, &left)?;
+    let taken = takes(&rt, &held, Vec::new(alloc), text, &left)?;
     assert!(rt; taken);
     Ok(())
 }
@@ -90,7 +93,7 @@ fn a_file_whose_move_fails_stays(rt: HostRuntime) -> Result<(), Fail> {
         "exchange 1 source route1 failed CommitFailed \"a.txt\"\naccepted 1 refused 0\ntotal 1 completed 0 handled 0 failed 1 waiting 0\ndrained\n";
     let held: [Held; 1] = [("d", "a.txt", b"x")];
     let alloc = rt.alloc();
-    let taken = takes(alloc, &held, vec![in alloc; 3]?, text, &held)?;
+    let taken = takes(&rt, &held, vec![in alloc; 3]?, text, &held)?;
     assert!(rt; taken);
     Ok(())
 }
@@ -106,7 +109,7 @@ fn a_file_that_is_there_stays_as_it_is(rt: HostRuntime) -> Result<(), Fail> {
         alloc,
         files_of(alloc, &[("d", "a.txt", b"x")], Vec::new(alloc))?,
     )?;
-    let told = is_drained(alloc, WRITTEN, &mut lanes, &mut inlets, text)?;
+    let told = is_drained(&rt, WRITTEN, &mut lanes, &mut inlets, text)?;
     assert!(rt; told);
     let stays = lanes
         .first()
@@ -129,7 +132,7 @@ fn a_line_is_written_under_its_number_unless_that_is_there(rt: HostRuntime) -> R
     let name = Text::of_str(alloc, "stream")?;
     let object = LineSource::new(alloc, link(alloc, b"a\nb\n")?);
     let mut inlets = vec![in alloc; Inlet { name, object }]?;
-    let told = is_drained(alloc, LINE_WRITTEN, &mut lanes, &mut inlets, text)?;
+    let told = is_drained(&rt, LINE_WRITTEN, &mut lanes, &mut inlets, text)?;
     assert!(rt; told);
     let stays = lanes
         .first()
@@ -162,7 +165,7 @@ fn orders_are_fed_from_a_folder_and_the_refused_ones_are_left_in_another(
     let alloc = rt.alloc();
     let mut lanes = lane(alloc, files_of(alloc, &[], Vec::new(alloc))?)?;
     let mut inlets = inlet(alloc, files_of(alloc, &FED, Vec::new(alloc))?)?;
-    let told = is_drained(alloc, ORDERS, &mut lanes, &mut inlets, FED_TEXT)?;
+    let told = is_drained(&rt, ORDERS, &mut lanes, &mut inlets, FED_TEXT)?;
     assert!(rt; told);
     let is_moved = inlets
         .first()

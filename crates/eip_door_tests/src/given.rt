@@ -1,4 +1,4 @@
-use eip_endpoint::{Inlets, Lanes, MemoryFiles, MemorySink};
+use eip_endpoint::{Endpoint, Inlet, Lane, MemoryFiles, MemorySink, Source};
 use eip_line::MemoryLink;
 use eip_run::run;
 use eip_samples::registry;
@@ -6,6 +6,8 @@ use eip_simple_read::CratePatterns;
 use eip_test_support::texts;
 use eip_text::{NoMemory, Series, Text};
 use std::alloc::Global;
+use std::sync::Wait;
+use std::thread::Threads;
 
 /// A file in memory: its folder, its name and its bytes.
 pub type Held<'a> = (&'a str, &'a str, &'a [u8]);
@@ -38,27 +40,25 @@ pub fn link(alloc: Global, input: &[u8]) -> Result<MemoryLink, NoMemory> {
     Ok(MemoryLink::new(alloc, copy, Vec::new(alloc)))
 }
 
-/// Whether a drain of these routes over these lanes and inlets is drained with this text.
-pub fn is_drained<L: Lanes, I: Inlets>(
-    alloc: Global,
-    routes: &str,
-    lanes: &mut L,
-    inlets: &mut I,
+/// Whether the command of these words over these files, lanes and inlets comes to status 0 and writes this text.
+pub fn comes_to<E: Endpoint, S: Source, W: AllocGlobal + Threads + Wait + Sync>(
+    rt: &W,
+    words: &[&str],
+    files: &mut MemoryFiles,
+    lanes: &mut Vec<Lane<E>>,
+    inlets: &mut Vec<Inlet<S>>,
     text: &str,
 ) -> Result<bool, NoMemory> {
-    let words = texts(alloc, &["drain", "r.json"])?;
-    let mut files = files_of(
-        alloc,
-        &[(".", "r.json", routes.as_bytes())],
-        Vec::new(alloc),
-    )?;
+    let alloc = rt.alloc();
+    let words = texts(alloc, words)?;
     let mut patterns = CratePatterns::new(Vec::new(alloc));
     let mut out = MemorySink::new(alloc, Vec::new(alloc));
     let registry = registry(alloc)?;
     let report = run(
+        rt,
         alloc,
         &words,
-        &mut files,
+        files,
         &mut patterns,
         lanes,
         inlets,
@@ -66,4 +66,21 @@ pub fn is_drained<L: Lanes, I: Inlets>(
         &mut out,
     );
     Ok(report.status == 0 && out.bytes() == text.as_bytes())
+}
+
+/// Whether a drain of these routes over these lanes and inlets is drained with this text.
+pub fn is_drained<E: Endpoint, S: Source, W: AllocGlobal + Threads + Wait + Sync>(
+    rt: &W,
+    routes: &str,
+    lanes: &mut Vec<Lane<E>>,
+    inlets: &mut Vec<Inlet<S>>,
+    text: &str,
+) -> Result<bool, NoMemory> {
+    let alloc = rt.alloc();
+    let mut files = files_of(
+        alloc,
+        &[(".", "r.json", routes.as_bytes())],
+        Vec::new(alloc),
+    )?;
+    comes_to(rt, &["drain", "r.json"], &mut files, lanes, inlets, text)
 }

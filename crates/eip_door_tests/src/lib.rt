@@ -7,3 +7,5 @@ mod files;
 mod given;
 #[cfg(test)]
 mod lines;
+#[cfg(test)]
+mod workers;

@@ -3,7 +3,9 @@ use eip_endpoint::{Inlet, Lane};
 use eip_line::{LineLane, LineSource};
 use eip_text::{NoMemory, Text};
 use std::alloc::Global;
+use std::sync::Wait;
 use std::test::Fail;
+use std::thread::Threads;
 
 /// A route that sends each line of a port to a peer.
 const SENT: &str = r#"[{"from":{"uri":"line:listen:9","steps":[{"to":"line:h:7"}]}}]"#;
@@ -41,21 +43,22 @@ const DRAINED: [(&str, &str, &[u8], &str, &[u8]); 3] = [
 ];
 
 /// Whether a drain of these lines prints this, and sends these bytes.
-fn sends(
-    alloc: Global,
+fn sends<W: AllocGlobal + Threads + Wait + Sync>(
+    rt: &W,
     routes: &str,
     inlet: &str,
     input: &[u8],
     text: &str,
     sent: &[u8],
 ) -> Result<bool, NoMemory> {
+    let alloc = rt.alloc();
     let name = Text::of_str(alloc, inlet)?;
     let object = LineSource::new(alloc, link(alloc, input)?);
     let mut inlets = vec![in alloc; Inlet { name, object }]?;
     let name = Text::of_str(alloc, "line")?;
     let object = LineLane::new(alloc, link(alloc, b"")?);
     let mut lanes = vec![in alloc; Lane { name, object }]?;
-    let told = is_drained(alloc, routes, &mut lanes, &mut inlets, text)?;
+    let told = is_drained(rt, routes, &mut lanes, &mut inlets, text)?;
     let written = lanes
         .first()
         .is_some_and(|lane| lane.object.link.written() == sent);
@@ -65,7 +68,7 @@ fn sends(
 #[test]
 fn each_body_of_one_line_is_sent_on_and_no_other(rt: HostRuntime) -> Result<(), Fail> {
     for (routes, inlet, input, text, sent) in DRAINED {
-        let told = sends(rt.alloc(), routes, inlet, input, text, sent)?;
+        let told = sends(&rt, routes, inlet, input, text, sent)?;
         assert!(rt; told, "of {routes}");
     }
     Ok(())

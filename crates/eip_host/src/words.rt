@@ -14,13 +14,9 @@ pub const HELP: &str = "\
 Runs routes of integration patterns over files, lines of standard input and
 lines of peers.
 
-  eip drain ROUTES [--turns N] [--journal FILE]
+  eip drain ROUTES [--workers N] [--turns N] [--journal FILE]
                      reads the route file ROUTES, runs its routes until nothing
-                     is left to do, and prints the log and the end book;
-                     it stops behind N turns, from 1 to 1000000, or behind
-                     100000 where N is not given (an item that is taken or
-                     refused is a turn, and so is each answer to a message);
-                     with FILE it writes the journal of the run to that file
+                     is left to do, and prints the log and the end book
   eip check ROUTES   prints the routes of ROUTES in their canonical form, or the
                      first fault of the file
   eip audit ROUTES JOURNAL
@@ -30,10 +26,20 @@ lines of peers.
   eip migrate OLD NEW
                      writes the journal in the file OLD to the file NEW in the
                      latest version, and tells how many entries it has
-  eip load N 0       runs the built-in load test over N items, from 1 to 20000,
-                     and prints the last three lines of its book
+  eip load N W       runs the built-in load test over N items, from 1 to 20000,
+                     by W workers, from 0 to 16, and prints the last three
+                     lines of its book
   eip --help         prints this page
   eip --version      prints the version
+
+A drain has these options, in any order:
+  --workers N        N workers, from 0 to 16, run the routes, each in a thread
+                     of its own where one can be started; without any, as where
+                     N is not given, one thread runs them by a fixed schedule
+  --turns N          it stops behind N turns, from 1 to 1000000, or behind
+                     100000 where N is not given (an item that is taken or
+                     refused is a turn, and so is each answer to a message)
+  --journal FILE     it writes the journal of the run to FILE
 
 The status tells how a run came out:
   0  every exchange came to its end, the routes were printed, or the journal

@@ -119,18 +119,23 @@ fn a_file_of_the_system_is_read(rt: HostRuntime) -> Result<(), Fail> {
     Ok(())
 }
 
-/// What the page of help tells of each command and status.
-const TOLD: [&str; 18] = [
-    "\n  eip drain ROUTES [--turns N] [--journal FILE]\n",
-    " N turns, from 1 to 1000000, ",
-    " 100000 where N is not given ",
-    " the journal of the run ",
+/// What the page of help tells of each command, option and status.
+const TOLD: [&str; 23] = [
+    "\n  eip drain ROUTES [--workers N] [--turns N] [--journal FILE]\n",
     "\n  eip check ROUTES   ",
     "\n  eip audit ROUTES JOURNAL\n",
     "\n  eip migrate OLD NEW\n",
-    "\n  eip load N 0       ",
+    "\n  eip load N W       ",
+    " N items, from 1 to 20000,\n",
+    " W workers, from 0 to 16, ",
     "\n  eip --help         ",
     "\n  eip --version      ",
+    "\n  --workers N        N workers, from 0 to 16, ",
+    "\n  --turns N          ",
+    " N turns, from 1 to 1000000, ",
+    " 100000 where N is not given ",
+    "\n  --journal FILE     ",
+    " the journal of the run ",
     "\n  0  every exchange came to its end, the routes were printed, or the journal\n",
     " is legal or was migrated\n",
     "\n  1  the words, the route file or the dump were refused\n",

@@ -15,7 +15,7 @@ use Rattle.eip_route_faults.specs.Sites as sites_are
 use Rattle.eip_route_grammar.specs.declared.fault.Cause.{Cause}
 use Rattle.eip_route_grammar.specs.declared.fault.Cause.TheVariants as cause_is
 use Rattle.eip_route_grammar.specs.declared.fault.RouteFault.{RouteFault}
-use Rattle.eip_command.specs.Words.{command_of, journal_of}
+use Rattle.eip_command.specs.Words.{command_of, journal_of, workers_of}
 use Rattle.eip_command.specs.declared.words.Path.{Path}
 use Rattle.eip_command.specs.declared.words.Command.{Command}
 use Rattle.eip_command.specs.declared.words.Command.TheVariants.{Check, Audit, Migrate}
@@ -176,11 +176,11 @@ the-some : (o : Option ℕ) → IsSome o → (k : ℕ) × (o ≡ Some k)
 the-some None h = absurd (cc h)
 the-some (Some k) h = (k, refl)
 
-source-failed : (x : Setting) (k : Command) (limit : ℕ) (set : RouteSet) (s : Stop) (t : ℕ) → RunsTo k limit → HasRoutes (begun x) k set → IsRun x set limit s
+source-failed : (x : Setting) (k : Command) (limit : ℕ) (set : RouteSet) (s : Stop) (t : ℕ) → RunsTo k limit → HasRoutes (begun x) k set → IsRun x k set limit s
     → first_fault x.journal.past ≡ Some t → SourceFailed x t
 source-failed x k limit set s t to has ran h =
     let runs : Runs set (names_of x.before.lanes x.before.inlets x.registry) = routes-run (begun x) k set has in
-    let is : IsSource (plan_of set) t = fault-source (plan_of set) 0 limit x.journal.past ran.legal.entries t h in
+    let is : IsSource (plan_of set) t = fault-source (plan_of set) (workers_of k) limit x.journal.past ran.legal.entries t h in
     let door = the-some (inlet_at (inlet_names x.before.inlets) (slice_get set.routes t)) (runs-inlets runs.can_run t is) in
     let all : length (inlet_names x.before.inlets) ≡ length x.before.inlets = length-map x.before.inlets (λ v. v.name) in
     let among : door.0 < length (inlet_names x.before.inlets) = inlet-within _ (slice_get set.routes t) door.0 door.1 in
@@ -199,7 +199,7 @@ source-failed x k limit set s t to has ran h =
 
 -- ---- the cause of what a command came to
 
-stop-caused : (x : Setting) (k : Command) (limit : ℕ) (set : RouteSet) (r s : Stop) → RunsTo k limit → HasRoutes (begun x) k set → IsRun x set limit r
+stop-caused : (x : Setting) (k : Command) (limit : ℕ) (set : RouteSet) (r s : Stop) → RunsTo k limit → HasRoutes (begun x) k set → IsRun x k set limit r
     → StopSays (plan_of set) x.journal.past limit s → CauseOfStop x limit s
 stop-caused x k limit set r stop.Drained to has ran h = tt
 stop-caused x k limit set r (stop.SourceFault t) to has ran h = source-failed x k limit set r t to has ran h

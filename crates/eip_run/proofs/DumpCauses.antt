@@ -99,8 +99,8 @@ no-name words dump k n command none =
     cc both
 
 run-names-none : (k : Command) (limit : ℕ) → RunsTo k limit → dump_of k ≡ None
-run-names-none (Drain p turns journal) limit to = refl
-run-names-none (Load n) limit to = refl
+run-names-none (Drain p workers turns journal) limit to = refl
+run-names-none (Load n workers) limit to = refl
 run-names-none (Check p) limit to = absurd to
 run-names-none (Audit p journal) limit to = absurd to
 run-names-none (Migrate old new) limit to = absurd to

@@ -1,6 +1,5 @@
 -- What a command comes to, by what was prepared and told.
-use Rattle.std.proofs.Common.{◌≡◌, ℕ, ◌≤◌, ◌++◌, List, [], Option, Some, None, Result, Ok, Err, codes, refl, sym, ap, subst, ◌∙◌, inl, inr}
-use Rattle.std.proofs.lemmas.List.{append-nil}
+use Rattle.std.proofs.Common.{◌≡◌, ℕ, ◌≤◌, List, Option, Some, None, Result, Ok, Err, codes, refl, sym, ap, subst, ◌∙◌, inl, inr}
 use Rattle.eip_text.specs.Json.{Json, json_read}
 use Rattle.eip_route.specs.Valid.{IsValid}
 use Rattle.eip_route.specs.declared.route.Names.{Names}
@@ -12,24 +11,13 @@ use Rattle.eip_route_json.specs.Reading.{set_of, tree_set, Finds}
 use Rattle.eip_route_json.proofs.Validity.{read_valid}
 use Rattle.eip_endpoint.specs.declared.files.FileRead.{FileRead}
 use Rattle.eip_endpoint.specs.declared.files.FileRead.TheVariants.{Bytes, Missing, TooLong}
-use Rattle.eip_endpoint.specs.Lanes.{LaneView}
-use Rattle.eip_endpoint.specs.Inlets.{InletView}
 use Rattle.eip_ledger.specs.View.{JournalView}
 use Rattle.eip_ledger.specs.declared.place.Stop.{Stop}
-use Rattle.eip_history.specs.Plan.{Plan}
 use Rattle.eip_history.specs.Own.{Past}
-use Rattle.eip_history.specs.Rules.{Served, served}
-use Rattle.eip_history.specs.Stop.{IsPlain}
-use Rattle.eip_history.proofs.ServedSteps.{served-none}
-use Rattle.eip_plan.specs.Plan.{plan_of}
-use Rattle.eip_books.specs.View.{BooksView, plan, IsLegalRun}
-use Rattle.eip_processor.specs.Registered.{RegistryView}
-use Rattle.eip_core.specs.Outside.{AreTheirs}
-use Rattle.eip_core.specs.Drain.{IsStop, Drains}
 use Rattle.eip_run.specs.declared.prepare.Refusal.{Refusal}
 use Rattle.eip_run.specs.declared.report.Outcome.{Outcome}
 use Rattle.eip_run.specs.declared.report.Outcome.TheVariants as outcome
-use Rattle.eip_command.specs.Words.{command_of, journal_of, IsDrain}
+use Rattle.eip_command.specs.Words.{command_of, journal_of, workers_of, IsDrain, IsLoad}
 use Rattle.eip_command.proofs.Commands.{command_is}
 use Rattle.eip_command.specs.declared.words.Path.{Path}
 use Rattle.eip_command.specs.declared.words.Command.{Command}
@@ -52,44 +40,9 @@ use Rattle.eip_run.specs.Drained.{Drained, RanTo, NotBegun}
 use Rattle.eip_verdict.specs.declared.verdict.Verdict.{Verdict}
 use Rattle.eip_run.specs.declared.dumps.DumpRefusal.{DumpRefusal}
 use Rattle.eip_run.specs.Dumps.{LacksJournal, Judges, Migrates}
-use Rattle.eip_run.specs.Reports.{IsIdle, IsStill, Ran, IsRun, account_text, RunsTo, told_of, KeptBy, Comes, Reports, NoCommand as Refused, NotRead as Failed, NoRoutes as Faulty, WasChecked, Stopped, Starved, AsksDump, ToAudit, ToMigrate, DumpUnread, NoJournal, WasJudged, WasMigrated, NotMigrated, LacksMemory as Poor, LacksText, LacksLine}
-use Rattle.eip_core.proofs.Compose.{plain-behind}
+use Rattle.eip_run.specs.Reports.{IsIdle, IsStill, IsRun, account_text, RunsTo, told_of, KeptBy, Comes, Reports, NoCommand as Refused, NotRead as Failed, NoRoutes as Faulty, WasChecked, Stopped, Starved, AsksDump, ToAudit, ToMigrate, DumpUnread, NoJournal, WasJudged, WasMigrated, NotMigrated, LacksMemory as Poor, LacksText, LacksLine}
 use Rattle.eip_run.proofs.Runnable.{Runs, valid-runs}
 use Rattle.eip_run.proofs.Sites.{whole-faulty}
-
-none-plain : (s : Plan) → IsPlain s []
-unfolding IsPlain
-none-plain s = tt
-
--- a run from its begin on
-pub record Begins (set : RouteSet) (limit : ℕ) (v : BooksView) : Type 0 where
-  pub of_set : v.set ≡ set
-  pub workers : v.journal.workers ≡ 0
-  pub turns : v.journal.turns ≡ limit
-  pub past : v.journal.past ≡ []
-
-pub ran-to : {r : RegistryView} (set : RouteSet) (most : ℕ) (u v : BooksView) (j : JournalView) (s : Stop) (lb la : List LaneView) (ib ia : List InletView)
-    → Begins set most u → IsStop v s → IsLegalRun v → Drains u v lb la ib ia r → j ≡ v.journal → Ran set most j s lb la ib ia r
-ran-to {r} set most u v j s lb la ib ia b stops legal d same =
-    let plans : plan u ≡ plan_of set = ap plan_of b.of_set in
-    let over : plan v ≡ plan_of set = ap plan_of d.same.set ∙ plans in
-    let limit : v.journal.turns ≡ most = d.same.turns ∙ b.turns in
-    let none : v.journal.workers ≡ 0 = d.same.workers ∙ b.workers in
-    let past : v.journal.past ≡ d.behind = d.past ∙ (ap (λ (p : Past). d.behind ++ p) b.past ∙ append-nil d.behind) in
-    let here : j.past ≡ v.journal.past = ap (λ (x : JournalView). x.past) same in
-    let first : served (plan u) u.journal.past ≡ [] = ap (served (plan u)) b.past ∙ served-none (plan u) in
-    let all : served (plan_of set) j.past ≡ d.answered =
-    ap (λ (p : Past). served (plan_of set) p) here ∙ (ap (λ (x : Plan). served x v.journal.past) (sym plans) ∙ (d.answers ∙ ap (λ (vs : List Served). vs ++ d.answered) first)) in
-    record {
-      workers = ap (λ (x : JournalView). x.workers) same ∙ none;
-      turns = ap (λ (x : JournalView). x.turns) same ∙ limit;
-      legal = rw (here, ← over, ← limit, ← none) legal;
-      plain = rw (here, ← plans) (rw d.past (plain-behind (plan u) u.journal.past d.behind (rw b.past (none-plain (plan u))) d.plain));
-      stops = rw (here, ← over, ← limit) stops;
-      lanes = rw (all, ← b.of_set) d.lanes;
-      inlets = rw (all, here, past, ← b.of_set) d.inlets;
-      theirs = subst (λ (vs : List Served). AreTheirs r vs) (sym all) d.theirs;
-    }
 
 pub kept-along : (named : Option Path) (j i : JournalView) (before after : Option (List File)) (faults_before faults_after : ℕ) (answer : Result Unit FilesFault) → j ≡ i
     → Keeps named j before after faults_before faults_after answer → Keeps named i before after faults_before faults_after answer
@@ -150,22 +103,25 @@ prepared-job x k read names set j same command was h made =
 -- ---- what a command comes to
 
 -- a drain of these routes
-has-drain : (x : Asked) (r : Result Job Refusal) (set : RouteSet) (limit : ℕ) (named : Option Path) → Prepares x r → r ≡ Ok (job.Drain set limit named)
-    → (p : Path) × HasRoutes x (Drain p limit named) set
-has-drain x r set limit named (NoCommand none calm) e = absurd (cc e)
-has-drain x r set limit named (NotRead k command names rises calm) e = absurd (cc e)
-has-drain x r set limit named (NoRoutes k read f command was h) e = absurd (cc e)
-has-drain x r set limit named (Found (Drain p turns journal) s has) e =
+has-drain : (x : Asked) (r : Result Job Refusal) (set : RouteSet) (workers limit : ℕ) (named : Option Path) → Prepares x r → r ≡ Ok (job.Drain set workers limit named)
+    → (p : Path) × HasRoutes x (Drain p workers limit named) set
+has-drain x r set workers limit named (NoCommand none calm) e = absurd (cc e)
+has-drain x r set workers limit named (NotRead k command names rises calm) e = absurd (cc e)
+has-drain x r set workers limit named (NoRoutes k read f command was h) e = absurd (cc e)
+has-drain x r set workers limit named (Found (Drain p crew turns journal) s has) e =
     let same : s ≡ set = cc e in
+    let staff : crew ≡ workers = cc e in
     let most : turns ≡ limit = cc e in
     let file : journal ≡ named = cc e in
-    (p, subst (HasRoutes x (Drain p limit named)) same (subst (λ (n : ℕ). HasRoutes x (Drain p n named) s) most (subst (λ (f : Option Path). HasRoutes x (Drain p turns f) s) file has)))
-has-drain x r set limit named (Found (Check p) s has) e = absurd (cc e)
-has-drain x r set limit named (Found (Audit p dump) s has) e = absurd (cc e)
-has-drain x r set limit named (Found (Load n) s has) e = absurd (cc e)
-has-drain x r set limit named (Found (Migrate old new) s has) e = absurd (cc e)
-has-drain x r set limit named (HasNone old new command calm) e = absurd (cc e)
-has-drain x r set limit named (LacksMemory count calm) e = absurd (cc e)
+    let here : Drain p crew turns journal ≡ Drain p workers limit named =
+    ap (λ (n : ℕ). Drain p n turns journal) staff ∙ ap (λ (n : ℕ). Drain p workers n journal) most ∙ ap (λ (f : Option Path). Drain p workers limit f) file in
+    (p, subst (HasRoutes x (Drain p workers limit named)) same (subst (λ (k : Command). HasRoutes x k s) here has))
+has-drain x r set workers limit named (Found (Check p) s has) e = absurd (cc e)
+has-drain x r set workers limit named (Found (Audit p dump) s has) e = absurd (cc e)
+has-drain x r set workers limit named (Found (Load n crew) s has) e = absurd (cc e)
+has-drain x r set workers limit named (Found (Migrate old new) s has) e = absurd (cc e)
+has-drain x r set workers limit named (HasNone old new command calm) e = absurd (cc e)
+has-drain x r set workers limit named (LacksMemory count calm) e = absurd (cc e)
 
 -- a check of these routes
 has-check : (x : Asked) (r : Result Job Refusal) (set : RouteSet) → Prepares x r → r ≡ Ok (job.Check set) → (p : Path) × HasRoutes x (Check p) set
@@ -173,25 +129,28 @@ has-check x r set (NoCommand none calm) e = absurd (cc e)
 has-check x r set (NotRead k command names rises calm) e = absurd (cc e)
 has-check x r set (NoRoutes k read f command was h) e = absurd (cc e)
 has-check x r set (Found (Check p) s has) e = let same : s ≡ set = cc e in (p, subst (HasRoutes x (Check p)) same has)
-has-check x r set (Found (Drain p turns journal) s has) e = absurd (cc e)
+has-check x r set (Found (Drain p workers turns journal) s has) e = absurd (cc e)
 has-check x r set (Found (Audit p dump) s has) e = absurd (cc e)
-has-check x r set (Found (Load n) s has) e = absurd (cc e)
+has-check x r set (Found (Load n workers) s has) e = absurd (cc e)
 has-check x r set (Found (Migrate old new) s has) e = absurd (cc e)
 has-check x r set (HasNone old new command calm) e = absurd (cc e)
 has-check x r set (LacksMemory count calm) e = absurd (cc e)
 
 -- a load of these routes
-has-load : (x : Asked) (r : Result Job Refusal) (set : RouteSet) → Prepares x r → r ≡ Ok (job.Load set) → (n : ℕ) × HasRoutes x (Load n) set
-has-load x r set (NoCommand none calm) e = absurd (cc e)
-has-load x r set (NotRead k command names rises calm) e = absurd (cc e)
-has-load x r set (NoRoutes k read f command was h) e = absurd (cc e)
-has-load x r set (Found (Load n) s has) e = let same : s ≡ set = cc e in (n, subst (HasRoutes x (Load n)) same has)
-has-load x r set (Found (Drain p turns journal) s has) e = absurd (cc e)
-has-load x r set (Found (Check p) s has) e = absurd (cc e)
-has-load x r set (Found (Audit p dump) s has) e = absurd (cc e)
-has-load x r set (Found (Migrate old new) s has) e = absurd (cc e)
-has-load x r set (HasNone old new command calm) e = absurd (cc e)
-has-load x r set (LacksMemory count calm) e = absurd (cc e)
+has-load : (x : Asked) (r : Result Job Refusal) (set : RouteSet) (workers : ℕ) → Prepares x r → r ≡ Ok (job.Load set workers) → (n : ℕ) × HasRoutes x (Load n workers) set
+has-load x r set workers (NoCommand none calm) e = absurd (cc e)
+has-load x r set workers (NotRead k command names rises calm) e = absurd (cc e)
+has-load x r set workers (NoRoutes k read f command was h) e = absurd (cc e)
+has-load x r set workers (Found (Load n crew) s has) e =
+    let same : s ≡ set = cc e in
+    let staff : crew ≡ workers = cc e in
+    (n, subst (HasRoutes x (Load n workers)) same (subst (λ (m : ℕ). HasRoutes x (Load n m) s) staff has))
+has-load x r set workers (Found (Drain p crew turns journal) s has) e = absurd (cc e)
+has-load x r set workers (Found (Check p) s has) e = absurd (cc e)
+has-load x r set workers (Found (Audit p dump) s has) e = absurd (cc e)
+has-load x r set workers (Found (Migrate old new) s has) e = absurd (cc e)
+has-load x r set workers (HasNone old new command calm) e = absurd (cc e)
+has-load x r set workers (LacksMemory count calm) e = absurd (cc e)
 
 -- an audit by these routes of this dump
 has-audit : (x : Asked) (r : Result Job Refusal) (set : RouteSet) (dump : Path) → Prepares x r → r ≡ Ok (job.Audit set dump) → (p : Path) × HasRoutes x (Audit p dump) set
@@ -202,9 +161,9 @@ has-audit x r set dump (Found (Audit p d) s has) e =
     let same : s ≡ set = cc e in
     let file : d ≡ dump = cc e in
     (p, subst (HasRoutes x (Audit p dump)) same (subst (λ (f : Path). HasRoutes x (Audit p f) s) file has))
-has-audit x r set dump (Found (Drain p turns journal) s has) e = absurd (cc e)
+has-audit x r set dump (Found (Drain p workers turns journal) s has) e = absurd (cc e)
 has-audit x r set dump (Found (Check p) s has) e = absurd (cc e)
-has-audit x r set dump (Found (Load n) s has) e = absurd (cc e)
+has-audit x r set dump (Found (Load n workers) s has) e = absurd (cc e)
 has-audit x r set dump (Found (Migrate old new) s has) e = absurd (cc e)
 has-audit x r set dump (HasNone old new command calm) e = absurd (cc e)
 has-audit x r set dump (LacksMemory count calm) e = absurd (cc e)
@@ -217,9 +176,9 @@ has-migration x r old new (NotRead k command names rises calm) e = absurd (cc e)
 has-migration x r old new (NoRoutes k read f command was h) e = absurd (cc e)
 has-migration x r old new (Found (Migrate a b) s has) e = absurd has.answer.answer
 has-migration x r old new (Found (Audit p d) s has) e = absurd (cc e)
-has-migration x r old new (Found (Drain p turns journal) s has) e = absurd (cc e)
+has-migration x r old new (Found (Drain p workers turns journal) s has) e = absurd (cc e)
 has-migration x r old new (Found (Check p) s has) e = absurd (cc e)
-has-migration x r old new (Found (Load n) s has) e = absurd (cc e)
+has-migration x r old new (Found (Load n workers) s has) e = absurd (cc e)
 has-migration x r old new (HasNone a b command calm) e =
     let from : a ≡ old = cc e in
     let to : b ≡ new = cc e in
@@ -247,22 +206,28 @@ drain-runs n read h = valid-runs n (set_in n read) (file-valid n read h) (file-n
 pub routes-run : (x : Asked) (k : Command) (set : RouteSet) → HasRoutes x k set → Runs set x.names
 routes-run x k set has = subst (λ (y : RouteSet). Runs y x.names) (sym has.routes) (drain-runs x.names has.read has.faultless)
 
-pub prepared-runs : (x : Asked) (r : Result Job Refusal) (set : RouteSet) (limit : ℕ) (named : Option Path) → Prepares x r → r ≡ Ok (job.Drain set limit named) → Runs set x.names
-prepared-runs x r set limit named prepares e = let has = has-drain x r set limit named prepares e in routes-run x (Drain has.0 limit named) set has.1
+pub prepared-runs : (x : Asked) (r : Result Job Refusal) (set : RouteSet) (workers limit : ℕ) (named : Option Path) → Prepares x r → r ≡ Ok (job.Drain set workers limit named) → Runs set x.names
+prepared-runs x r set workers limit named prepares e = let has = has-drain x r set workers limit named prepares e in routes-run x (Drain has.0 workers limit named) set has.1
 
-pub loaded-runs : (x : Asked) (r : Result Job Refusal) (set : RouteSet) → Prepares x r → r ≡ Ok (job.Load set) → Runs set x.names
-loaded-runs x r set prepares e = let has = has-load x r set prepares e in routes-run x (Load has.0) set has.1
+pub loaded-runs : (x : Asked) (r : Result Job Refusal) (set : RouteSet) (workers : ℕ) → Prepares x r → r ≡ Ok (job.Load set workers) → Runs set x.names
+loaded-runs x r set workers prepares e = let has = has-load x r set workers prepares e in routes-run x (Load has.0 workers) set has.1
 
 pub audited-runs : (x : Asked) (r : Result Job Refusal) (set : RouteSet) (dump : Path) → Prepares x r → r ≡ Ok (job.Audit set dump) → Runs set x.names
 audited-runs x r set dump prepares e = let has = has-audit x r set dump prepares e in routes-run x (Audit has.0 dump) set has.1
 
--- its limit is one that a run may have
-pub prepared-limit : (x : Asked) (r : Result Job Refusal) (set : RouteSet) (limit : ℕ) (named : Option Path) → Prepares x r → r ≡ Ok (job.Drain set limit named)
-    → (1 ≤ limit) × (limit ≤ 1000000)
-prepared-limit x r set limit named prepares e =
-    let has = has-drain x r set limit named prepares e in
-    let said : IsDrain x.words has.0 limit named = command_is x.words (Drain has.0 limit named) has.1.command in
-    (said.some, said.most)
+-- its number of workers and its limit are such as a run may have
+pub prepared-terms : (x : Asked) (r : Result Job Refusal) (set : RouteSet) (workers limit : ℕ) (named : Option Path) → Prepares x r
+    → r ≡ Ok (job.Drain set workers limit named) → (workers ≤ 16) × (1 ≤ limit) × (limit ≤ 1000000)
+prepared-terms x r set workers limit named prepares e =
+    let has = has-drain x r set workers limit named prepares e in
+    let said : IsDrain x.words has.0 workers limit named = command_is x.words (Drain has.0 workers limit named) has.1.command in
+    (said.few, said.some, said.most)
+
+pub loaded-terms : (x : Asked) (r : Result Job Refusal) (set : RouteSet) (workers : ℕ) → Prepares x r → r ≡ Ok (job.Load set workers) → workers ≤ 16
+loaded-terms x r set workers prepares e =
+    let has = has-load x r set workers prepares e in
+    let said : IsLoad x.words has.0 workers = command_is x.words (Load has.0 workers) has.1.command in
+    said.few
 
 -- ---- what a run comes to
 
@@ -291,20 +256,20 @@ abbrev Gives : Command → Account → Type 0
 Gives k account = (set : RouteSet) (past : Past) (s : Stop) → account_text account set past s ≡ told_of k set past s
 
 comes-ran : (x : Setting) (k : Command) (account : Account) (limit : ℕ) (set : RouteSet) (s : Stop) (kept : Result Unit FilesFault) (told : Outcome) (text : List ℕ) → Gives k account
-    → RunsTo k limit → HasRoutes (begun x) k set → IsRun x set limit s → KeptBy x k kept → OfRun account set x.journal.past kept s told text → Comes x told text
+    → RunsTo k limit → HasRoutes (begun x) k set → IsRun x k set limit s → KeptBy x k kept → OfRun account set x.journal.past kept s told text → Comes x told text
 comes-ran x k account limit set s kept told text gives to has ran keeps (OfStop _ ne wrote) =
     subst (Comes x (left_by s kept)) (sym (gives set x.journal.past s)) (Stopped k limit set s kept to has ran ne keeps wrote)
 comes-ran x k account limit set s kept told text gives to has ran keeps OfStarved = Starved k limit set kept to has ran keeps
 comes-ran x k account limit set s kept told text gives to has ran keeps (OfNoText _ ne) = LacksText k limit set s kept to has ran ne keeps
 
 -- a run of these routes by a command, of which this account was given, where the files and their count were these when it began
-abbrev WasDrained : Setting → Account → Option Path → RouteSet → (limit : ℕ) → Option (List File) → ℕ → Outcome → Type 0
-WasDrained x account named set limit files count o =
-    Drained account named set limit x.journal files x.after.materials.files count x.after.materials.files_faults x.before.lanes x.after.lanes x.before.inlets x.after.inlets x.registry
+abbrev WasDrained : Setting → Account → Option Path → RouteSet → (workers limit : ℕ) → Option (List File) → ℕ → Outcome → Type 0
+WasDrained x account named set workers limit files count o =
+    Drained account named set workers limit x.journal files x.after.materials.files count x.after.materials.files_faults x.before.lanes x.after.lanes x.before.inlets x.after.inlets x.registry
     x.before.written x.after.written x.before.sink_faults x.after.sink_faults o
 
 reports-run : (x : Setting) (k : Command) (account : Account) (set : RouteSet) (limit : ℕ) (files : Option (List File)) (count : ℕ) {o : Outcome} → Gives k account → RunsTo k limit
-    → HasRoutes (read_to x files count) k set → files ≡ x.before.materials.files → WasDrained x account (journal_of k) set limit files count o → Reports x o
+    → HasRoutes (read_to x files count) k set → files ≡ x.before.materials.files → WasDrained x account (journal_of k) set (workers_of k) limit files count o → Reports x o
 reports-run x k account set limit files count gives to has same (RanTo s kept o ran keeps tells) =
     let began : KeptBy x k kept =
     subst (λ (f : Option (List File)). Keeps (journal_of k) x.journal f x.after.materials.files x.before.materials.files_faults x.after.materials.files_faults kept) same
@@ -322,18 +287,18 @@ reports-run x k account set limit files count gives to has same (NotBegun o new 
   tells = told;
 }
 
-pub reports-drained : (x : Setting) (r : Result Job Refusal) (set : RouteSet) (limit : ℕ) (named : Option Path) (files : Option (List File)) (count : ℕ) {o : Outcome}
-    → Prepares (read_to x files count) r → r ≡ Ok (job.Drain set limit named) → files ≡ x.before.materials.files
-    → WasDrained x account.Whole named set limit files count o → Reports x o
-reports-drained x r set limit named files count prepares e same drained =
-    let has = has-drain (read_to x files count) r set limit named prepares e in
-    reports-run x (Drain has.0 limit named) account.Whole set limit files count (λ _ _ _. refl) refl has.1 same drained
+pub reports-drained : (x : Setting) (r : Result Job Refusal) (set : RouteSet) (workers limit : ℕ) (named : Option Path) (files : Option (List File)) (count : ℕ) {o : Outcome}
+    → Prepares (read_to x files count) r → r ≡ Ok (job.Drain set workers limit named) → files ≡ x.before.materials.files
+    → WasDrained x account.Whole named set workers limit files count o → Reports x o
+reports-drained x r set workers limit named files count prepares e same drained =
+    let has = has-drain (read_to x files count) r set workers limit named prepares e in
+    reports-run x (Drain has.0 workers limit named) account.Whole set limit files count (λ _ _ _. refl) refl has.1 same drained
 
-pub reports-loaded : (x : Setting) (r : Result Job Refusal) (set : RouteSet) (files : Option (List File)) (count : ℕ) {o : Outcome} → Prepares (read_to x files count) r
-    → r ≡ Ok (job.Load set) → files ≡ x.before.materials.files → WasDrained x account.Summary None set 1000000 files count o → Reports x o
-reports-loaded x r set files count prepares e same drained =
-    let has = has-load (read_to x files count) r set prepares e in
-    reports-run x (Load has.0) account.Summary set 1000000 files count (λ _ _ _. refl) refl has.1 same drained
+pub reports-loaded : (x : Setting) (r : Result Job Refusal) (set : RouteSet) (workers : ℕ) (files : Option (List File)) (count : ℕ) {o : Outcome} → Prepares (read_to x files count) r
+    → r ≡ Ok (job.Load set workers) → files ≡ x.before.materials.files → WasDrained x account.Summary None set workers 1000000 files count o → Reports x o
+reports-loaded x r set workers files count prepares e same drained =
+    let has = has-load (read_to x files count) r set workers prepares e in
+    reports-run x (Load has.0 workers) account.Summary set 1000000 files count (λ _ _ _. refl) refl has.1 same drained
 
 comes-checked : (x : Setting) (p : Path) (set : RouteSet) (told : Outcome) (text : List ℕ) → HasRoutes (asked x) (Check p) set → IsStill x → OfCheck set told text → Comes x told text
 comes-checked x p set told text has still OfText = WasChecked p set has still

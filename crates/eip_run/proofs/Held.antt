@@ -20,11 +20,11 @@ path-held : (p : Path) (files : Option (List File)) (held read : FileRead) → I
 path-held p files held read h told = subst (λ (o : Option (List File)). IfTold o (λ all. read ≡ held_at p all)) h.told told ∙ sym h.held
 
 read-held : (k : Command) (files : Option (List File)) (held read : FileRead) → Holds k files held → IsReadOf k files read → read ≡ held
-read-held (Drain p turns journal) files held read h told = path-held p files held read h told
+read-held (Drain p workers turns journal) files held read h told = path-held p files held read h told
 read-held (Check p) files held read h told = path-held p files held read h told
 read-held (Audit p journal) files held read h told = path-held p files held read h told
 read-held (Migrate old new) files held read h told = absurd h
-read-held (Load n) files held read h told = told ∙ sym h
+read-held (Load n workers) files held read h told = told ∙ sym h
 
 -- so what the routes were read from is what they are read from
 pub was-held : (x : Setting) (k l : Command) (held read : FileRead) → InFile x k held → command_of x.words ≡ Some l → IsReadOf l x.before.materials.files read → read ≡ held

@@ -28,36 +28,36 @@ by-command x k o command h = subst (λ (c : Option Command). LeavesFiles x c o) 
 
 -- by the file that a command which runs names for its journal
 by-run : (x : Setting) (k : Command) (limit : ℕ) (o : Outcome) → RunsTo k limit → LeavesNamed x (journal_of k) o → LeavesFiles x (Some k) o
-by-run x (Drain p turns journal) limit o to h = h
-by-run x (Load n) limit o to h = h
+by-run x (Drain p workers turns journal) limit o to h = h
+by-run x (Load n workers) limit o to h = h
 by-run x (Check p) limit o to h = absurd to
 by-run x (Audit p journal) limit o to h = absurd to
 by-run x (Migrate old new) limit o to h = absurd to
 
 unread : (x : Setting) (k : Option Command) → IsStill x → LeavesFiles x k outcome.FilesFault
 unread x None still = still.files
-unread x (Some (Drain p turns None)) still = still.files
-unread x (Some (Drain p turns (Some journal))) still = inl still
+unread x (Some (Drain p workers turns None)) still = still.files
+unread x (Some (Drain p workers turns (Some journal))) still = inl still
 unread x (Some (Check p)) still = still.files
 unread x (Some (Audit p journal)) still = still.files
-unread x (Some (Load n)) still = still.files
+unread x (Some (Load n workers)) still = still.files
 unread x (Some (Migrate old new)) still = inl still.files
 
 faulty : (x : Setting) (k : Command) (read : FileRead) (f : _) → WasRead (asked x) k read → IsStill x → LeavesFiles x (Some k) (outcome.Routes f)
-faulty x (Drain p turns None) read f was still = still.files
-faulty x (Drain p turns (Some journal)) read f was still = still.files
+faulty x (Drain p workers turns None) read f was still = still.files
+faulty x (Drain p workers turns (Some journal)) read f was still = still.files
 faulty x (Check p) read f was still = still.files
 faulty x (Audit p journal) read f was still = still.files
-faulty x (Load n) read f was still = still.files
+faulty x (Load n workers) read f was still = still.files
 faulty x (Migrate old new) read f was still = absurd was.answer
 
 poor : (x : Setting) (k : Option Command) → IsStill x → LeavesFiles x k outcome.NoMemory
 poor x None still = still.files
-poor x (Some (Drain p turns None)) still = still.files
-poor x (Some (Drain p turns (Some journal))) still = (Err files_fault.NoMemory, still.files)
+poor x (Some (Drain p workers turns None)) still = still.files
+poor x (Some (Drain p workers turns (Some journal))) still = (Err files_fault.NoMemory, still.files)
 poor x (Some (Check p)) still = still.files
 poor x (Some (Audit p journal)) still = still.files
-poor x (Some (Load n)) still = still.files
+poor x (Some (Load n workers)) still = still.files
 poor x (Some (Migrate old new)) still = inl still.files
 
 -- the dump is refused
@@ -198,11 +198,11 @@ behind-dump x old new outcome.NoMemory (Err fault.Failed) h = h
 
 behind-leaves : (x : Setting) (k : Option Command) (told : Outcome) (w : Result Unit SinkFault) → LeavesFiles x k told → LeavesFiles x k (behind told w)
 behind-leaves x None told w h = h
-behind-leaves x (Some (Drain p turns None)) told w h = h
-behind-leaves x (Some (Drain p turns (Some journal))) told w h = behind-named x journal told w h
+behind-leaves x (Some (Drain p workers turns None)) told w h = h
+behind-leaves x (Some (Drain p workers turns (Some journal))) told w h = behind-named x journal told w h
 behind-leaves x (Some (Check p)) told w h = h
 behind-leaves x (Some (Audit p journal)) told w h = h
-behind-leaves x (Some (Load n)) told w h = h
+behind-leaves x (Some (Load n workers)) told w h = h
 behind-leaves x (Some (Migrate old new)) told w h = behind-dump x old new told w h
 
 pub leaves : (x : Setting) (o : Outcome) → Reports x o → LeavesFiles x (command_of x.words) o

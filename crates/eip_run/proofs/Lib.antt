@@ -1,6 +1,7 @@
 pub mod Runnable
 pub mod Sites
 pub mod Telling
+pub mod Running
 pub mod Ending
 pub mod Held
 pub mod DumpCauses

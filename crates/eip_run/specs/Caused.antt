@@ -184,10 +184,10 @@ pub record IsHeldAt (p : Path) (files : Option (List File)) (read : FileRead) : 
 
 -- this is what the routes of a command are read from, if it has any: what the file that it names holds, or the built-in routes of a load
 abbrev pub Holds : Command → Option (List File) → FileRead → Type 0
-Holds (Drain p turns journal) files read = IsHeldAt p files read
+Holds (Drain p workers turns journal) files read = IsHeldAt p files read
 Holds (Check p) files read = IsHeldAt p files read
 Holds (Audit p journal) files read = IsHeldAt p files read
-Holds (Load n) files read = read ≡ Bytes (load_text n)
+Holds (Load n workers) files read = read ≡ Bytes (load_text n)
 Holds (Migrate old new) files read = ⊥
 
 -- the words are a command, and this is what its routes are read from

@@ -1,4 +1,4 @@
--- What running a set with a limit on its turns leaves and tells.
+-- What running a set by so many workers with a limit on its turns leaves and tells.
 use Rattle.std.specs.Prelude.{ℕ, ◌≡◌, List, Option, Result}
 use Rattle.eip_route.specs.declared.route.RouteSet.{RouteSet}
 use Rattle.eip_endpoint.specs.Lanes.{LaneView}
@@ -18,11 +18,11 @@ use Rattle.eip_run.specs.Printed.{TellsRun}
 use Rattle.std.specs.Prelude.{codes}
 
 -- this account of a run was given, and its journal written where a file is named for it, or the run found no memory to begin with
-pub data Drained (account : Account) (named : Option Path) (set : RouteSet) (limit : ℕ) (j : JournalView) (files_before files_after : Option (List File)) (count_before count_after : ℕ) (lanes_before lanes_after : List LaneView) (inlets_before inlets_after : List InletView)
+pub data Drained (account : Account) (named : Option Path) (set : RouteSet) (workers limit : ℕ) (j : JournalView) (files_before files_after : Option (List File)) (count_before count_after : ℕ) (lanes_before lanes_after : List LaneView) (inlets_before inlets_after : List InletView)
     (registry : RegistryView) (before after : Option (List ℕ)) (faults_before faults_after : ℕ) : Outcome → Type 0 where
-  RanTo : (s : Stop) (kept : Result Unit FilesFault) (o : Outcome) → Ran set limit j s lanes_before lanes_after inlets_before inlets_after registry
+  RanTo : (s : Stop) (kept : Result Unit FilesFault) (o : Outcome) → Ran set workers limit j s lanes_before lanes_after inlets_before inlets_after registry
       → Keeps named j files_before files_after count_before count_after kept → TellsRun account set j.past s kept before after faults_before faults_after o
-      → Drained account named set limit j files_before files_after count_before count_after lanes_before lanes_after inlets_before inlets_after registry before after faults_before faults_after o
+      → Drained account named set workers limit j files_before files_after count_before count_after lanes_before lanes_after inlets_before inlets_after registry before after faults_before faults_after o
   NotBegun : (o : Outcome) → IsNew j → files_after ≡ files_before → count_after ≡ count_before → lanes_after ≡ lanes_before → inlets_after ≡ inlets_before
       → Told outcome.NoMemory (codes "error memory\n") before after faults_before faults_after o
-      → Drained account named set limit j files_before files_after count_before count_after lanes_before lanes_after inlets_before inlets_after registry before after faults_before faults_after o
+      → Drained account named set workers limit j files_before files_after count_before count_after lanes_before lanes_after inlets_before inlets_after registry before after faults_before faults_after o

@@ -68,6 +68,6 @@ LeavesNamed x (Some p) o = LeavesJournal x p o
 -- no file changes but the one that is named for the journal of a drain, and the new dump of a migration
 abbrev pub LeavesFiles : Setting → Option Command → Outcome → Type 0
 LeavesFiles x None o = SameFiles x
-LeavesFiles x (Some (Drain p turns journal)) o = LeavesNamed x journal o
+LeavesFiles x (Some (Drain p workers turns journal)) o = LeavesNamed x journal o
 LeavesFiles x (Some (Migrate old new)) o = LeavesDump x old new o
 LeavesFiles x (Some _) o = SameFiles x

@@ -30,10 +30,10 @@ UsesRoutes k = Unit {0}
 
 -- what a command does, with its routes where it has any
 abbrev pub job_of : Command → RouteSet → Job
-job_of (Drain p turns journal) set = job.Drain set turns journal
+job_of (Drain p workers turns journal) set = job.Drain set workers turns journal
 job_of (Check p) set = job.Check set
 job_of (Audit p journal) set = job.Audit set journal
-job_of (Load n) set = job.Load set
+job_of (Load n workers) set = job.Load set workers
 job_of (Migrate old new) set = job.Migrate old new
 
 -- the places at which a command's file is judged
@@ -51,11 +51,11 @@ held_at p all = read_of file_limit (bytes_at p.folder p.name all)
 
 -- this is what the routes of a command are read from: the file that its words name, or the built-in routes of a load
 abbrev pub IsReadOf : Command → Option (List File) → FileRead → Type 0
-IsReadOf (Drain p turns journal) files read = IfTold files (λ all. read ≡ held_at p all)
+IsReadOf (Drain p workers turns journal) files read = IfTold files (λ all. read ≡ held_at p all)
 IsReadOf (Check p) files read = IfTold files (λ all. read ≡ held_at p all)
 IsReadOf (Audit p journal) files read = IfTold files (λ all. read ≡ held_at p all)
 IsReadOf (Migrate old new) files read = ⊥
-IsReadOf (Load n) files read = read ≡ Bytes (load_text n)
+IsReadOf (Load n workers) files read = read ≡ Bytes (load_text n)
 
 -- the routes of a command were read from this; the files' count did not rise
 pub record WasRead (x : Asked) (k : Command) (read : FileRead) : Type 0 where

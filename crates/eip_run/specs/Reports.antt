@@ -1,12 +1,12 @@
 -- What a command comes to, what it writes, and what it leaves.
-use Rattle.std.specs.Prelude.{ℕ, ◌≡◌, ◌≢◌, ◌++◌, ◌⊎◌, List, [], codes, Option, Some, None, Result, Ok, Err, IsErrOf}
+use Rattle.std.specs.Prelude.{ℕ, zero, suc, ◌≡◌, ◌≢◌, ◌++◌, ◌⊎◌, List, [], codes, Option, Some, None, Result, Ok, Err, IsErrOf}
 use Rattle.eip_text.specs.Causes.{Rises}
 use Rattle.eip_route.specs.declared.route.RouteSet.{RouteSet}
 use Rattle.eip_route_json.specs.Reading.{Finds}
 use Rattle.eip_route_grammar.specs.declared.fault.RouteFault.{RouteFault}
 use Rattle.eip_route_canonical.specs.Canonical.{canonical_text}
 use Rattle.std.specs.Option.{IsSome}
-use Rattle.eip_command.specs.Words.{default_turns, command_of, path_in, journal_of}
+use Rattle.eip_command.specs.Words.{default_turns, command_of, path_in, journal_of, workers_of}
 use Rattle.eip_command.specs.Causes.{fault_line}
 use Rattle.eip_command.specs.declared.words.Path.{Path}
 use Rattle.eip_command.specs.declared.words.Command.{Command}
@@ -24,9 +24,12 @@ use Rattle.eip_ledger.specs.View.{JournalView}
 use Rattle.eip_ledger.specs.declared.place.Stop.{Stop}
 use Rattle.eip_ledger.specs.declared.place.Stop.TheVariants as stop
 use Rattle.eip_history.specs.Own.{Past}
+use Rattle.eip_history.specs.Owner.{IsOwned}
 use Rattle.eip_history.specs.Rules.{IsLegal, served}
 use Rattle.eip_history.specs.Stop.{stop_of, IsPlain}
 use Rattle.eip_history.specs.BookText.{log_text_of, book_text_of, summary_text_of}
+use Rattle.eip_outlets.specs.Outlets.{outlets}
+use Rattle.eip_owners.specs.Owners.{entries_of}
 use Rattle.eip_plan.specs.Plan.{plan_of}
 use Rattle.eip_endbook.specs.Names.{route_names}
 use Rattle.eip_core.specs.Doors.{doors_among}
@@ -60,23 +63,33 @@ pub record IsStill (x : Setting) : Type 0 where
   pub files : x.after.materials.files ≡ x.before.materials.files
   pub idle : IsIdle x
 
--- the headline of a run of a set with a limit on its turns: the journal is a legal history of the set in which each entry was made by the actor whose
--- turn it was, its stop is what it says, lanes and inlets did what its entries and answers say, in their order, and what was processed or tested by a
--- name was answered by the one of that name
-pub record Ran (set : RouteSet) (limit : ℕ) (j : JournalView) (s : Stop) (lanes_before lanes_after : List LaneView)
+-- the entries of a run by workers: worker 0 made none of them, and each on a lane or an inlet is one of its owner's
+pub record IsShared (set : RouteSet) (workers : ℕ) (past : Past) : Type 0 where
+  pub staffed : entries_of 0 past ≡ []
+  pub owned : IsOwned (plan_of set) (outlets set) workers past
+
+-- who made the entries of a run: without workers the actor whose turn it was, each time, and else the workers
+abbrev pub IsMade : RouteSet → (workers : ℕ) → Past → Type 0
+IsMade set zero past = IsPlain (plan_of set) past
+IsMade set (suc n) past = IsShared set (suc n) past
+
+-- the headline of a run of a set by so many workers with a limit on its turns: the journal is a legal history of the set, made without workers by the
+-- actor whose turn it was, each time, and else by the workers; its stop is what it says, lanes and inlets did what its entries and answers say, in their
+-- order, and what was processed or tested by a name was answered by the one of that name
+pub record Ran (set : RouteSet) (crew limit : ℕ) (j : JournalView) (s : Stop) (lanes_before lanes_after : List LaneView)
     (inlets_before inlets_after : List InletView) (registry : RegistryView) : Type 0 where
-  pub workers : j.workers ≡ 0
+  pub workers : j.workers ≡ crew
   pub turns : j.turns ≡ limit
-  pub legal : IsLegal (plan_of set) 0 limit j.past
-  pub plain : IsPlain (plan_of set) j.past
+  pub legal : IsLegal (plan_of set) crew limit j.past
+  pub made : IsMade set crew j.past
   pub stops : (s ≡ stop.NoMemory) ⊎ (stop_of (plan_of set) limit j.past ≡ Some s)
   pub lanes : LanesGrew 0 (calls (doors_among set lanes_before inlets_before) (seen_answers (served (plan_of set) j.past))) lanes_before lanes_after
   pub inlets : InletsGrew 0 (inlet_acts (doors_among set lanes_before inlets_before) j.past (seen_answers (served (plan_of set) j.past))) inlets_before inlets_after
   pub theirs : AreTheirs registry (served (plan_of set) j.past)
 
 -- the run that a command made
-abbrev pub IsRun : Setting → RouteSet → (limit : ℕ) → Stop → Type 0
-IsRun x set limit s = Ran set limit x.journal s x.before.lanes x.after.lanes x.before.inlets x.after.inlets x.registry
+abbrev pub IsRun : Setting → Command → RouteSet → (limit : ℕ) → Stop → Type 0
+IsRun x k set limit s = Ran set (workers_of k) limit x.journal s x.before.lanes x.after.lanes x.before.inlets x.after.inlets x.registry
 
 -- the log and the book of a run
 abbrev pub run_text : RouteSet → Past → Stop → List ℕ
@@ -93,16 +106,16 @@ account_text account.Summary set past stop = summary_text set past stop
 
 -- the command runs its routes, for at most so many turns
 abbrev pub RunsTo : Command → (limit : ℕ) → Type 0
-RunsTo (Drain p turns journal) limit = limit ≡ turns
-RunsTo (Load n) limit = limit ≡ 1000000
+RunsTo (Drain p workers turns journal) limit = limit ≡ turns
+RunsTo (Load n workers) limit = limit ≡ 1000000
 RunsTo (Check p) limit = ⊥
 RunsTo (Audit p journal) limit = ⊥
 RunsTo (Migrate old new) limit = ⊥
 
 -- what a command tells of its run: a drain the log and the book, a load the last lines of the book alone
 abbrev pub told_of : Command → RouteSet → Past → Stop → List ℕ
-told_of (Drain p turns journal) set past stop = run_text set past stop
-told_of (Load n) set past stop = summary_text set past stop
+told_of (Drain p workers turns journal) set past stop = run_text set past stop
+told_of (Load n workers) set past stop = summary_text set past stop
 told_of (Check p) set past stop = []
 told_of (Audit p journal) set past stop = []
 told_of (Migrate old new) set past stop = []
@@ -137,10 +150,10 @@ pub data Comes (x : Setting) : Outcome → List ℕ → Type 0 where
   -- the routes were checked
   WasChecked : (p : Path) (set : RouteSet) → HasRoutes (asked x) (Check p) set → IsStill x → Comes x outcome.Checked (canonical_text set)
   -- the routes ran to a stop, with the limit on turns of the command, and their journal was written to its file, or the files failed in that
-  Stopped : (k : Command) (limit : ℕ) (set : RouteSet) (s : Stop) (kept : Result Unit FilesFault) → RunsTo k limit → HasRoutes (begun x) k set → IsRun x set limit s
+  Stopped : (k : Command) (limit : ℕ) (set : RouteSet) (s : Stop) (kept : Result Unit FilesFault) → RunsTo k limit → HasRoutes (begun x) k set → IsRun x k set limit s
       → s ≢ stop.NoMemory → KeptBy x k kept → kept ≢ Err files_fault.NoMemory → Comes x (left_by s kept) (told_of k set x.journal.past s)
   -- the routes ran until no memory was left; their journal is written all the same, if it can be
-  Starved : (k : Command) (limit : ℕ) (set : RouteSet) (kept : Result Unit FilesFault) → RunsTo k limit → HasRoutes (begun x) k set → IsRun x set limit stop.NoMemory
+  Starved : (k : Command) (limit : ℕ) (set : RouteSet) (kept : Result Unit FilesFault) → RunsTo k limit → HasRoutes (begun x) k set → IsRun x k set limit stop.NoMemory
       → KeptBy x k kept → Comes x (outcome.Ran stop.NoMemory) (codes "error memory\n")
   -- the dump that the words name could not be read, and the count of faults of the files rose
   DumpUnread : (dump : Path) → AsksDump (begun x) dump → IsStill x → Rises 1 x.before.materials.files_faults x.after.materials.files_faults
@@ -159,7 +172,7 @@ pub data Comes (x : Setting) : Outcome → List ℕ → Type 0 where
   LacksMemory : IsStill x → x.after.materials.files_faults ≡ x.before.materials.files_faults → IsSpared (asked x)
       → Comes x outcome.NoMemory (codes "error memory\n")
   -- no memory was left for the text of a run, or to write its journal
-  LacksText : (k : Command) (limit : ℕ) (set : RouteSet) (s : Stop) (kept : Result Unit FilesFault) → RunsTo k limit → HasRoutes (begun x) k set → IsRun x set limit s
+  LacksText : (k : Command) (limit : ℕ) (set : RouteSet) (s : Stop) (kept : Result Unit FilesFault) → RunsTo k limit → HasRoutes (begun x) k set → IsRun x k set limit s
       → s ≢ stop.NoMemory → KeptBy x k kept → Comes x outcome.NoMemory (codes "error memory\n")
   -- the journal in the old dump was written to the new one, and no memory was left to tell so
   LacksLine : (old new : Path) (entries : ℕ) → IsMigration x old new entries (Ok tt) → Comes x outcome.NoMemory (codes "error memory\n")

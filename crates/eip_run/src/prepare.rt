@@ -28,10 +28,11 @@ const FILE_LIMIT: usize = 1_048_576;
 /// What a command does, with its routes where it has any.
 #[derive(Drop)]
 pub enum Job {
-    /// They run until nothing is left to do, for at most so many turns, and the journal of the run is written to a file, if
-    /// one is named for it.
+    /// They run until nothing is left to do, by so many workers or without any, for at most so many turns, and the journal of the
+    /// run is written to a file, if one is named for it.
     Drain {
         set: RouteSet,
+        workers: u32,
         turns: u32,
         journal: Option<Path>,
     },
@@ -42,8 +43,11 @@ pub enum Job {
         set: RouteSet,
         journal: Path,
     },
-    /// They run as those of a load.
-    Load(RouteSet),
+    /// They run as those of a load, by so many workers or without any.
+    Load {
+        set: RouteSet,
+        workers: u32,
+    },
     /// The journal in the old dump is written to the new one.
     Migrate {
         old: Path,
@@ -106,14 +110,20 @@ fn job_of(command: Command, set: RouteSet) -> Job
     ensures { result ≡ job_of command set }
 {
     match command {
-        Command::Drain { turns, journal, .. } => Job::Drain {
+        Command::Drain {
+            workers,
+            turns,
+            journal,
+            ..
+        } => Job::Drain {
             set,
+            workers,
             turns,
             journal,
         },
         Command::Check { .. } => Job::Check(set),
         Command::Audit { journal, .. } => Job::Audit { set, journal },
-        Command::Load { .. } => Job::Load(set),
+        Command::Load { workers, .. } => Job::Load { set, workers },
         Command::Migrate { old, new } => Job::Migrate { old, new },
     }
 }
@@ -135,7 +145,7 @@ fn route_file<F: Files>(
                 Err(FilesFault::Failed) => Err(Refusal::FilesFault),
                 Err(FilesFault::NoMemory) => Err(Refusal::NoMemory),
             },
-        Command::Load { items } => match load_file(alloc, *items) {
+        Command::Load { items, .. } => match load_file(alloc, *items) {
             Ok(read) => Ok(read),
             Err(NoMemory) => Err(Refusal::NoMemory),
         },

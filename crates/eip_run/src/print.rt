@@ -1,7 +1,6 @@
-ghost use Rattle.std.specs.Prelude.{◌≡◌, IfOk, codes, string_bytes};
+ghost use Rattle.std.specs.Prelude.{◌≡◌, IfOk, codes};
 ghost use Rattle.eip_verdict.specs.declared.verdict.Verdict.TheVariants as verdict;
 ghost use Rattle.eip_run.specs.Dumps.{number_line, verdict_line};
-ghost use Rattle.eip_books.specs.View.{plan};
 ghost use Rattle.eip_run.specs.Reports.{Told, account_text, run_text, summary_text};
 ghost use Rattle.eip_run.specs.Printed.{TellsRefusal, TellsCheck, TellsLine, TellsNoJournal, TellsVerdict, TellsMigration, TellsAccount, TellsRun};
 

@@ -1,9 +1,12 @@
-ghost use Rattle.std.specs.Prelude.{◌≡◌, ◌≤◌, length};
+ghost use Rattle.std.specs.Prelude.{◌≡◌, ◌≤◌, [], length};
 ghost use Rattle.eip_core.specs.Doors.{CanRun};
+ghost use Rattle.eip_core.specs.Drain.{CanDrain};
 ghost use Rattle.eip_core.specs.Served.{names_of};
+ghost use Rattle.eip_endpoint.specs.Inlets.{inlet_views};
+ghost use Rattle.eip_endpoint.specs.Lanes.{lane_views};
 ghost use Rattle.eip_run.specs.Given.{outside};
 ghost use Rattle.eip_run.specs.Kept.{Keeps};
-ghost use Rattle.eip_run.specs.Reports.{IsNew, Reports};
+ghost use Rattle.eip_run.specs.Reports.{IsNew, Ran, Reports};
 ghost use Rattle.eip_run.specs.Caused.{IsReport};
 ghost use Rattle.eip_run.specs.Drained.{Drained};
 
@@ -16,14 +19,18 @@ use crate::report::{Outcome, Report};
 use eip_command::{Path, TURN_LIMIT};
 use eip_core::drain_alone;
 use eip_dump::dump;
-use eip_endpoint::{Files, FilesFault, Inlets, Lanes, Sink};
+use eip_endpoint::{Endpoint, Files, FilesFault, Inlet, Lane, Sink, Source};
 use eip_hub::Hub;
-use eip_ledger::Journal;
+use eip_ledger::{Journal, Stop};
 use eip_processor::Registered;
 use eip_route::RouteSet;
 use eip_simple_read::Patterns;
 use eip_text::Text;
+use eip_worker::NoGate;
+use eip_workers::run_workers;
 use std::alloc::Global;
+use std::sync::Wait;
+use std::thread::Threads;
 
 /// The limit on turns of a load.
 const LOAD_TURNS: u32 = 1_000_000;
@@ -35,9 +42,11 @@ fn unused_journal(alloc: Global) -> Journal
     Journal::new(alloc, 0, TURN_LIMIT)
 }
 
-/// How routes are run: the limit on their turns, what is told of the run, and the file that is named for its journal.
+/// How routes are run: the number of workers and the limit on turns, what is told of the run, and the file that is named for its
+/// journal.
 #[derive(Drop)]
 struct Terms {
+    workers: u32,
     turns: u32,
     account: Account,
     journal: Option<Path>,
@@ -61,50 +70,87 @@ fn keep_journal<F: Files>(
     files.write(&path.folder, &path.name, text.bytes(), false)
 }
 
+/// Drains the sources of a run that has no entry yet: by its workers, or without any by the plain schedule on this thread.
+fn drain_hub<E: Endpoint, S: Source, R: Registered + Sync, W: Threads + Wait + Sync>(
+    rt: &W,
+    alloc: Global,
+    hub: Hub,
+    lanes: &mut Vec<Lane<E>>,
+    inlets: &mut Vec<Inlet<S>>,
+    registry: &R,
+    workers: u32,
+) -> (Hub, Stop)
+    requires workers { (workers ≤ 16) × (hub.journal.workers ≡ workers) }
+    requires begins { hub.journal.past ≡ [] }
+    requires can_run { CanDrain hub (lane_views E.Endpoint lanes.old.items) (inlet_views S.Source inlets.old.items) (R.view registry.now) }
+    ensures set { result.0.set ≡ hub.set }
+    ensures ran { Ran hub.set workers hub.journal.turns result.0.journal result.1 (lane_views E.Endpoint lanes.old.items) (lane_views E.Endpoint lanes.new.items)
+        (inlet_views S.Source inlets.old.items) (inlet_views S.Source inlets.new.items) (R.view registry.now) }
+{
+    if workers > 0 {
+        return run_workers(rt, alloc, hub, lanes, inlets, registry, &NoGate, workers);
+    }
+    let mut hub = hub;
+    let stop = drain_alone(&mut hub, lanes, inlets, registry);
+    (hub, stop)
+}
+
 /// Runs a set of routes on these terms, and gives an account of the run.
-fn drain<F: Files, L: Lanes, I: Inlets, R: Registered, O: Sink>(
+fn drain<F: Files, E: Endpoint, S: Source, R: Registered + Sync, O: Sink, W: Threads + Wait + Sync>(
+    rt: &W,
     alloc: Global,
     set: RouteSet,
     terms: Terms,
     files: &mut F,
-    lanes: &mut L,
-    inlets: &mut I,
+    lanes: &mut Vec<Lane<E>>,
+    inlets: &mut Vec<Inlet<S>>,
     registry: &R,
     out: &mut O,
 ) -> (Outcome, Journal)
     requires few { length set.routes ≤ 256 }
+    requires workers { terms.workers ≤ 16 }
     requires some { 1 ≤ terms.turns }
     requires limit { terms.turns ≤ 1000000 }
-    requires can_run { CanRun set (names_of (L.views lanes.old) (I.views inlets.old) (R.view registry.now)) }
-    ensures drained { Drained terms.account terms.journal set terms.turns result.1 (F.files files.old) (F.files files.new) (F.files_faults files.old) (F.files_faults files.new)
-        (L.views lanes.old) (L.views lanes.new) (I.views inlets.old) (I.views inlets.new)
+    requires can_run { CanRun set (names_of (lane_views E.Endpoint lanes.old.items) (inlet_views S.Source inlets.old.items) (R.view registry.now)) }
+    ensures drained { Drained terms.account terms.journal set terms.workers terms.turns result.1
+        (F.files files.old) (F.files files.new) (F.files_faults files.old) (F.files_faults files.new)
+        (lane_views E.Endpoint lanes.old.items) (lane_views E.Endpoint lanes.new.items) (inlet_views S.Source inlets.old.items) (inlet_views S.Source inlets.new.items)
         (R.view registry.now) (O.bytes out.old) (O.bytes out.new) (O.sink_faults out.old) (O.sink_faults out.new) result.0 }
 {
-    let Ok(mut hub) = Hub::new(alloc, set, 0, terms.turns) else {
+    let Ok(hub) = Hub::new(alloc, set, terms.workers, terms.turns) else {
         let outcome = tell_memory(out, Outcome::NoMemory);
         return (outcome, unused_journal(alloc));
     };
-    let stop = drain_alone(&mut hub, lanes, inlets, registry);
+    let (hub, stop) = drain_hub(rt, alloc, hub, lanes, inlets, registry, terms.workers);
     let kept = keep_journal(alloc, &terms.journal, hub.journal(), files);
     let outcome = tell_run(alloc, &hub, terms.account, stop, kept, out);
     (outcome, hub.into_journal())
 }
 
 /// Does what the words ask for, or tells why nothing is done.
-fn carry_out<F: Files, P: Patterns, L: Lanes, I: Inlets, R: Registered, O: Sink>(
+fn carry_out<
+    F: Files,
+    P: Patterns,
+    E: Endpoint,
+    S: Source,
+    R: Registered + Sync,
+    O: Sink,
+    W: Threads + Wait + Sync,
+>(
+    rt: &W,
     alloc: Global,
     words: &[Text],
     files: &mut F,
     patterns: &mut P,
-    lanes: &mut L,
-    inlets: &mut I,
+    lanes: &mut Vec<Lane<E>>,
+    inlets: &mut Vec<Inlet<S>>,
     registry: &R,
     out: &mut O,
 ) -> (Outcome, Journal)
     ensures report { Reports (record {
       words = words.now;
-      before = outside F.Files O.Sink files.old (P.pattern_faults patterns.old) (L.views lanes.old) (I.views inlets.old) out.old;
-      after = outside F.Files O.Sink files.new (P.pattern_faults patterns.new) (L.views lanes.new) (I.views inlets.new) out.new;
+      before = outside F.Files O.Sink files.old (P.pattern_faults patterns.old) (lane_views E.Endpoint lanes.old.items) (inlet_views S.Source inlets.old.items) out.old;
+      after = outside F.Files O.Sink files.new (P.pattern_faults patterns.new) (lane_views E.Endpoint lanes.new.items) (inlet_views S.Source inlets.new.items) out.new;
       registry = R.view registry.now;
       journal = result.1;
     }) result.0 }
@@ -113,24 +159,27 @@ fn carry_out<F: Files, P: Patterns, L: Lanes, I: Inlets, R: Registered, O: Sink>
         Ok(
             Job::Drain {
                 set,
+                workers,
                 turns,
                 journal,
             },
         ) => {
             let terms = Terms {
+                workers,
                 turns,
                 account: Account::Whole,
                 journal,
             };
-            drain(alloc, set, terms, files, lanes, inlets, registry, out)
+            drain(rt, alloc, set, terms, files, lanes, inlets, registry, out)
         }
-        Ok(Job::Load(set)) => {
+        Ok(Job::Load { set, workers }) => {
             let terms = Terms {
+                workers,
                 turns: LOAD_TURNS,
                 account: Account::Summary,
                 journal: None,
             };
-            drain(alloc, set, terms, files, lanes, inlets, registry, out)
+            drain(rt, alloc, set, terms, files, lanes, inlets, registry, out)
         }
         Ok(Job::Check(set)) => (tell_check(alloc, out, &set), unused_journal(alloc)),
         Ok(Job::Audit { set, journal }) => {
@@ -150,7 +199,8 @@ fn carry_out<F: Files, P: Patterns, L: Lanes, I: Inlets, R: Registered, O: Sink>
 /// at most as many turns as the words name or 100,000 where they name none, and writes log and book to `out` by one call; a
 /// `check` writes the routes in their canonical form. A `load` reads no file: it runs the built-in routes of the load test for
 /// at most 1,000,000 turns, and writes the last three lines of the book alone; those routes have a fault where no inlet `load`
-/// and no processor `keep` is handed in. An `audit` reads a route file too, and then a dump: it writes whether the journal in it is a
+/// and no processor `keep` is handed in. Where the words of a drain or a load name workers, these run the routes, each in a thread of
+/// its own where one can be started, and it is not said that the call returns then, since it waits for them. An `audit` reads a route file too, and then a dump: it writes whether the journal in it is a
 /// legal history of the routes, or else the first entry that breaks its rule. A `migrate` reads a dump of any version and writes its
 /// journal to another file in the latest one. A dump has at most 268,435,456 bytes.
 ///
@@ -162,22 +212,33 @@ fn carry_out<F: Files, P: Patterns, L: Lanes, I: Inlets, R: Registered, O: Sink>
 /// The first cause that applies decides the outcome: the words, the reading of the route file, the routes, the reading of the dump,
 /// the dump, a fault of a source, spent turns, held groups, the file of the journal or the new dump, the sink. Want of memory ends the
 /// command where it is met.
-pub fn run<F: Files, P: Patterns, L: Lanes, I: Inlets, R: Registered, O: Sink>(
+pub fn run<
+    F: Files,
+    P: Patterns,
+    E: Endpoint,
+    S: Source,
+    R: Registered + Sync,
+    O: Sink,
+    W: Threads + Wait + Sync,
+>(
+    rt: &W,
     alloc: Global,
     words: &[Text],
     files: &mut F,
     patterns: &mut P,
-    lanes: &mut L,
-    inlets: &mut I,
+    lanes: &mut Vec<Lane<E>>,
+    inlets: &mut Vec<Inlet<S>>,
     registry: &R,
     out: &mut O,
 ) -> Report
     ensures { IsReport words.now
-        (outside F.Files O.Sink files.old (P.pattern_faults patterns.old) (L.views lanes.old) (I.views inlets.old) out.old)
-        (outside F.Files O.Sink files.new (P.pattern_faults patterns.new) (L.views lanes.new) (I.views inlets.new) out.new)
+        (outside F.Files O.Sink files.old (P.pattern_faults patterns.old) (lane_views E.Endpoint lanes.old.items) (inlet_views S.Source inlets.old.items) out.old)
+        (outside F.Files O.Sink files.new (P.pattern_faults patterns.new) (lane_views E.Endpoint lanes.new.items) (inlet_views S.Source inlets.new.items) out.new)
         (R.view registry.now) result }
 {
-    let (outcome, journal) = carry_out(alloc, words, files, patterns, lanes, inlets, registry, out);
+    let (outcome, journal) = carry_out(
+        rt, alloc, words, files, patterns, lanes, inlets, registry, out,
+    );
     Report {
         status: outcome.status(),
         outcome,

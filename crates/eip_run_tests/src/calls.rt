@@ -2,7 +2,9 @@ use crate::given::{DRAIN, comes_to};
 use eip_test_support::joined;
 use eip_text::{NoMemory, decimal};
 use std::alloc::Global;
+use std::sync::Wait;
 use std::test::Fail;
+use std::thread::Threads;
 
 /// A route that offers its message three times to a queue with room for two.
 const THRICE: &str =
@@ -65,7 +67,7 @@ const DRAINED: [(&str, &str); 7] = [
 #[test]
 fn routes_call_one_another_and_offer_to_queues(rt: HostRuntime) -> Result<(), Fail> {
     for (routes, text) in DRAINED {
-        let told = comes_to(rt.alloc(), &DRAIN, routes, &["a"], 0, text)?;
+        let told = comes_to(&rt, &DRAIN, routes, &["a"], 0, text)?;
         assert!(rt; told, "of {routes}");
     }
     Ok(())
@@ -95,7 +97,7 @@ const LIMITED: [(&str, u8, &str); 3] = [
 fn a_run_stops_behind_the_turns_that_the_words_name(rt: HostRuntime) -> Result<(), Fail> {
     for (turns, status, text) in LIMITED {
         let words = ["drain", "r.json", "--turns", turns];
-        let told = comes_to(rt.alloc(), &words, DEEP, &["a"], status, text)?;
+        let told = comes_to(&rt, &words, DEEP, &["a"], status, text)?;
         assert!(rt; told, "of {turns}");
     }
     Ok(())
@@ -118,23 +120,24 @@ fn completed_to(alloc: Global, last: u64) -> Result<String, NoMemory> {
 
 /// Whether a drain by these words of the line `a`, which goes round, comes to this status, and the book has so many
 /// completed exchanges and behind them this.
-fn goes_round(
-    alloc: Global,
+fn goes_round<W: AllocGlobal + Threads + Wait + Sync>(
+    rt: &W,
     words: &[&str],
     completed: u64,
     status: u8,
     back: &str,
 ) -> Result<bool, NoMemory> {
+    let alloc = rt.alloc();
     let front = completed_to(alloc, completed)?;
     let text = joined(alloc, &[front.as_str(), back])?;
-    comes_to(alloc, words, ROUND, &["a"], status, text.as_str())
+    comes_to(rt, words, ROUND, &["a"], status, text.as_str())
 }
 
 #[test]
 fn a_copy_has_passed_a_hundred_queues_at_most(rt: HostRuntime) -> Result<(), Fail> {
     let back =
         "exchange 101 queue l failed TooManyHops \"seda:l\"\naccepted 1 refused 0\ntotal 101 completed 100 handled 0 failed 1 waiting 0\ndrained\n";
-    let told = goes_round(rt.alloc(), &DRAIN, 100, 0, back)?;
+    let told = goes_round(&rt, &DRAIN, 100, 0, back)?;
     assert!(rt; told);
     Ok(())
 }
@@ -144,7 +147,7 @@ fn who_waits_where_when_the_turns_are_spent_is_told(rt: HostRuntime) -> Result<(
     let words = ["drain", "r.json", "--turns", "50"];
     let back =
         "exchange 25 queue l waiting ready\nexchange 26 queue l waiting queue l\naccepted 1 refused 0\ntotal 26 completed 24 handled 0 failed 0 waiting 2\nspent 50\n";
-    let told = goes_round(rt.alloc(), &words, 24, 4, back)?;
+    let told = goes_round(&rt, &words, 24, 4, back)?;
     assert!(rt; told);
     Ok(())
 }

@@ -36,7 +36,7 @@ fn parts(command: &Command) -> (&str, Option<&Path>, Option<u32>) {
         Command::Drain { routes, turns, .. } => ("drain", Some(routes), Some(*turns)),
         Command::Check { routes } => ("check", Some(routes), None),
         Command::Audit { routes, .. } => ("audit", Some(routes), None),
-        Command::Load { items } => ("load", None, Some(*items)),
+        Command::Load { items, .. } => ("load", None, Some(*items)),
         Command::Migrate { old, .. } => ("migrate", Some(old), None),
     }
 }
@@ -84,8 +84,49 @@ fn a_command_names_its_file_and_its_limit_on_turns(rt: HostRuntime) -> Result<()
     Ok(())
 }
 
+/// Words of a drain or a load, and the number of workers that they name.
+const BY_WORKERS: [(&[&str], u32); 8] = [
+    (&["drain", "r.json"], 0),
+    (&["drain", "r.json", "--workers", "0"], 0),
+    (&["drain", "r.json", "--workers", "16"], 16),
+    (&["drain", "r.json", "--workers", "2", "--turns", "5"], 2),
+    (&["drain", "r.json", "--turns", "5", "--workers", "2"], 2),
+    (
+        &[
+            "drain",
+            "r.json",
+            "--journal",
+            "j",
+            "--workers",
+            "2",
+            "--turns",
+            "5",
+        ],
+        2,
+    ),
+    (&["load", "10", "0"], 0),
+    (&["load", "10", "4"], 4),
+];
+
+/// The number of workers of a command.
+fn workers(command: &Command) -> Option<u32> {
+    match command {
+        Command::Drain { workers, .. } | Command::Load { workers, .. } => Some(*workers),
+        _ => None,
+    }
+}
+
+#[test]
+fn a_drain_and_a_load_name_their_workers(rt: HostRuntime) -> Result<(), Fail> {
+    for (words, number) in BY_WORKERS {
+        let command = read_words(rt.alloc(), &texts(rt.alloc(), words)?)?;
+        assert!(rt; workers(&command) == Some(number));
+    }
+    Ok(())
+}
+
 /// Words that are no command.
-const NO_COMMANDS: [&[&str]; 30] = [
+const NO_COMMANDS: [&[&str]; 36] = [
     &[],
     &["drain"],
     &["drain", "r.json", "--turns", "0"],
@@ -114,8 +155,14 @@ const NO_COMMANDS: [&[&str]; 30] = [
     &["r.json", "drain"],
     &["load", "0", "0"],
     &["load", "20001", "0"],
-    &["load", "10", "1"],
+    &["load", "10", "17"],
+    &["load", "10", "01"],
     &["load", "10"],
+    &["drain", "r.json", "--workers", "17"],
+    &["drain", "r.json", "--workers", "01"],
+    &["drain", "r.json", "--workers", "2", "--workers", "2"],
+    &["drain", "r.json", "--workers"],
+    &["check", "r.json", "--workers", "2"],
 ];
 
 #[test]

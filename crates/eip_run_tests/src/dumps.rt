@@ -7,7 +7,9 @@ use eip_simple_read::CratePatterns;
 use eip_test_support::joined;
 use eip_text::{NoMemory, Series, Text};
 use std::alloc::Global;
+use std::sync::Wait;
 use std::test::Fail;
+use std::thread::Threads;
 
 /// A lane that is tried three times, and behind it a line of the log.
 const RETRYING: &str =
@@ -107,7 +109,7 @@ fn the_journal_of_a_dump_is_judged_by_the_routes(rt: HostRuntime) -> Result<(), 
     for (pieces, status, text) in AUDITS {
         let dump = joined(rt.alloc(), pieces)?;
         let mut given = given_dump(rt.alloc(), &["audit", "r.json", "j"], dump.as_str(), SOUND)?;
-        let report = reported(rt.alloc(), &mut given);
+        let report = reported(&rt, &mut given);
         assert!(rt;
             report.status == status && given.out.bytes() == text.as_bytes(),
             "of {dump}"
@@ -149,7 +151,7 @@ fn a_file_or_a_sink_that_fails_ends_an_audit(rt: HostRuntime) -> Result<(), Fail
         let dump = joined(rt.alloc(), &[first, TAKEN, FAILED, SLEPT, TICK, TRIED])?;
         let words = ["audit", "r.json", "j"];
         let mut given = given_dump(rt.alloc(), &words, dump.as_str(), failing)?;
-        let report = reported(rt.alloc(), &mut given);
+        let report = reported(&rt, &mut given);
         assert!(rt; report.status == status && given.out.bytes() == text.as_bytes());
     }
     Ok(())
@@ -167,7 +169,7 @@ const REFUSED: [(&[&str], u8, &str); 4] = [
 fn the_routes_are_looked_at_before_the_dump(rt: HostRuntime) -> Result<(), Fail> {
     for (words, status, text) in REFUSED {
         let mut given = given_dump(rt.alloc(), words, FIRST, SOUND)?;
-        let report = reported(rt.alloc(), &mut given);
+        let report = reported(&rt, &mut given);
         assert!(rt; report.status == status && given.out.bytes() == text.as_bytes());
         assert!(rt; given.files.content().len() == 2);
     }
@@ -184,13 +186,18 @@ const MIGRATIONS: [(&str, &str, bool); 4] = [
 
 /// Whether a migration of the dump with this first line to the file of this name is told, whether that file holds it in the latest
 /// version, and whether the old one is as it was.
-fn migrates(alloc: Global, name: &str, first: &str) -> Result<[bool; 3], NoMemory> {
+fn migrates<W: AllocGlobal + Threads + Wait + Sync>(
+    rt: &W,
+    name: &str,
+    first: &str,
+) -> Result<[bool; 3], NoMemory> {
+    let alloc = rt.alloc();
     let entries = joined(alloc, &ENTRIES)?;
     let dump = joined(alloc, &[first, entries.as_str()])?;
     let latest = joined(alloc, &[SECOND, entries.as_str()])?;
     let words = ["migrate", "j", name];
     let mut given = given_dump(alloc, &words, dump.as_str(), SOUND)?;
-    let status = reported(alloc, &mut given).status;
+    let status = reported(rt, &mut given).status;
     Ok([
         status == 0 && given.out.bytes() == "migrated 16\n".as_bytes(),
         held(&given, name) == Some(latest.as_bytes()),
@@ -201,7 +208,7 @@ fn migrates(alloc: Global, name: &str, first: &str) -> Result<[bool; 3], NoMemor
 #[test]
 fn a_dump_of_any_version_is_written_in_the_latest(rt: HostRuntime) -> Result<(), Fail> {
     for (name, first, stays) in MIGRATIONS {
-        let told = migrates(rt.alloc(), name, first)?;
+        let told = migrates(&rt, name, first)?;
         assert!(rt; told == [true, true, stays], "to {name} from {first}");
     }
     Ok(())
@@ -240,7 +247,7 @@ fn a_dump_that_is_refused_and_files_that_fail_write_nothing(rt: HostRuntime) -> 
     for (failing, first, status, text, written) in FAILING_MIGRATIONS {
         let dump = joined(rt.alloc(), &[first, TAKEN])?;
         let mut given = given_dump(rt.alloc(), &["migrate", "j", "k"], dump.as_str(), failing)?;
-        let report = reported(rt.alloc(), &mut given);
+        let report = reported(&rt, &mut given);
         assert!(rt; report.status == status && given.out.bytes() == text.as_bytes());
         assert!(rt; held(&given, "k").is_some() == written);
         assert!(rt; held(&given, "j") == Some(dump.as_bytes()));
@@ -291,6 +298,7 @@ fn a_dump_that_is_too_long_is_told(rt: HostRuntime) -> Result<(), Fail> {
     let mut given = given_with(alloc, &["migrate", "j", "k"], RETRYING, &[], SOUND)?;
     let mut patterns = CratePatterns::new(Vec::new(alloc));
     let report = run(
+        &rt,
         alloc,
         &given.words,
         &mut LongFiles {},

@@ -5,7 +5,9 @@ use eip_ledger::{Entry, Kind};
 use eip_test_support::joined;
 use eip_text::{NoMemory, decimal};
 use std::alloc::Global;
+use std::sync::Wait;
 use std::test::Fail;
+use std::thread::Threads;
 
 /// A dead letter channel to a log, with two attempts more.
 const DEAD_LOG: &str =
@@ -245,14 +247,15 @@ pub fn ticks_of(alloc: Global, entries: &[Entry]) -> Result<String, NoMemory> {
 }
 
 /// Whether a drain prints this, with answers of these letters and with these ticks.
-pub fn runs_so(
-    alloc: Global,
+pub fn runs_so<W: AllocGlobal + Threads + Wait + Sync>(
+    rt: &W,
     given: &mut Given,
     text: &str,
     letters: &str,
     ticks: &str,
 ) -> Result<bool, NoMemory> {
-    let report = reported(alloc, given);
+    let alloc = rt.alloc();
+    let report = reported(rt, given);
     let entries = report.journal.entries();
     let answered = letters_of(alloc, entries)?;
     let ticked = ticks_of(alloc, entries)?;
@@ -269,7 +272,7 @@ fn what_fails_is_tried_again_and_handled_as_the_file_says(rt: HostRuntime) -> Re
     for (handler, steps, failing, line, text, calls, ticks) in RUNS {
         let routes = routes_of(rt.alloc(), handler, steps)?;
         let mut given = given_failing(rt.alloc(), &DRAIN, routes.as_str(), failing, line)?;
-        let told = runs_so(rt.alloc(), &mut given, text, calls, ticks)?;
+        let told = runs_so(&rt, &mut given, text, calls, ticks)?;
         assert!(rt; told, "of {routes} failing {failing}");
     }
     Ok(())
@@ -284,7 +287,7 @@ fn who_sleeps_when_the_turns_are_spent_is_told(rt: HostRuntime) -> Result<(), Fa
     let words = ["drain", "r.json", "--turns", "3"];
     let routes = routes_of(rt.alloc(), DEAD_LOG, SENT)?;
     let mut given = given_failing(rt.alloc(), &words, routes.as_str(), 1, "a")?;
-    let report = reported(rt.alloc(), &mut given);
+    let report = reported(&rt, &mut given);
     assert!(rt; report.status == 4 && given.out.bytes() == ASLEEP.as_bytes());
     Ok(())
 }

@@ -7,6 +7,8 @@ use eip_simple_read::CratePatterns;
 use eip_test_support::{joined, texts};
 use eip_text::{NoMemory, Series, Text};
 use std::alloc::Global;
+use std::sync::Wait;
+use std::thread::Threads;
 
 /// The words of the commands on the file `r.json`.
 pub const DRAIN: [&str; 2] = ["drain", "r.json"];
@@ -103,9 +105,11 @@ pub fn given_with(
 }
 
 /// The report of a command.
-pub fn reported(alloc: Global, given: &mut Given) -> Report {
+pub fn reported<W: AllocGlobal + Threads + Wait + Sync>(rt: &W, given: &mut Given) -> Report {
+    let alloc = rt.alloc();
     let mut patterns = CratePatterns::new(Vec::new(alloc));
     run(
+        rt,
         alloc,
         &given.words,
         &mut given.files,
@@ -118,45 +122,53 @@ pub fn reported(alloc: Global, given: &mut Given) -> Report {
 }
 
 /// Whether a command comes to this status and writes this.
-fn came(alloc: Global, given: &mut Given, status: u8, text: &str) -> bool {
-    reported(alloc, given).status == status && given.out.bytes() == text.as_bytes()
+fn came<W: AllocGlobal + Threads + Wait + Sync>(
+    rt: &W,
+    given: &mut Given,
+    status: u8,
+    text: &str,
+) -> bool {
+    reported(rt, given).status == status && given.out.bytes() == text.as_bytes()
 }
 
 /// Whether the command of these words, where `r.json` has these routes and standard input these lines, comes to this
 /// status and writes this.
-pub fn comes_to(
-    alloc: Global,
+pub fn comes_to<W: AllocGlobal + Threads + Wait + Sync>(
+    rt: &W,
     words: &[&str],
     routes: &str,
     lines: &[&str],
     status: u8,
     text: &str,
 ) -> Result<bool, NoMemory> {
+    let alloc = rt.alloc();
     let mut given = given_with(alloc, words, routes, lines, SOUND)?;
-    Ok(came(alloc, &mut given, status, text))
+    Ok(came(rt, &mut given, status, text))
 }
 
 /// The same where these calls fail.
-pub fn comes_at_fault_to(
-    alloc: Global,
+pub fn comes_at_fault_to<W: AllocGlobal + Threads + Wait + Sync>(
+    rt: &W,
     routes: &str,
     failing: Failing,
     status: u8,
     text: &str,
 ) -> Result<bool, NoMemory> {
+    let alloc = rt.alloc();
     let mut given = given_with(alloc, &DRAIN, routes, &["a", "b"], failing)?;
-    Ok(came(alloc, &mut given, status, text))
+    Ok(came(rt, &mut given, status, text))
 }
 
 /// Whether a line that comes through these steps is drained, with this log and this book.
-pub fn is_stepped(
-    alloc: Global,
+pub fn is_stepped<W: AllocGlobal + Threads + Wait + Sync>(
+    rt: &W,
     steps: &str,
     body: &str,
     front: &str,
     totals: &str,
 ) -> Result<bool, NoMemory> {
+    let alloc = rt.alloc();
     let routes = route_of(alloc, steps)?;
     let text = joined(alloc, &[front, totals])?;
-    comes_to(alloc, &DRAIN, routes.as_str(), &[body], 0, text.as_str())
+    comes_to(rt, &DRAIN, routes.as_str(), &[body], 0, text.as_str())
 }

@@ -2,7 +2,9 @@ use crate::errors::{failing_lane, ticks_of};
 use crate::given::{DRAIN, Given, SOUND, given_with, reported, route_of};
 use eip_text::NoMemory;
 use std::alloc::Global;
+use std::sync::Wait;
 use std::test::Fail;
+use std::thread::Threads;
 
 /// Messages with one body, two by two.
 const IN_PAIRS: &str =
@@ -117,14 +119,15 @@ const DRAINED: [(&str, &[&str], u8, &str, &str); 11] = [
 ];
 
 /// Whether a drain comes to this status and prints this, with these ticks.
-fn ends_so(
-    alloc: Global,
+fn ends_so<W: AllocGlobal + Threads + Wait + Sync>(
+    rt: &W,
     given: &mut Given,
     status: u8,
     text: &str,
     ticks: &str,
 ) -> Result<bool, NoMemory> {
-    let report = reported(alloc, given);
+    let alloc = rt.alloc();
+    let report = reported(rt, given);
     let ticked = ticks_of(alloc, report.journal.entries())?;
     let is_told = given.out.bytes() == text.as_bytes();
     Ok(report.status == status && is_told && ticked.as_str() == ticks)
@@ -135,7 +138,7 @@ fn groups_and_batches_go_on_when_they_are_closed(rt: HostRuntime) -> Result<(), 
     for (steps, lines, status, text, ticks) in DRAINED {
         let routes = route_of(rt.alloc(), steps)?;
         let mut given = given_with(rt.alloc(), &DRAIN, routes.as_str(), lines, SOUND)?;
-        let told = ends_so(rt.alloc(), &mut given, status, text, ticks)?;
+        let told = ends_so(&rt, &mut given, status, text, ticks)?;
         assert!(rt; told, "of {steps} over {text}");
     }
     Ok(())
@@ -153,7 +156,7 @@ const LATE_TEXT: &str =
 fn a_group_is_due_behind_its_last_arrival(rt: HostRuntime) -> Result<(), Fail> {
     let mut given = given_with(rt.alloc(), &DRAIN, LATE, &["a", "b"], SOUND)?;
     given.lanes = failing_lane(rt.alloc(), 1)?;
-    let told = ends_so(rt.alloc(), &mut given, 0, LATE_TEXT, "3 8 ")?;
+    let told = ends_so(&rt, &mut given, 0, LATE_TEXT, "3 8 ")?;
     assert!(rt; told);
     Ok(())
 }

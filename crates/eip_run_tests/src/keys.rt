@@ -242,7 +242,7 @@ fn a_key_is_held_as_its_step_says(rt: HostRuntime) -> Result<(), Fail> {
     for (handler, steps, failing, lines, text, letters, ticks) in RUNS {
         let routes = routes_of(rt.alloc(), handler, steps)?;
         let mut given = given_lines(rt.alloc(), routes.as_str(), failing, lines)?;
-        let told = runs_so(rt.alloc(), &mut given, text, letters, ticks)?;
+        let told = runs_so(&rt, &mut given, text, letters, ticks)?;
         assert!(rt; told, "of {routes} failing {failing}");
     }
     Ok(())

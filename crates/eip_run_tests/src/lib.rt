@@ -29,3 +29,5 @@ mod sizes;
 mod tries;
 #[cfg(test)]
 mod wanting;
+#[cfg(test)]
+mod workers;

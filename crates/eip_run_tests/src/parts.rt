@@ -3,7 +3,9 @@ use crate::runs::{COMPLETED, FAILED};
 use eip_test_support::{joined, repeated};
 use eip_text::{NoMemory, decimal};
 use std::alloc::Global;
+use std::sync::Wait;
 use std::test::Fail;
+use std::thread::Threads;
 
 /// A split whose parts are logged, before one more line of the log.
 const LOGGED: &str =
@@ -134,7 +136,7 @@ const DRAINED: [(&str, &str, &str, &str); 13] = [
 #[test]
 fn parts_are_born_in_order_and_joined_by_index(rt: HostRuntime) -> Result<(), Fail> {
     for (steps, line, front, totals) in DRAINED {
-        let told = is_stepped(rt.alloc(), steps, line, front, totals)?;
+        let told = is_stepped(&rt, steps, line, front, totals)?;
         assert!(rt; told, "of {steps} with {line}");
     }
     Ok(())
@@ -146,7 +148,7 @@ fn the_parents_properties_stay_behind_its_parts(rt: HostRuntime) -> Result<(), F
         "log 1 route1: b 1 of 2 true parent \nexchange 1 source route1 completed\nexchange 2 part 1.0 completed\nexchange 3 part 1.1 completed\n";
     let totals =
         "accepted 1 refused 0\ntotal 3 completed 3 handled 0 failed 0 waiting 0\ndrained\n";
-    let told = is_stepped(rt.alloc(), PROPERTIES, "a,b", front, totals)?;
+    let told = is_stepped(&rt, PROPERTIES, "a,b", front, totals)?;
     assert!(rt; told);
     Ok(())
 }
@@ -160,7 +162,7 @@ fn a_parent_waits_in_the_place_joining(rt: HostRuntime) -> Result<(), Fail> {
     let words = ["drain", "r.json", "--turns", "4"];
     let text =
         "log 2 p: a\nexchange 1 source route1 waiting joining\nexchange 2 part 1.0 completed\nexchange 3 part 1.1 waiting ready\naccepted 1 refused 0\ntotal 3 completed 1 handled 0 failed 0 waiting 2\nspent 4\n";
-    let told = comes_to(rt.alloc(), &words, AT_ONCE, &["a,b"], 4, text)?;
+    let told = comes_to(&rt, &words, AT_ONCE, &["a,b"], 4, text)?;
     assert!(rt; told);
     Ok(())
 }
@@ -173,7 +175,7 @@ const QUEUED: &str =
 fn what_a_part_puts_into_a_queue_is_no_part(rt: HostRuntime) -> Result<(), Fail> {
     let text =
         "log 1 o: a,b\nlog 3 q: a\nlog 5 q: b\nexchange 1 source route1 completed\nexchange 2 part 1.0 completed\nexchange 3 queue q completed\nexchange 4 part 1.1 completed\nexchange 5 queue q completed\naccepted 1 refused 0\ntotal 5 completed 5 handled 0 failed 0 waiting 0\ndrained\n";
-    let told = comes_to(rt.alloc(), &DRAIN, QUEUED, &["a,b"], 0, text)?;
+    let told = comes_to(&rt, &DRAIN, QUEUED, &["a,b"], 0, text)?;
     assert!(rt; told);
     Ok(())
 }
@@ -195,12 +197,18 @@ fn parts_to(alloc: Global, count: u64) -> Result<String, NoMemory> {
 }
 
 /// Whether a line of so many commas comes to this book and these totals.
-fn are_split(alloc: Global, commas: usize, front: &str, totals: &str) -> Result<bool, NoMemory> {
+fn are_split<W: AllocGlobal + Threads + Wait + Sync>(
+    rt: &W,
+    commas: usize,
+    front: &str,
+    totals: &str,
+) -> Result<bool, NoMemory> {
+    let alloc = rt.alloc();
     let line = repeated(alloc, ",", commas)?;
     let routes = route_of(alloc, BARE)?;
     let text = joined(alloc, &[front, totals])?;
     comes_to(
-        alloc,
+        rt,
         &DRAIN,
         routes.as_str(),
         &[line.as_str()],
@@ -214,10 +222,10 @@ fn a_message_has_ten_thousand_parts_at_most(rt: HostRuntime) -> Result<(), Fail>
     let front = parts_to(rt.alloc(), 10_000)?;
     let totals =
         "accepted 1 refused 0\ntotal 10001 completed 10001 handled 0 failed 0 waiting 0\ndrained\n";
-    let most = are_split(rt.alloc(), 10_000, front.as_str(), totals)?;
+    let most = are_split(&rt, 10_000, front.as_str(), totals)?;
     assert!(rt; most);
     let front = "exchange 1 source route1 failed TooManyParts \"10001\"\n";
-    let more = are_split(rt.alloc(), 10_001, front, FAILED)?;
+    let more = are_split(&rt, 10_001, front, FAILED)?;
     assert!(rt; more);
     Ok(())
 }
@@ -229,11 +237,11 @@ const DOUBLED: &str = r#"[{"setBody":{"simple":"${body}${body}"}}]"#;
 fn a_body_that_grows_too_long_fails(rt: HostRuntime) -> Result<(), Fail> {
     let half = repeated(rt.alloc(), "x", 32_768)?;
     let line = "exchange 1 source route1 completed\n";
-    let kept = is_stepped(rt.alloc(), DOUBLED, half.as_str(), line, COMPLETED)?;
+    let kept = is_stepped(&rt, DOUBLED, half.as_str(), line, COMPLETED)?;
     assert!(rt; kept);
     let more = repeated(rt.alloc(), "x", 32_769)?;
     let line = "exchange 1 source route1 failed TooLong \"\"\n";
-    let over = is_stepped(rt.alloc(), DOUBLED, more.as_str(), line, FAILED)?;
+    let over = is_stepped(&rt, DOUBLED, more.as_str(), line, FAILED)?;
     assert!(rt; over);
     Ok(())
 }

@@ -128,7 +128,7 @@ fn what_is_handed_in_answers_for_its_steps(rt: HostRuntime) -> Result<(), Fail> 
     for (handler, steps, lines, text, letters, ticks) in RUNS {
         let routes = routes_of(rt.alloc(), handler, steps)?;
         let mut given = given_lines(rt.alloc(), routes.as_str(), 0, lines)?;
-        let told = runs_so(rt.alloc(), &mut given, text, letters, ticks)?;
+        let told = runs_so(&rt, &mut given, text, letters, ticks)?;
         assert!(rt; told, "of {routes}");
     }
     Ok(())
@@ -166,7 +166,7 @@ const UNKNOWN: [(&str, &str); 6] = [
 fn a_name_that_nobody_has_is_refused_with_its_place(rt: HostRuntime) -> Result<(), Fail> {
     for (steps, text) in UNKNOWN {
         let routes = route_of(rt.alloc(), steps)?;
-        let told = comes_to(rt.alloc(), &DRAIN, routes.as_str(), &[], 1, text)?;
+        let told = comes_to(&rt, &DRAIN, routes.as_str(), &[], 1, text)?;
         assert!(rt; told, "of {steps}");
     }
     Ok(())

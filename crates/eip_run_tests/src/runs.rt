@@ -8,7 +8,9 @@ use eip_ledger::{Entry, Kind};
 use eip_test_support::repeated;
 use eip_text::{NoMemory, decimal};
 use std::alloc::Global;
+use std::sync::Wait;
 use std::test::Fail;
+use std::thread::Threads;
 
 /// Steps to a log and to two lanes.
 const STEPS: &str =
@@ -28,7 +30,7 @@ const OTHER_LANE: &str = "[{\"from\":{\"uri\":\"stream:in\",\"steps\":[{\"to\":\
 fn each_line_is_sent_and_the_book_stands_behind_the_log(rt: HostRuntime) -> Result<(), Fail> {
     let text =
         "log 1 out: hi\nlog 2 out: hi\nexchange 1 source route1 completed\nexchange 2 source route1 completed\naccepted 2 refused 0\ntotal 2 completed 2 handled 0 failed 0 waiting 0\ndrained\n";
-    let told = comes_to(rt.alloc(), &DRAIN, STEPS, &["a", "b"], 0, text)?;
+    let told = comes_to(&rt, &DRAIN, STEPS, &["a", "b"], 0, text)?;
     assert!(rt; told);
     Ok(())
 }
@@ -36,7 +38,7 @@ fn each_line_is_sent_and_the_book_stands_behind_the_log(rt: HostRuntime) -> Resu
 #[test]
 fn empty_input_is_drained(rt: HostRuntime) -> Result<(), Fail> {
     let text = "accepted 0 refused 0\ntotal 0 completed 0 handled 0 failed 0 waiting 0\ndrained\n";
-    let told = comes_to(rt.alloc(), &DRAIN, STEPS, &[], 0, text)?;
+    let told = comes_to(&rt, &DRAIN, STEPS, &[], 0, text)?;
     assert!(rt; told);
     Ok(())
 }
@@ -45,19 +47,24 @@ fn empty_input_is_drained(rt: HostRuntime) -> Result<(), Fail> {
 fn a_route_without_steps_completes_each_line(rt: HostRuntime) -> Result<(), Fail> {
     let text =
         "exchange 1 source route1 completed\nexchange 2 source route1 completed\naccepted 2 refused 0\ntotal 2 completed 2 handled 0 failed 0 waiting 0\ndrained\n";
-    let told = comes_to(rt.alloc(), &DRAIN, NO_STEPS, &["a", "b"], 0, text)?;
+    let told = comes_to(&rt, &DRAIN, NO_STEPS, &["a", "b"], 0, text)?;
     assert!(rt; told);
     Ok(())
 }
 
 /// Whether a drain of this path, where `r.json` has these routes, is refused with this text.
-fn is_refused(alloc: Global, path: &str, routes: &str, text: &str) -> Result<bool, NoMemory> {
-    comes_to(alloc, &["drain", path], routes, &[], 1, text)
+fn is_refused<W: AllocGlobal + Threads + Wait + Sync>(
+    rt: &W,
+    path: &str,
+    routes: &str,
+    text: &str,
+) -> Result<bool, NoMemory> {
+    comes_to(rt, &["drain", path], routes, &[], 1, text)
 }
 
 #[test]
 fn a_missing_route_file_is_told(rt: HostRuntime) -> Result<(), Fail> {
-    let told = is_refused(rt.alloc(), "s.json", STEPS, "error routes $ NoFile\n")?;
+    let told = is_refused(&rt, "s.json", STEPS, "error routes $ NoFile\n")?;
     assert!(rt; told);
     Ok(())
 }
@@ -65,7 +72,7 @@ fn a_missing_route_file_is_told(rt: HostRuntime) -> Result<(), Fail> {
 #[test]
 fn a_lane_that_is_not_handed_in_is_refused(rt: HostRuntime) -> Result<(), Fail> {
     let text = "error routes $[0].from.steps[0].to NotRegistered lane:c\n";
-    let told = is_refused(rt.alloc(), "r.json", OTHER_LANE, text)?;
+    let told = is_refused(&rt, "r.json", OTHER_LANE, text)?;
     assert!(rt; told);
     Ok(())
 }
@@ -81,7 +88,7 @@ const OTHER_WORDS: [&[&str]; 4] = [
 #[test]
 fn other_words_are_refused(rt: HostRuntime) -> Result<(), Fail> {
     for words in OTHER_WORDS {
-        let told = comes_to(rt.alloc(), words, STEPS, &[], 1, "error words\n")?;
+        let told = comes_to(&rt, words, STEPS, &[], 1, "error words\n")?;
         assert!(rt; told);
     }
     Ok(())
@@ -89,7 +96,7 @@ fn other_words_are_refused(rt: HostRuntime) -> Result<(), Fail> {
 
 #[test]
 fn a_file_that_is_no_json_is_told(rt: HostRuntime) -> Result<(), Fail> {
-    let told = is_refused(rt.alloc(), "r.json", "[{", "error routes $ NotJson\n")?;
+    let told = is_refused(&rt, "r.json", "[{", "error routes $ NotJson\n")?;
     assert!(rt; told);
     Ok(())
 }
@@ -121,10 +128,14 @@ fn are_kinds(entries: &[Entry], letters: &[u8]) -> bool {
 
 /// Whether a drain of two lines to a log, whose sink fails at its first write, comes to status 2, writes nothing, and has
 /// a journal of these kinds of entries.
-fn is_left_by_a_failing_sink(alloc: Global, letters: &[u8]) -> Result<bool, NoMemory> {
+fn is_left_by_a_failing_sink<W: AllocGlobal + Threads + Wait + Sync>(
+    rt: &W,
+    letters: &[u8],
+) -> Result<bool, NoMemory> {
+    let alloc = rt.alloc();
     let failing = Failing { write: 1, ..SOUND };
     let mut given = given_with(alloc, &DRAIN, LOGGED, &["a", "b"], failing)?;
-    let report = reported(alloc, &mut given);
+    let report = reported(rt, &mut given);
     Ok(
         report.status == 2
             && given.out.bytes().is_empty()
@@ -136,7 +147,7 @@ fn is_left_by_a_failing_sink(alloc: Global, letters: &[u8]) -> Result<bool, NoMe
 fn a_sink_that_fails_is_the_outcome_of_a_drained_run_and_leaves_its_journal(
     rt: HostRuntime,
 ) -> Result<(), Fail> {
-    let told = is_left_by_a_failing_sink(rt.alloc(), b"panfpanfpe")?;
+    let told = is_left_by_a_failing_sink(&rt, b"panfpanfpe")?;
     assert!(rt; told);
     Ok(())
 }
@@ -163,9 +174,13 @@ fn has_failed_second(lanes: &[Lane<MemoryLane>]) -> bool {
 
 /// Whether two lines through the lane `x`, which fails its second call, and then a log come to this text, and the lane's
 /// calls came out as done and then as failed.
-fn is_sent_and_failed(alloc: Global, text: &str) -> Result<[bool; 2], NoMemory> {
+fn is_sent_and_failed<W: AllocGlobal + Threads + Wait + Sync>(
+    rt: &W,
+    text: &str,
+) -> Result<[bool; 2], NoMemory> {
+    let alloc = rt.alloc();
     let mut given = given_with(alloc, &DRAIN, SENT, &["a", "b"], SOUND)?;
-    let status = reported(alloc, &mut given).status;
+    let status = reported(rt, &mut given).status;
     Ok([
         status == 0 && given.out.bytes() == text.as_bytes(),
         has_failed_second(&given.lanes),
@@ -176,7 +191,7 @@ fn is_sent_and_failed(alloc: Global, text: &str) -> Result<[bool; 2], NoMemory> 
 fn a_lane_that_fails_fails_its_exchange_alone(rt: HostRuntime) -> Result<(), Fail> {
     let text =
         "log 1 o: a\nexchange 1 source route1 completed\nexchange 2 source route1 failed SendFailed \"lane:x\"\naccepted 2 refused 0\ntotal 2 completed 1 handled 0 failed 1 waiting 0\ndrained\n";
-    let told = is_sent_and_failed(rt.alloc(), text)?;
+    let told = is_sent_and_failed(&rt, text)?;
     assert!(rt; told == [true; 2]);
     Ok(())
 }
@@ -186,7 +201,7 @@ fn a_source_that_fails_ends_the_run(rt: HostRuntime) -> Result<(), Fail> {
     let failing = Failing { pull: 2, ..SOUND };
     let text =
         "log 1 o: a\nexchange 1 source route1 completed\naccepted 1 refused 0\ntotal 1 completed 1 handled 0 failed 0 waiting 0\nsource fault route1\n";
-    let told = comes_at_fault_to(rt.alloc(), SENT, failing, 2, text)?;
+    let told = comes_at_fault_to(&rt, SENT, failing, 2, text)?;
     assert!(rt; told);
     Ok(())
 }
@@ -197,7 +212,7 @@ fn files_that_fail_end_the_command(rt: HostRuntime) -> Result<(), Fail> {
         reading: 1,
         ..SOUND
     };
-    let told = comes_at_fault_to(rt.alloc(), SENT, failing, 2, "error files\n")?;
+    let told = comes_at_fault_to(&rt, SENT, failing, 2, "error files\n")?;
     assert!(rt; told);
     Ok(())
 }
@@ -205,12 +220,7 @@ fn files_that_fail_end_the_command(rt: HostRuntime) -> Result<(), Fail> {
 #[test]
 fn a_file_of_more_than_its_bytes_is_told(rt: HostRuntime) -> Result<(), Fail> {
     let routes = repeated(rt.alloc(), " ", 1_048_577)?;
-    let told = is_refused(
-        rt.alloc(),
-        "r.json",
-        routes.as_str(),
-        "error routes $ TooLong\n",
-    )?;
+    let told = is_refused(&rt, "r.json", routes.as_str(), "error routes $ TooLong\n")?;
     assert!(rt; told);
     Ok(())
 }
@@ -307,26 +317,32 @@ const STEPPED: [(&str, &str, &str, &str); 13] = [
 #[test]
 fn simple_steps_do_what_they_mean(rt: HostRuntime) -> Result<(), Fail> {
     for (steps, body, front, totals) in STEPPED {
-        let told = is_stepped(rt.alloc(), steps, body, front, totals)?;
+        let told = is_stepped(&rt, steps, body, front, totals)?;
         assert!(rt; told, "of {steps}");
     }
     Ok(())
 }
 
 /// Whether a line of so many bytes, doubled by a step, comes to this book.
-fn is_doubled(alloc: Global, length: usize, front: &str, totals: &str) -> Result<bool, NoMemory> {
+fn is_doubled<W: AllocGlobal + Threads + Wait + Sync>(
+    rt: &W,
+    length: usize,
+    front: &str,
+    totals: &str,
+) -> Result<bool, NoMemory> {
+    let alloc = rt.alloc();
     let body = repeated(alloc, "x", length)?;
     let steps = "[{\"setBody\":{\"simple\":\"${body}${body}\"}}]";
-    is_stepped(alloc, steps, body.as_str(), front, totals)
+    is_stepped(rt, steps, body.as_str(), front, totals)
 }
 
 #[test]
 fn a_body_of_more_than_its_bytes_fails(rt: HostRuntime) -> Result<(), Fail> {
     let line = "exchange 1 source route1 completed\n";
-    let longest = is_doubled(rt.alloc(), 32_768, line, COMPLETED)?;
+    let longest = is_doubled(&rt, 32_768, line, COMPLETED)?;
     assert!(rt; longest);
     let line = "exchange 1 source route1 failed TooLong \"\"\n";
-    let longer = is_doubled(rt.alloc(), 32_769, line, FAILED)?;
+    let longer = is_doubled(&rt, 32_769, line, FAILED)?;
     assert!(rt; longer);
     Ok(())
 }
@@ -350,11 +366,11 @@ fn the_sixty_fifth_header_fails(rt: HostRuntime) -> Result<(), Fail> {
     let alloc = rt.alloc();
     let steps = headers_to(alloc, 64)?;
     let line = "exchange 1 source route1 completed\n";
-    let most = is_stepped(alloc, steps.as_str(), "x", line, COMPLETED)?;
+    let most = is_stepped(&rt, steps.as_str(), "x", line, COMPLETED)?;
     assert!(rt; most);
     let steps = headers_to(alloc, 65)?;
     let line = "exchange 1 source route1 failed TooManyHeaders \"h65\"\n";
-    let more = is_stepped(alloc, steps.as_str(), "x", line, FAILED)?;
+    let more = is_stepped(&rt, steps.as_str(), "x", line, FAILED)?;
     assert!(rt; more);
     Ok(())
 }
@@ -375,15 +391,20 @@ const REFUSED: [(&str, &str); 2] = [
 fn routes_that_are_wrong_are_refused(rt: HostRuntime) -> Result<(), Fail> {
     for (steps, text) in REFUSED {
         let routes = route_of(rt.alloc(), steps)?;
-        let told = is_refused(rt.alloc(), "r.json", routes.as_str(), text)?;
+        let told = is_refused(&rt, "r.json", routes.as_str(), text)?;
         assert!(rt; told, "of {steps}");
     }
     Ok(())
 }
 
 /// Whether a check of these routes comes to this status and text.
-fn is_checked(alloc: Global, routes: &str, status: u8, text: &str) -> Result<bool, NoMemory> {
-    comes_to(alloc, &CHECK, routes, &[], status, text)
+fn is_checked<W: AllocGlobal + Threads + Wait + Sync>(
+    rt: &W,
+    routes: &str,
+    status: u8,
+    text: &str,
+) -> Result<bool, NoMemory> {
+    comes_to(rt, &CHECK, routes, &[], status, text)
 }
 
 /// Route files and what their check prints.
@@ -404,7 +425,7 @@ const CHECKED: [(&str, u8, &str); 3] = [
 #[test]
 fn a_check_prints_the_canonical_text_or_the_first_fault(rt: HostRuntime) -> Result<(), Fail> {
     for (routes, status, text) in CHECKED {
-        let told = is_checked(rt.alloc(), routes, status, text)?;
+        let told = is_checked(&rt, routes, status, text)?;
         assert!(rt; told, "of {routes}");
     }
     Ok(())

@@ -3,7 +3,9 @@ use crate::runs::{COMPLETED, FAILED};
 use eip_test_support::{joined, repeated};
 use eip_text::{NoMemory, decimal};
 use std::alloc::Global;
+use std::sync::Wait;
 use std::test::Fail;
+use std::thread::Threads;
 
 /// The most bytes of a body, and of the value of a header or a property.
 const LONGEST: usize = 65_536;
@@ -27,7 +29,8 @@ fn numbered(alloc: Global, count: u64, front: &str, back: &str) -> Result<String
 }
 
 /// Whether 300 lines that are sent to a log and to two lanes are logged, are completed one by one and are counted.
-fn are_all_completed(alloc: Global) -> Result<bool, NoMemory> {
+fn are_all_completed<W: AllocGlobal + Threads + Wait + Sync>(rt: &W) -> Result<bool, NoMemory> {
+    let alloc = rt.alloc();
     let routes = route_of(alloc, SENT)?;
     let log = numbered(alloc, 300, "log ", " o: x\n")?;
     let exchanges = numbered(alloc, 300, "exchange ", " source route1 completed\n")?;
@@ -36,19 +39,12 @@ fn are_all_completed(alloc: Global) -> Result<bool, NoMemory> {
         alloc,
         &[log.as_str(), exchanges.as_str(), counts, "drained\n"],
     )?;
-    comes_to(
-        alloc,
-        &DRAIN,
-        routes.as_str(),
-        &["x"; 300],
-        0,
-        text.as_str(),
-    )
+    comes_to(rt, &DRAIN, routes.as_str(), &["x"; 300], 0, text.as_str())
 }
 
 #[test]
 fn three_hundred_lines_are_each_accepted_and_completed(rt: HostRuntime) -> Result<(), Fail> {
-    let told = are_all_completed(rt.alloc())?;
+    let told = are_all_completed(&rt)?;
     assert!(rt; told);
     Ok(())
 }
@@ -61,31 +57,33 @@ fn long_file(alloc: Global) -> Result<String, NoMemory> {
 }
 
 /// Whether a drain of the long file logs a line for each of its steps.
-fn is_long_file_drained(alloc: Global) -> Result<bool, NoMemory> {
+fn is_long_file_drained<W: AllocGlobal + Threads + Wait + Sync>(rt: &W) -> Result<bool, NoMemory> {
+    let alloc = rt.alloc();
     let routes = long_file(alloc)?;
     let log = repeated(alloc, "log 1 route1: a\n", 310)?;
     let book = "exchange 1 source route1 completed\n";
     let text = joined(alloc, &[log.as_str(), book, COMPLETED])?;
-    comes_to(alloc, &DRAIN, routes.as_str(), &["x"], 0, text.as_str())
+    comes_to(rt, &DRAIN, routes.as_str(), &["x"], 0, text.as_str())
 }
 
 /// Whether a check of the long file prints its steps in one line.
-fn is_long_file_checked(alloc: Global) -> Result<bool, NoMemory> {
+fn is_long_file_checked<W: AllocGlobal + Threads + Wait + Sync>(rt: &W) -> Result<bool, NoMemory> {
+    let alloc = rt.alloc();
     let routes = long_file(alloc)?;
     let steps = repeated(alloc, ",{\"log\":\"a\"}", 309)?;
     let front = "[{\"route\":{\"from\":{\"steps\":[{\"log\":\"a\"}";
     let back = "],\"uri\":\"stream:in\"},\"id\":\"route1\"}}]\n";
     let text = joined(alloc, &[front, steps.as_str(), back])?;
-    comes_to(alloc, &CHECK, routes.as_str(), &[], 0, text.as_str())
+    comes_to(rt, &CHECK, routes.as_str(), &[], 0, text.as_str())
 }
 
 #[test]
 fn a_route_file_of_over_three_hundred_lines_is_run_and_printed(
     rt: HostRuntime,
 ) -> Result<(), Fail> {
-    let is_drained = is_long_file_drained(rt.alloc())?;
+    let is_drained = is_long_file_drained(&rt)?;
     assert!(rt; is_drained);
-    let is_checked = is_long_file_checked(rt.alloc())?;
+    let is_checked = is_long_file_checked(&rt)?;
     assert!(rt; is_checked);
     Ok(())
 }
@@ -125,22 +123,23 @@ const KEPT: [(&str, &str, &str, &str); 5] = [
 ];
 
 /// Whether a longest body comes through these steps to this log and book, with the body in it.
-fn is_kept(
-    alloc: Global,
+fn is_kept<W: AllocGlobal + Threads + Wait + Sync>(
+    rt: &W,
     steps: &str,
     front: &str,
     back: &str,
     totals: &str,
 ) -> Result<bool, NoMemory> {
+    let alloc = rt.alloc();
     let body = repeated(alloc, "x", LONGEST)?;
     let printed = joined(alloc, &[front, body.as_str(), back])?;
-    is_stepped(alloc, steps, body.as_str(), printed.as_str(), totals)
+    is_stepped(rt, steps, body.as_str(), printed.as_str(), totals)
 }
 
 #[test]
 fn a_value_of_the_most_bytes_is_kept(rt: HostRuntime) -> Result<(), Fail> {
     for (steps, front, back, totals) in KEPT {
-        let told = is_kept(rt.alloc(), steps, front, back, totals)?;
+        let told = is_kept(&rt, steps, front, back, totals)?;
         assert!(rt; told, "of {steps}");
     }
     Ok(())
@@ -165,39 +164,41 @@ const OVER: [(&str, &str); 5] = [
 ];
 
 /// Whether a longest body that comes through these steps fails as too long.
-fn is_over(alloc: Global, steps: &str) -> Result<bool, NoMemory> {
+fn is_over<W: AllocGlobal + Threads + Wait + Sync>(rt: &W, steps: &str) -> Result<bool, NoMemory> {
+    let alloc = rt.alloc();
     let body = repeated(alloc, "x", LONGEST)?;
-    is_stepped(alloc, steps, body.as_str(), TOO_LONG, FAILED)
+    is_stepped(rt, steps, body.as_str(), TOO_LONG, FAILED)
 }
 
 #[test]
 fn a_value_of_one_byte_more_fails_its_exchange(rt: HostRuntime) -> Result<(), Fail> {
     for (what, steps) in OVER {
-        let told = is_over(rt.alloc(), steps)?;
+        let told = is_over(&rt, steps)?;
         assert!(rt; told, "of {what}");
     }
     Ok(())
 }
 
 /// Whether a line comes to this log and book where its body is set to a constant of so many bytes.
-fn is_constant_set(
-    alloc: Global,
+fn is_constant_set<W: AllocGlobal + Threads + Wait + Sync>(
+    rt: &W,
     length: usize,
     front: &str,
     totals: &str,
 ) -> Result<bool, NoMemory> {
+    let alloc = rt.alloc();
     let constant = repeated(alloc, "x", length)?;
     let parts = ["[{\"setBody\":{\"constant\":\"", constant.as_str(), "\"}}]"];
     let steps = joined(alloc, &parts)?;
-    is_stepped(alloc, steps.as_str(), "a", front, totals)
+    is_stepped(rt, steps.as_str(), "a", front, totals)
 }
 
 #[test]
 fn a_constant_of_one_byte_more_fails_its_exchange(rt: HostRuntime) -> Result<(), Fail> {
     let completed = "exchange 1 source route1 completed\n";
-    let longest = is_constant_set(rt.alloc(), LONGEST, completed, COMPLETED)?;
+    let longest = is_constant_set(&rt, LONGEST, completed, COMPLETED)?;
     assert!(rt; longest);
-    let longer = is_constant_set(rt.alloc(), LONGEST + 1, TOO_LONG, FAILED)?;
+    let longer = is_constant_set(&rt, LONGEST + 1, TOO_LONG, FAILED)?;
     assert!(rt; longer);
     Ok(())
 }

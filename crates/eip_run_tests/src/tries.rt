@@ -67,7 +67,7 @@ const TRIED: [(&str, &str, &str); 6] = [
 #[test]
 fn a_try_is_caught_and_its_last_steps_run_in_any_case(rt: HostRuntime) -> Result<(), Fail> {
     for (steps, front, totals) in TRIED {
-        let told = is_stepped(rt.alloc(), steps, "a", front, totals)?;
+        let told = is_stepped(&rt, steps, "a", front, totals)?;
         assert!(rt; told, "of {steps}");
     }
     Ok(())
@@ -79,7 +79,7 @@ fn each_part_has_its_own_try(rt: HostRuntime) -> Result<(), Fail> {
         "log 1 o: a,none\nexchange 1 source route1 completed\nexchange 2 part 1.0 completed\nexchange 3 part 2.0 completed\nexchange 4 part 1.1 completed\nexchange 5 part 4.0 failed Bad \"\"\nexchange 6 part 4.1 completed\n";
     let totals =
         "accepted 1 refused 0\ntotal 6 completed 5 handled 0 failed 1 waiting 0\ndrained\n";
-    let told = is_stepped(rt.alloc(), IN_PARTS, "a,b", front, totals)?;
+    let told = is_stepped(&rt, IN_PARTS, "a,b", front, totals)?;
     assert!(rt; told);
     Ok(())
 }
@@ -92,10 +92,10 @@ fn a_try_without_steps_is_one_part(rt: HostRuntime) -> Result<(), Fail> {
     let front = "exchange 1 source route1 completed\nexchange 2 part 1.0 completed\n";
     let totals =
         "accepted 1 refused 0\ntotal 2 completed 2 handled 0 failed 0 waiting 0\ndrained\n";
-    let told = is_stepped(rt.alloc(), EMPTY, "a", front, totals)?;
+    let told = is_stepped(&rt, EMPTY, "a", front, totals)?;
     assert!(rt; told);
     let front = "exchange 1 source route1 completed\n";
-    let plain = is_stepped(rt.alloc(), "[]", "a", front, COMPLETED)?;
+    let plain = is_stepped(&rt, "[]", "a", front, COMPLETED)?;
     assert!(rt; plain);
     Ok(())
 }

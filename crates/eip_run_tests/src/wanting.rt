@@ -8,7 +8,9 @@ use eip_run::{Report, run};
 use eip_simple_read::CratePatterns;
 use eip_text::{NoMemory, Text};
 use std::alloc::Global;
+use std::sync::Wait;
 use std::test::Fail;
+use std::thread::Threads;
 
 /// A lane that never has the memory for a call. It tells no content.
 #[derive(Drop)]
@@ -29,7 +31,13 @@ const SENT: &str =
     r#"[{"split":{"tokenize":",","parallelProcessing":true,"steps":[{"filter":{"simple":"${exchangeProperty.CamelSplitIndex} != '0'","steps":[{"to":"lane:w"}]}}]}},{"to":"log:out"}]"#;
 
 /// Whether a line that comes through these steps is drained with this text, where `lane:w` never has memory.
-fn is_drained(alloc: Global, steps: &str, line: &str, text: &str) -> Result<bool, NoMemory> {
+fn is_drained<W: AllocGlobal + Threads + Wait + Sync>(
+    rt: &W,
+    steps: &str,
+    line: &str,
+    text: &str,
+) -> Result<bool, NoMemory> {
+    let alloc = rt.alloc();
     let routes = route_of(alloc, steps)?;
     let mut given = given_with(alloc, &DRAIN, routes.as_str(), &[line], SOUND)?;
     let name = Text::of_str(alloc, "lane:w")?;
@@ -37,6 +45,7 @@ fn is_drained(alloc: Global, steps: &str, line: &str, text: &str) -> Result<bool
     let mut lanes = vec![in alloc; Lane { name, object }]?;
     let mut patterns = CratePatterns::new(Vec::new(alloc));
     let report: Report = run(
+        rt,
         alloc,
         &given.words,
         &mut given.files,
@@ -53,7 +62,7 @@ fn is_drained(alloc: Global, steps: &str, line: &str, text: &str) -> Result<bool
 fn a_part_without_memory_ends_and_its_parent_is_told(rt: HostRuntime) -> Result<(), Fail> {
     let text =
         "exchange 1 source route1 failed OutOfMemory \"\"\nexchange 2 part 1.0 completed\nexchange 3 part 1.1 failed OutOfMemory \"\"\nexchange 4 part 1.2 failed OutOfMemory \"\"\naccepted 1 refused 0\ntotal 4 completed 1 handled 0 failed 3 waiting 0\ndrained\n";
-    let told = is_drained(rt.alloc(), SENT, "a,b,c", text)?;
+    let told = is_drained(&rt, SENT, "a,b,c", text)?;
     assert!(rt; told);
     Ok(())
 }

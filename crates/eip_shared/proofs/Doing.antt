@@ -111,7 +111,7 @@ makes-does old new w ds facts began does =
     }
 
 pub looks-in : (old new : SharedView) (w : ℕ) (what : Look) → SharedFacts old → new.began ≡ old.began → LooksIn old.hub new.hub w what → Looks old new w what
-looks-in old new w what facts began looks = (looks.0, makes-does old new w looks.0 facts began looks.1, looks.2, looks.3)
+looks-in old new w what facts began looks = (looks.0, makes-does old new w looks.0 facts began looks.1, looks.2, looks.3, looks.4)
 
 -- ---- its list
 

@@ -1,10 +1,12 @@
 -- The deeds of a list of entries, whose they are, and the entries that they stand for.
 use Rattle.std.proofs.Common.{◌≡◌, ℕ, ◌==◌, Bool, true, false, cond, List, [], ◌∷◌, ◌++◌, length, length-append, map, Option, Some, None, refl, sym, ap, ◌∙◌, arith, append-nil, append_assoc}
-use Rattle.std.specs.Prelude.{reverse}
+use Rattle.std.specs.List.{list_any}
+use Rattle.std.specs.Prelude.{◌||◌, ◌&&◌, not, reverse}
 use Rattle.std.proofs.lemmas.Bool.{eqb-true, eq-eqb}
 use Rattle.std.proofs.lemmas.Grind.{flat_map-append}
 use Rattle.std.proofs.lemmas.List.{reverse-append, map-append}
 use Rattle.std.proofs.lemmas.List.Elements.{filter-append}
+use Rattle.std.proofs.lemmas.List.Folds.{list_any-append}
 use Rattle.eip_ledger.specs.declared.entry.Entry.{Entry}
 use Rattle.eip_ledger.specs.declared.entry.Kind.{Kind}
 use Rattle.eip_ledger.specs.declared.entry.Kind.TheVariants.{Answer}
@@ -17,7 +19,7 @@ use Rattle.eip_owners.specs.Owners.{entries_of, answers_of, answered}
 use Rattle.eip_owners.proofs.Answers.{part-grows, part-stays}
 use Rattle.eip_turnstile.specs.Rule.{entries_by, AllBy}
 use Rattle.eip_turnstile.proofs.Lists.{by-append}
-use Rattle.eip_shared.specs.Deeds.{given_to, given_by, deed, deeds, entry_of, past_of, done_by, own_entries, own_answer, own_answers}
+use Rattle.eip_shared.specs.Deeds.{given_to, given_by, deed, deeds, entry_of, past_of, done_by, own_entries, own_answer, own_answers, begins, ends, left_open}
 use Rattle.eip_shared.specs.declared.deed.Deed.{Deed}
 
 -- ---- pasts
@@ -125,3 +127,21 @@ part-answers s past (e ∷ behind) w =
         ∙ sym (flat_map-append (λ (d : Deed). own_answer w d.given) (entries_by w (deeds s past behind)) (deed s (behind ++ past) e.kind ∷ []))))))
     by_test false t rest =
         (part-stays s w past behind (e ∷ []) (ap (λ c. cond {A = Past} c (e ∷ []) []) t)).1 ∙ (rest ∙ ap (own_answers w) (sym (append-nil (entries_by w (deeds s past behind)))))
+
+-- ---- what was begun
+
+-- what is ended is ended, whatever follows
+ended-more : (k : Kind) (ds es : List Deed) → list_any (λ (e : Deed). ends k e.kind) ds ≡ true → list_any (λ (e : Deed). ends k e.kind) (ds ++ es) ≡ true
+ended-more k ds es h = list_any-append (λ (e : Deed). ends k e.kind) ds es ∙ ap (λ b. b || list_any (λ (e : Deed). ends k e.kind) es) h
+
+-- behind deeds that left nothing open, what is left open is what later ones leave
+pub left-append : (ds es : List Deed) → left_open ds ≡ [] → left_open (ds ++ es) ≡ left_open es
+left-append [] es h = refl
+left-append (d ∷ ds) es h = by_test (begins d.kind) (list_any (λ (e : Deed). ends d.kind e.kind) ds) refl h (left-append ds es)
+  where
+    by_test : (b a : Bool) → list_any (λ (e : Deed). ends d.kind e.kind) ds ≡ a → cond (b && not a) (d.kind ∷ left_open ds) (left_open ds) ≡ []
+        → (left_open ds ≡ [] → left_open (ds ++ es) ≡ left_open es)
+        → cond (b && not (list_any (λ (e : Deed). ends d.kind e.kind) (ds ++ es))) (d.kind ∷ left_open (ds ++ es)) (left_open (ds ++ es)) ≡ left_open es
+    by_test false a t g ih = ih g
+    by_test true true t g ih = rw (ended-more d.kind ds es t) (ih g)
+    by_test true false t g ih = absurd (cc g)

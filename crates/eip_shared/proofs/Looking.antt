@@ -29,13 +29,14 @@ use Rattle.eip_tables.specs.declared.asking.Inner.{Inner}
 use Rattle.eip_tables.specs.declared.asking.Inner.TheVariants as inner
 use Rattle.eip_books.specs.View.{BooksView, plan, Adds, AddsAnswer, AddsNone, StartsFirst}
 use Rattle.eip_outlets.specs.Outlets.{outlets}
-use Rattle.eip_shared.specs.Deeds.{IsInner, deed, given_to, is_from_outside}
+use Rattle.eip_shared.specs.Deeds.{IsInner, begins, deed, given_to, is_from_outside}
 use Rattle.eip_shared.specs.Shared.{IsPulled}
 use Rattle.eip_shared.specs.Looks.{LooksIn}
 use Rattle.eip_shared.specs.declared.deed.Deed.{Deed}
 use Rattle.eip_shared.specs.declared.looks.Look.{Look}
 use Rattle.eip_shared.specs.declared.looks.Look.TheVariants.{Did}
 use Rattle.eip_shared.proofs.Doing.{does-none, does-one, does-both}
+use Rattle.eip_shared.proofs.Logs.{left-append}
 
 pub none-same : (v : BooksView) → AddsNone v v
 none-same v = record { same = record { set = refl; workers = refl; turns = refl }; past = refl }
@@ -43,12 +44,12 @@ none-same v = record { same = record { set = refl; workers = refl; turns = refl 
 -- one entry for which nobody outside was needed
 pub looks-did : (old new : BooksView) (w : ℕ) (k : Kind) → Adds old new w k
     → IsOwner old.journal.workers w (outlet_in (plan old) (outlets old.set) old.journal.past k) → IsInner (deed (plan old) old.journal.past k)
-    → LooksIn old new w Did
-looks-did old new w k adds own inside = (deed (plan old) old.journal.past k ∷ [], does-one old new w k adds own, (inside, tt), tt)
+    → begins k ≡ false → LooksIn old new w Did
+looks-did old new w k adds own inside alone = (deed (plan old) old.journal.past k ∷ [], does-one old new w k adds own, (inside, tt), tt, rw alone refl)
 
 -- a look behind a call that made no entry
 pub looks-behind : (old mid new : BooksView) (w : ℕ) (what : Look) → AddsNone old mid → LooksIn mid new w what → LooksIn old new w what
-looks-behind old mid new w what none looks = (looks.0, does-both old mid new w [] looks.0 (does-none old mid w none) looks.1, looks.2, looks.3)
+looks-behind old mid new w what none looks = (looks.0, does-both old mid new w [] looks.0 (does-none old mid w none) looks.1, looks.2, looks.3, looks.4)
 
 inner-both : (ds es : List Deed) → AllByRecursion IsInner ds → AllByRecursion IsInner es → AllByRecursion IsInner (ds ++ es)
 inner-both [] es one two = two
@@ -56,11 +57,17 @@ inner-both (d ∷ ds) es one two = (one.0, inner-both ds es one.1 two)
 
 -- a look behind one that did something
 pub looks-on : (old mid new : BooksView) (w : ℕ) (what : Look) → LooksIn old mid w Did → LooksIn mid new w what → LooksIn old new w what
-looks-on old mid new w what one two = (one.0 ++ two.0, does-both old mid new w one.0 two.0 one.1 two.1, inner-both one.0 two.0 one.2 two.2, two.3)
+looks-on old mid new w what one two = (
+  one.0 ++ two.0,
+  does-both old mid new w one.0 two.0 one.1 two.1,
+  inner-both one.0 two.0 one.2 two.2,
+  two.3,
+  left-append one.0 two.0 one.4 ∙ two.4,
+)
 
 -- a look that did nothing so far
 pub looks-nothing : (v : BooksView) (w : ℕ) → LooksIn v v w Did
-looks-nothing v w = ([], does-none v v w (none-same v), tt, tt)
+looks-nothing v w = ([], does-none v v w (none-same v), tt, tt, refl)
 
 -- ---- what a Ready exchange asks for where nobody outside is needed
 
@@ -91,8 +98,8 @@ looks-inner old new w x (Ok inner.Did) h did out exact =
     let inside = did-inside (outside_asked (asked (plan old) old.journal.past x)) exact in
     looks-did old new w (Answer x adds.0) adds.1
     (inner-own (outlets old.set) old.journal.workers w (asked (plan old) old.journal.past x) inside)
-    (refl, inner-given (asked (plan old) old.journal.past x) adds.0 inside)
-looks-inner old new w x (Ok inner.Outside) h did out exact = ([], does-none old new w (out refl), tt, tt)
+    (refl, inner-given (asked (plan old) old.journal.past x) adds.0 inside) refl
+looks-inner old new w x (Ok inner.Outside) h did out exact = ([], does-none old new w (out refl), tt, tt, refl)
 
 pub refused : {A E P : Type 0} → (r : Result A E) → OnErr r P → is_err r ≡ true → P
 refused (Ok x) p h = absurd (cc h)
@@ -177,7 +184,7 @@ pulled-now old new w t adds source own = record {
 
 pub looks-started : (old new : BooksView) (w : ℕ) (o : Option ℕ) → IfSome o (λ x. StartsFirst old new w x) → is_some o ≡ true → LooksIn old new w Did
 looks-started old new w None starts h = absurd (cc h)
-looks-started old new w (Some x) starts h = looks-did old new w (Start starts.queue x) starts.adds tt (refl, refl)
+looks-started old new w (Some x) starts h = looks-did old new w (Start starts.queue x) starts.adds tt (refl, refl) refl
 
 pub none-given : {A P : Type 0} → (o : Option A) → IfNone o P → is_some o ≡ false → P
 none-given None p h = p

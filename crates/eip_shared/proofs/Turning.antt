@@ -11,9 +11,9 @@ use Rattle.eip_turnstile.specs.Steps.{claimed, counted, released}
 use Rattle.eip_turnstile.specs.declared.view.View.{View}
 use Rattle.eip_turnstile.proofs.Lists.{by-append}
 use Rattle.std.specs.List.{AllByRecursion}
-use Rattle.eip_shared.specs.Deeds.{IsInner, deed, past_of, done_by}
+use Rattle.eip_shared.specs.Deeds.{IsInner, deed, left_open, past_of, done_by}
 use Rattle.eip_shared.specs.Shared.{SharedView, Makes, MayEnter, deed_of, kind_of, log, beginning}
-use Rattle.eip_shared.specs.Looks.{Looks, Saw, Tells}
+use Rattle.eip_shared.specs.Looks.{Looks, Saw, Tells, begun}
 use Rattle.eip_shared.specs.Turns.{past_seen, IsAtWork, Turned, Knows}
 use Rattle.eip_shared.specs.declared.beginning.Beginning.{Beginning}
 use Rattle.eip_shared.specs.declared.deed.Deed.{Deed}
@@ -108,14 +108,14 @@ module _ (start : Beginning) (v after : View Deed Beginning) (run next : SharedV
   -- and what a look told it knows
   pub turn-saw : entries_by v.number (log run) ≡ v.mine → (what : Look)
       → AllByRecursion IsInner ds → Tells (plan next.hub) (outlets next.hub.set) next.hub.journal.workers next.hub.journal.turns next.hub.journal.past v.number what
-      → Saw start v after what
-  turn-saw mine what all tells =
+      → left_open ds ≡ begun what → Saw start v after what
+  turn-saw mine what all tells left =
       let same : beginning next ≡ start = makes.beginning ∙ others.begins in
       let sets = ap (λ (b : Beginning). b.set) same in
       let workers = ap (λ (b : Beginning). b.workers) same in
       let turns = ap (λ (b : Beginning). b.turns) same in
       let number : v.number ≡ after.number = ap (λ (u : View Deed Beginning). u.number) (sym is) in
-      (ds, turn-did mine, all, rw (sets, workers, turns, past-now, number) at tells)
+      (ds, turn-did mine, all, rw (sets, workers, turns, past-now, number) at tells, left)
 
 -- ---- one turn, as the calls of the turnstile tell of it
 
@@ -127,6 +127,11 @@ pub record Turn (v held : View Deed Beginning) (run now : SharedView) (n : ℕ) 
   pub starts : StartsWith (log run) v.seen
   pub mine : entries_by v.number (log run) ≡ v.mine
   pub base : Some (beginning run) ≡ v.base
+
+pub turn-of : (v held : View Deed Beginning) (run now : SharedView) (n : ℕ) → now ≡ run → n ≡ held.number → held ≡ claimed v (log run)
+    → StartsWith (log run) v.seen → entries_by v.number (log run) ≡ v.mine → Some (beginning run) ≡ v.base → Turn v held run now n
+turn-of v held run now n lent number claims starts mine base =
+    record { lent = lent; number = number; claims = claims; starts = starts; mine = mine; base = base }
 
 -- the list may be left so
 pub turn-leaves : (v held : View Deed Beginning) (run now next : SharedView) (n : ℕ) (ds : List Deed) → Turn v held run now n → Makes now next n ds
@@ -178,7 +183,7 @@ module _ (start : Beginning) (v held : View Deed Beginning) (run now : SharedVie
     pub turn-looked : (what : Look) → Looks now next n what → Saw start v after what
     turn-looked what looks =
         turn-saw start v after run next others looks.0 (made looks.0 looks.1) is turn.mine what looks.2
-        (subst (λ m. Tells (plan next.hub) (outlets next.hub.set) next.hub.journal.workers next.hub.journal.turns next.hub.journal.past m what) own looks.3)
+        (subst (λ m. Tells (plan next.hub) (outlets next.hub.set) next.hub.journal.workers next.hub.journal.turns next.hub.journal.past m what) own looks.3) looks.4
 
     pub turn-entered : (from : Origin) (out : Outcome) → IsLegalRun now.hub → Knows start v from out
         → Makes now next n (deed (plan now.hub) now.hub.journal.past (kind_of out) ∷ []) → Turned v after (deed_of from out ∷ [])

@@ -1,11 +1,11 @@
 -- What workers know of their entries: of an answer also what it answers.
-use Rattle.std.specs.Prelude.{ℕ, ◌≡◌, false, Bool, true, List, [], ◌∷◌, ◌++◌, Option, Some, None, map, reverse}
-use Rattle.std.specs.List.{flat_map}
+use Rattle.std.specs.Prelude.{ℕ, ◌≡◌, ◌==◌, ◌&&◌, not, cond, false, Bool, true, List, [], ◌∷◌, ◌++◌, Option, Some, None, map, reverse}
+use Rattle.std.specs.List.{flat_map, list_any}
 use Rattle.eip_frames.specs.Fits.{is_outside}
 use Rattle.eip_frames.specs.declared.answer.Answer.{Answer as Reply}
 use Rattle.eip_ledger.specs.declared.entry.Entry.{Entry}
 use Rattle.eip_ledger.specs.declared.entry.Kind.{Kind}
-use Rattle.eip_ledger.specs.declared.entry.Kind.TheVariants.{Accept, Refuse, SourceEnd, SourceFault, Answer}
+use Rattle.eip_ledger.specs.declared.entry.Kind.TheVariants.{Accept, Refuse, SourceEnd, SourceFault, Answer, Pull, Starve, Take}
 use Rattle.eip_endpoint.specs.Outside.{Answered}
 use Rattle.eip_history.specs.Births.{Asked, asked}
 use Rattle.eip_history.specs.Own.{Past}
@@ -81,3 +81,26 @@ is_from_outside None = false
 -- nobody outside was needed for it
 abbrev pub IsInner : Deed → Type 0
 IsInner d = (ends_pull d.kind ≡ false) × (is_from_outside d.given ≡ false)
+
+-- ---- what was begun
+
+-- does an entry begin what another one has to end: an exchange is taken in hand, or a source is pulled
+abbrev pub begins : Kind → Bool
+begins (Take x) = true
+begins (Pull t) = true
+begins _ = false
+
+-- does an entry of the same worker end what this one began
+abbrev pub ends : Kind → Kind → Bool
+ends (Take x) (Answer y a) = x == y
+ends (Take x) (Starve y) = x == y
+ends (Pull t) (Accept u item m) = t == u
+ends (Pull t) (Refuse u item cause) = t == u
+ends (Pull t) (SourceEnd u) = t == u
+ends (Pull t) (SourceFault u) = t == u
+ends _ _ = false
+
+-- what some deeds, the oldest first, began and did not end
+abbrev pub left_open : List Deed → List Kind
+left_open [] = []
+left_open (d ∷ ds) = cond (begins d.kind && not (list_any (λ (e : Deed). ends d.kind e.kind) ds)) (d.kind ∷ left_open ds) (left_open ds)

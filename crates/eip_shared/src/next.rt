@@ -30,9 +30,9 @@ pub(crate) fn next(hub: &mut Hub, worker: u32, waiting: &mut u32) -> Look
     step(hub, worker, waiting)
 }
 
-/// One step: what a Ready exchange asks for, or else the start of the next one in a queue, or else a call or a pull; or else the clock
-/// moves on. So queues are emptied before more comes in, and a source is pulled only where fewer exchanges wait for a call than there
-/// are workers: what comes in doesn't pile up, and nobody is idle while a call takes long.
+/// One step: what a Ready exchange asks for, or else the start of the next one in a queue, or else a pull or a call; or else the clock
+/// moves on. A source is pulled only where no queue has one that may start and fewer exchanges wait for a call than there are workers,
+/// so that calls find workers and workers find calls; a queue whose consumers are all busy may still get full.
 fn step(hub: &mut Hub, worker: u32, waiting: &mut u32) -> Look
     requires worker { (1 ≤ worker) × (worker ≤ hub.old.journal.workers) }
     ensures looks { LooksIn hub.old hub.new worker result }

@@ -11,13 +11,17 @@ use crate::law::{Claim, Count, Law, NewSeat, Release, TakenIn};
 use crate::seat::{Held, Seat, Turnstile};
 use atomic_table::{Refused, Table};
 use std::alloc::Global;
-use std::hint::spin_loop;
 use std::snapshot::Snapshot;
 use std::sync::Wait;
+use std::thread::yield_now;
 
 /// So often a thread that waits for the turn looks whether it is free before it sleeps: to sleep and to be woken takes longer than most
 /// turns.
 const PEEKS: u32 = 1_000;
+
+/// So often it lets others work between two looks. Whoever leaves a turn and comes back at once so mostly finds it free, and goes on
+/// with what its processor has at hand.
+const YIELDS: u32 = 2;
 
 impl<V: Chronicle> Turnstile<V> {
     /// Locks the value, which has no entries yet, for at most this many seats, and makes the first one, whose number is 0.
@@ -137,7 +141,7 @@ impl<V: Chronicle> Turnstile<V> {
             if self.table.shared.peek(1) == 0 {
                 return true;
             }
-            spin_loop();
+            let_others_work();
         }
         false
     }
@@ -209,6 +213,12 @@ impl<V: Chronicle> Turnstile<V> {
         let value = closed.take(0).unwrap();
         closed.free();
         value
+    }
+}
+
+fn let_others_work() {
+    for _ in 0..YIELDS {
+        yield_now();
     }
 }
 

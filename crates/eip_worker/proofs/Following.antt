@@ -1,10 +1,10 @@
 -- How what a worker does follows one another, and what one look with its call adds.
-use Rattle.std.proofs.Common.{◌≡◌, ℕ, false, List, [], ◌∷◌, ◌++◌, Ok, refl, sym, ap, subst, ◌∙◌, append-nil, append_assoc}
+use Rattle.std.proofs.Common.{◌≡◌, ℕ, List, [], ◌∷◌, ◌++◌, Ok, refl, sym, ap, subst, ◌∙◌, append-nil, append_assoc}
 use Rattle.std.specs.List.{AllByRecursion}
 use Rattle.eip_exchange.specs.declared.birth.Origin.{Origin}
 use Rattle.eip_route.specs.declared.route.RouteSet.{RouteSet}
 use Rattle.eip_ledger.specs.declared.entry.Kind.{Kind}
-use Rattle.eip_ledger.specs.declared.entry.Kind.TheVariants.{Pull, Take, Starve, Accept, Refuse, SourceEnd, SourceFault, Answer}
+use Rattle.eip_ledger.specs.declared.entry.Kind.TheVariants.{Starve, Accept, Refuse, SourceEnd, SourceFault, Answer}
 use Rattle.eip_endpoint.specs.Inlets.{Act, InletAct, InletView, InletsGrew, inlet_names}
 use Rattle.eip_endpoint.specs.Lanes.{LaneCall, LaneView, LanesGrew, lane_names}
 use Rattle.eip_endpoint.specs.Outside.{Doors, calls, calls_for, commits_for, acts_of}
@@ -16,7 +16,7 @@ use Rattle.eip_processor.specs.Registered.{RegistryView}
 use Rattle.eip_core.specs.Doors.{doors_among, doors_of}
 use Rattle.eip_core.specs.Outside.{Asks}
 use Rattle.eip_turnstile.specs.declared.view.View.{View}
-use Rattle.eip_shared.specs.Deeds.{IsInner, ends_pull, own_answers, silent}
+use Rattle.eip_shared.specs.Deeds.{IsInner, own_answers, silent}
 use Rattle.eip_shared.specs.Shared.{deed_of}
 use Rattle.eip_shared.specs.Turns.{IsAtWork, Turned}
 use Rattle.eip_shared.specs.declared.beginning.Beginning.{Beginning}
@@ -185,8 +185,3 @@ served-pull {start} {l = l} {i = i} {j = j} sources from t (Ended s) same works 
 served-pull {start} {l = l} {i = i} {j = j} sources from t (Faulted s) same works pulled turned =
     served-came l (SourceFault s) works turned (came-here start.set sources l i j s t _ same pulled.0 pulled.1)
 served-pull sources from t _ same works pulled turned = absurd pulled
-
--- a turn with one entry that asked for nothing, as a Take or a Pull
-pub served-silent : {start : Beginning} {u v : View Deed Beginning} {l : List LaneView} {i : List InletView} {registry : RegistryView} (k : Kind) → IsAtWork start v → Turned u v (silent k ∷ [])
-    → ends_pull k ≡ false → Served start u v l l i i registry
-served-silent k works turned h = served-inner works turned ((h, refl), tt)

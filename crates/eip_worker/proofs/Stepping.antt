@@ -1,9 +1,8 @@
 -- One step of a worker: a look, the call that it may ask for, and the entry of what came of that.
-use Rattle.std.proofs.Common.{◌≡◌, ℕ, true, List, [], ◌++◌, Option, Some, refl, sym, ap, subst, append-nil}
+use Rattle.std.proofs.Common.{◌≡◌, ℕ, true, List, [], ◌++◌, Option, Some, sym, ap, subst, append-nil}
 use Rattle.eip_exchange.specs.declared.birth.Origin.{Origin}
 use Rattle.eip_frames.specs.Fits.{fits}
 use Rattle.eip_route.specs.declared.route.RouteSet.{RouteSet}
-use Rattle.eip_ledger.specs.declared.entry.Kind.TheVariants.{Pull, Take}
 use Rattle.eip_ledger.specs.declared.place.Place.TheVariants.{InHand}
 use Rattle.eip_endpoint.specs.Inlets.{InletView, InletsGrew, inlet_names}
 use Rattle.eip_endpoint.specs.Lanes.{LaneView}
@@ -28,8 +27,8 @@ use Rattle.eip_shared.specs.declared.looks.Look.TheVariants as look
 use Rattle.eip_shared.specs.declared.outcome.Outcome.{Outcome}
 use Rattle.eip_shared.specs.declared.outcome.Outcome.TheVariants.{Settled, GivenUp, Accepted, Refused, Ended, Faulted}
 use Rattle.eip_worker.specs.Calls.{Calls, Pulls}
-use Rattle.eip_worker.specs.Serves.{IsReady, Served}
-use Rattle.eip_worker.proofs.Following.{keeps-refl, served-inner}
+use Rattle.eip_worker.specs.Serves.{IsReady, Served, Stands}
+use Rattle.eip_worker.proofs.Following.{keeps-refl, ready-on, served-inner, served-trans}
 use Rattle.eip_worker.proofs.Handed.{held-askable, pulled-inlet}
 
 -- ---- the look
@@ -38,6 +37,21 @@ use Rattle.eip_worker.proofs.Handed.{held-askable, pulled-inlet}
 pub served-look : {start : Beginning} {u v : View Deed Beginning} {l : List LaneView} {i : List InletView} {registry : RegistryView} (what : Look) → IsAtWork start v → Saw start u v what
     → Served start u v l l i i registry
 served-look what works saw = served-inner works saw.1 saw.2
+
+-- a turn in which something was entered, and then a look
+pub served-turn : {start : Beginning} {u w : View Deed Beginning} {l m : List LaneView} {i j : List InletView} {registry : RegistryView} {ds : List Deed} (what : Look)
+    → ((behind : View Deed Beginning) × Turned u behind ds × IsAtWork start behind × Saw start behind w what) → IsAtWork start w
+    → ((v : View Deed Beginning) → IsAtWork start v → Turned u v ds → Served start u v l m i j registry)
+    → Served start u w l m i j registry × Stands start w what
+served-turn what turn after enters = (served-trans (enters turn.0 turn.2 turn.1) (served-look what after turn.3), turn.3.3)
+
+-- one step behind others
+pub served-on : {start : Beginning} {u v w : View Deed Beginning} {sources : RouteSet} {l m n : List LaneView} {i j k : List InletView} {registry : RegistryView} (what next : Look)
+    → IsReady start u sources l i registry → Served start u v l m i j registry × Stands start v what
+    → (IsReady start v sources m j registry → Stands start v what → Served start v w m n j k registry × Stands start w next)
+    → Served start u w l n i k registry × Stands start w next
+served-on what next ready before step =
+    let after = step (ready-on ready before.0) before.1 in (served-trans before.0 after.0, after.1)
 
 module _ (start : Beginning) (v : View Deed Beginning) where
   -- ---- a call

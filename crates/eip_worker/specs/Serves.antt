@@ -14,7 +14,10 @@ use Rattle.eip_processor.specs.Registered.{RegistryView}
 use Rattle.eip_core.specs.Doors.{doors_among}
 use Rattle.eip_core.specs.Outside.{IsTheirs, pulls}
 use Rattle.eip_turnstile.specs.declared.view.View.{View}
-use Rattle.eip_shared.specs.Turns.{IsAtWork}
+use Rattle.eip_plan.specs.Plan.{plan_of}
+use Rattle.eip_shared.specs.Looks.{Tells}
+use Rattle.eip_shared.specs.declared.looks.Look.{Look}
+use Rattle.eip_shared.specs.Turns.{IsAtWork, past_seen}
 use Rattle.eip_shared.specs.Deeds.{own_answers, own_entries}
 use Rattle.eip_shared.specs.declared.beginning.Beginning.{Beginning}
 use Rattle.eip_shared.specs.declared.deed.Deed.{Deed}
@@ -68,3 +71,7 @@ pub record Served (start : Beginning) (old new : View Deed Beginning) (lanes_old
   pub keeps : KeepsSeat old new
   pub works : IsAtWork start new
   pub serves : Serves start.set old.number old.mine new.mine lanes_old lanes_new inlets_old inlets_new registry
+
+-- how things stand behind a look that answered this, as the worker's seat knows
+abbrev pub Stands : Beginning → View Deed Beginning → Look → Type 0
+Stands start v what = Tells (plan_of start.set) (outlets start.set) start.workers start.turns (past_seen start v) v.number what

@@ -3,7 +3,7 @@ ghost use Rattle.eip_endpoint.specs.Inlets.{inlet_views};
 ghost use Rattle.eip_endpoint.specs.Lanes.{lane_views};
 ghost use Rattle.eip_turnstile.specs.Seats.{lock_id, lock_of, knows};
 ghost use Rattle.eip_shared.specs.declared.beginning.Beginning.{Beginning as Began};
-ghost use Rattle.eip_worker.specs.Serves.{IsReady, Served};
+ghost use Rattle.eip_worker.specs.Serves.{IsReady, Served, Stands};
 ghost use Rattle.eip_worker.specs.Seats.{MaySit, Sat};
 
 use crate::calls::{call, pull};
@@ -11,7 +11,7 @@ use crate::gate::Gate;
 use crate::worker::{Round, Worker};
 use eip_endpoint::{Endpoint, Source};
 use eip_processor::Registered;
-use eip_shared::{Look, SharedRun, enter_outcome, look};
+use eip_shared::{Look, SharedRun, enter_and_look, look};
 use eip_turnstile::Seat;
 use std::sync::Wait;
 use std::sync::atomic::Ordering;
@@ -35,6 +35,16 @@ impl<R, G> Round<'_, R, G> {
     /// Whether a worker looks again, behind so many looks in a row that found nothing to do.
     fn goes_on(&self, fruitless: u32) -> bool {
         fruitless < LOOKS_WITHOUT_ALL || self.present.load(Ordering::SeqCst) >= self.workers
+    }
+
+    /// So many looks in a row found nothing to do, behind one that told this, where so many did before. `None` where the worker is at its
+    /// end: the run has stopped, there was no memory, or there was nothing to do for long while not all are at work.
+    fn fruitless_behind(&self, what: &Look, fruitless: u32) -> Option<u32> {
+        match what {
+            Look::Did | Look::Call { .. } | Look::Pull(_) => Some(0),
+            Look::Nothing if self.goes_on(fruitless) => Some(fruitless.saturating_add(1)),
+            Look::Nothing | Look::NoMemory | Look::Stopped => None,
+        }
     }
 
     /// Whether somebody waits for a call, now or soon. It takes no turn.
@@ -62,38 +72,30 @@ impl<R, G> Round<'_, R, G> {
     }
 }
 
-/// What a worker's step came to.
-#[derive(Clone, Copy, PartialEq, Eq)]
-enum Step {
-    Did,
-    Idle,
-    /// The run has stopped, or there was no memory.
-    Over,
-}
+/// A seat, and what the last look from it told.
+type Standing = (Seat<SharedRun>, Look);
 
-/// One look in a turn, and the call that comes of it outside the lock, with its entry in a later turn.
+/// Makes the call outside the lock that the last look asked for, if it asked for one, enters in a turn what came of it, and looks in the
+/// same turn what the worker does next. Where there was no memory for a pull, that stays out, and the worker is at its end.
 fn make_step<E: Endpoint, S: Source, R: Registered, G: Gate, W: Wait>(
     rt: &W,
     round: &Round<'_, R, G>,
-    seat: Seat<SharedRun>,
+    at: Standing,
     worker: &mut Worker<E, S>,
-) -> (Seat<SharedRun>, Step)
-    requires own { lock_of seat ≡ lock_id round.now.lock.now }
-    requires ready { (start : Began) × IsReady start (knows seat) worker.old.sources (lane_views E.Endpoint worker.old.lanes.items)
-        (inlet_views S.Source worker.old.inlets.items) (R.view round.now.registry.now) }
-    ensures own { lock_of result.0 ≡ lock_of seat }
-    ensures served { (start : Began) → IsReady start (knows seat) worker.old.sources (lane_views E.Endpoint worker.old.lanes.items)
-        (inlet_views S.Source worker.old.inlets.items) (R.view round.now.registry.now)
-        → Served start (knows seat) (knows result.0) (lane_views E.Endpoint worker.old.lanes.items) (lane_views E.Endpoint worker.new.lanes.items)
-        (inlet_views S.Source worker.old.inlets.items) (inlet_views S.Source worker.new.inlets.items) (R.view round.now.registry.now) }
+) -> Standing
+    requires own { lock_of at.0 ≡ lock_id round.now.lock.now }
+    requires ready { (start : Began) × IsReady start (knows at.0) worker.old.sources (lane_views E.Endpoint worker.old.lanes.items)
+        (inlet_views S.Source worker.old.inlets.items) (R.view round.now.registry.now) × Stands start (knows at.0) at.1 }
+    ensures own { lock_of result.0 ≡ lock_of at.0 }
+    ensures served { (start : Began) → IsReady start (knows at.0) worker.old.sources (lane_views E.Endpoint worker.old.lanes.items)
+        (inlet_views S.Source worker.old.inlets.items) (R.view round.now.registry.now) → Stands start (knows at.0) at.1
+        → Served start (knows at.0) (knows result.0) (lane_views E.Endpoint worker.old.lanes.items) (lane_views E.Endpoint worker.new.lanes.items)
+        (inlet_views S.Source worker.old.inlets.items) (inlet_views S.Source worker.new.inlets.items) (R.view round.now.registry.now)
+        × Stands start (knows result.0) result.1 }
     ensures same { (worker.new.seat ≡ worker.old.seat) × (worker.new.sources ≡ worker.old.sources) }
 {
-    let (seat, what) = look(rt, round.lock, seat, round.waiting);
+    let (seat, what) = at;
     let outcome = match what {
-        Look::Did => return (seat, Step::Did),
-        Look::Nothing => return (seat, Step::Idle),
-        Look::Stopped => return (seat, Step::Over),
-        Look::NoMemory => None,
         Look::Call { ticket, told } => Some(call(
             &worker.sources,
             &mut worker.lanes,
@@ -104,14 +106,24 @@ fn make_step<E: Endpoint, S: Source, R: Registered, G: Gate, W: Wait>(
             told,
         )),
         Look::Pull(source) => pull(&worker.sources, &mut worker.inlets, source),
+        _ => return look(rt, round.lock, seat, round.waiting),
     };
     match outcome {
-        Some(outcome) => (enter_outcome(rt, round.lock, seat, outcome), Step::Did),
-        None => {
-            worker.lacks_memory = true;
-            (seat, Step::Over)
-        }
+        Some(outcome) => enter_and_look(rt, round.lock, seat, outcome, round.waiting),
+        None => (seat, Look::NoMemory),
     }
+}
+
+/// The seat of a worker at its end, which may be for want of memory.
+fn end_of<E, S>(at: Standing, worker: &mut Worker<E, S>) -> Seat<SharedRun>
+    ensures seat { result ≡ at.0 }
+    ensures same { (worker.new.seat ≡ worker.old.seat) × (worker.new.lanes ≡ worker.old.lanes) × (worker.new.inlets ≡ worker.old.inlets) }
+{
+    let (seat, what) = at;
+    if let Look::NoMemory = what {
+        worker.lacks_memory = true;
+    }
+    seat
 }
 
 /// Takes turns and makes calls until the run stops, or there was no memory, or there was nothing to do for long while not all are at
@@ -132,21 +144,16 @@ fn work<E: Endpoint, S: Source, R: Registered, G: Gate, W: Wait>(
         (inlet_views S.Source worker.old.inlets.items) (inlet_views S.Source worker.new.inlets.items) (R.view round.now.registry.now) }
     ensures seat { worker.new.seat ≡ worker.old.seat }
 {
-    let mut seat = seat;
+    let mut at = look(rt, round.lock, seat, round.waiting);
     let mut fruitless: u32 = 0;
     let parker = Parker::new();
     for _ in rt.forever() {
-        let (after, step) = make_step(rt, round, seat, worker);
-        seat = after;
-        fruitless = match step {
-            Step::Did => 0,
-            Step::Idle => fruitless.saturating_add(1),
-            Step::Over => return seat,
+        let Some(count) = round.fruitless_behind(&at.1, fruitless) else {
+            return end_of(at, worker);
         };
-        if !round.goes_on(fruitless) {
-            return seat;
-        }
+        fruitless = count;
         round.rest(rt, &parker, fruitless);
+        at = make_step(rt, round, at, worker);
     }
     unreachable!()
 }

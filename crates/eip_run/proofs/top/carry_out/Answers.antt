@@ -1,35 +1,41 @@
 use Rattle.std.proofs.Common.{Ok, refl, ap}
-use Rattle.eip_run.proofs.Ending.{prepared-runs, prepared-limit, loaded-runs, audited-runs, reports-drained, reports-loaded, reports-checked, reports-judged, reports-migrated, reports-refused}
+use Rattle.eip_run.proofs.Ending.{prepared-runs, prepared-terms, loaded-runs, loaded-terms, audited-runs, reports-drained, reports-loaded, reports-checked, reports-judged, reports-migrated, reports-refused}
 use Rattle.eip_run.proofs.top.carry_out.Goals as goal
 
 pub drain-requires-clause-few : goal.drain-requires-clause-few
-drain-requires-clause-few g c = (prepared-runs _ _ _ _ _ c.in-Ok-Drain.ensures.answer (ap Ok c.in-Ok-Drain.field-0-is)).few
+drain-requires-clause-few g c κs within = (prepared-runs _ _ _ _ _ _ c.in-Ok-Drain.ensures.answer (ap Ok c.in-Ok-Drain.field-0-is)).few
 
 pub drain-requires-clause-can_run : goal.drain-requires-clause-can_run
-drain-requires-clause-can_run g c = (prepared-runs _ _ _ _ _ c.in-Ok-Drain.ensures.answer (ap Ok c.in-Ok-Drain.field-0-is)).can_run
+drain-requires-clause-can_run g c κs within = (prepared-runs _ _ _ _ _ _ c.in-Ok-Drain.ensures.answer (ap Ok c.in-Ok-Drain.field-0-is)).can_run
 
 pub drain-requires-clause-some : goal.drain-requires-clause-some
-drain-requires-clause-some g c = (prepared-limit _ _ _ _ _ c.in-Ok-Drain.ensures.answer (ap Ok c.in-Ok-Drain.field-0-is)).0
+drain-requires-clause-some g c κs within = (prepared-terms _ _ _ _ _ _ c.in-Ok-Drain.ensures.answer (ap Ok c.in-Ok-Drain.field-0-is)).1
 
 pub drain-requires-clause-limit : goal.drain-requires-clause-limit
-drain-requires-clause-limit g c = (prepared-limit _ _ _ _ _ c.in-Ok-Drain.ensures.answer (ap Ok c.in-Ok-Drain.field-0-is)).1
+drain-requires-clause-limit g c κs within = (prepared-terms _ _ _ _ _ _ c.in-Ok-Drain.ensures.answer (ap Ok c.in-Ok-Drain.field-0-is)).2
+
+pub drain-requires-clause-workers : goal.drain-requires-clause-workers
+drain-requires-clause-workers g c κs within = (prepared-terms _ _ _ _ _ _ c.in-Ok-Drain.ensures.answer (ap Ok c.in-Ok-Drain.field-0-is)).0
 
 pub returns-in-Ok-Drain : goal.returns-in-Ok-Drain
 returns-in-Ok-Drain g c = record {
   report =
-      reports-drained _ _ _ _ _ _ _ c.in-Ok-Drain.ensures.answer (ap Ok c.in-Ok-Drain.field-0-is) c.in-Ok-Drain.ensures.files c.drain.ensures.drained;
+      reports-drained _ _ _ _ _ _ _ _ c.in-Ok-Drain.ensures.answer (ap Ok c.in-Ok-Drain.field-0-is) c.in-Ok-Drain.ensures.files c.drain.ensures.drained;
 }
 
 pub drain-requires-in-Ok-Load-clause-few : goal.drain-requires-in-Ok-Load-clause-few
-drain-requires-in-Ok-Load-clause-few g c = (loaded-runs _ _ _ c.in-Ok-Load.ensures.answer (ap Ok c.in-Ok-Load.field-0-is)).few
+drain-requires-in-Ok-Load-clause-few g c κs within = (loaded-runs _ _ _ _ c.in-Ok-Load.ensures.answer (ap Ok c.in-Ok-Load.field-0-is)).few
 
 pub drain-requires-in-Ok-Load-clause-can_run : goal.drain-requires-in-Ok-Load-clause-can_run
-drain-requires-in-Ok-Load-clause-can_run g c = (loaded-runs _ _ _ c.in-Ok-Load.ensures.answer (ap Ok c.in-Ok-Load.field-0-is)).can_run
+drain-requires-in-Ok-Load-clause-can_run g c κs within = (loaded-runs _ _ _ _ c.in-Ok-Load.ensures.answer (ap Ok c.in-Ok-Load.field-0-is)).can_run
+
+pub drain-requires-in-Ok-Load-clause-workers : goal.drain-requires-in-Ok-Load-clause-workers
+drain-requires-in-Ok-Load-clause-workers g c κs within = loaded-terms _ _ _ _ c.in-Ok-Load.ensures.answer (ap Ok c.in-Ok-Load.field-0-is)
 
 pub returns-in-Ok-Load : goal.returns-in-Ok-Load
 returns-in-Ok-Load g c = record {
   report =
-      reports-loaded _ _ _ _ _ c.in-Ok-Load.ensures.answer (ap Ok c.in-Ok-Load.field-0-is) c.in-Ok-Load.ensures.files c.drain-in-Ok-Load.ensures.drained;
+      reports-loaded _ _ _ _ _ _ c.in-Ok-Load.ensures.answer (ap Ok c.in-Ok-Load.field-0-is) c.in-Ok-Load.ensures.files c.drain-in-Ok-Load.ensures.drained;
 }
 
 pub returns-in-Ok-Check : goal.returns-in-Ok-Check

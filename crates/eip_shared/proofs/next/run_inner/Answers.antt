@@ -17,4 +17,4 @@ returns-in-Ok-Outside-clause-looks c =
 pub returns-in-Err-clause-looks : goal.returns-in-Err-clause-looks
 returns-in-Err-clause-looks c =
     looks-behind c.args.hub.now c.inner.new.self c.starve.new.self c.args.worker Did c.in-Err.ensures.err
-    (looks-did c.inner.new.self c.starve.new.self c.args.worker (Starve c.args.number) c.starve.ensures.adds tt (refl, refl))
+    (looks-did c.inner.new.self c.starve.new.self c.args.worker (Starve c.args.number) c.starve.ensures.adds tt (refl, refl) refl)

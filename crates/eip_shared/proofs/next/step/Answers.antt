@@ -13,13 +13,14 @@ returns-then-is_some-clause-looks c = (
   does-none c.args.hub.now c.args.hub.now c.args.worker (none-same c.args.hub.now),
   tt,
   ap is_some (sym c.stop.ensures.stop) ∙ (sym c.is_some.ensures ∙ c.if-is_some.true),
+  refl,
 )
 
 pub returns-then-is_err-clause-looks : goal.returns-then-is_err-clause-looks
-returns-then-is_err-clause-looks c = ([], does-none c.args.hub.now c.reserve.new.self c.args.worker c.reserve.ensures.none, tt, tt)
+returns-then-is_err-clause-looks c = ([], does-none c.args.hub.now c.reserve.new.self c.args.worker c.reserve.ensures.none, tt, tt, refl)
 
 pub returns-then-not-below_limit-clause-looks : goal.returns-then-not-below_limit-clause-looks
-returns-then-not-below_limit-clause-looks c = ([], does-none c.args.hub.now c.reserve.new.self c.args.worker c.reserve.ensures.none, tt, tt)
+returns-then-not-below_limit-clause-looks c = ([], does-none c.args.hub.now c.reserve.new.self c.args.worker c.reserve.ensures.none, tt, tt, refl)
 
 pub run_inner-requires-clause-ready : goal.run_inner-requires-clause-ready
 run_inner-requires-clause-ready c =
@@ -40,4 +41,5 @@ returns-in-Some-pull_owned-clause-looks c =
       does-one c.start.new.self c.pull_owned.new.self c.args.worker (Pull c.in-Some-pull_owned.source) pulled.enters.adds pulled.owner,
       ((refl, refl), tt),
       pulled-now c.start.new.self c.pull_owned.new.self c.args.worker c.in-Some-pull_owned.source pulled.enters.adds pulled.may.0 pulled.owner,
+      refl,
     )

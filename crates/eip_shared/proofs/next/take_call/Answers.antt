@@ -1,4 +1,4 @@
-use Rattle.std.proofs.Common.{[], ◌∷◌, refl, subst}
+use Rattle.std.proofs.Common.{[], ◌∷◌, eq-eqb, refl, subst}
 use Rattle.eip_ledger.specs.declared.entry.Kind.TheVariants.{Starve, Take}
 use Rattle.eip_books.specs.View.{Adds}
 use Rattle.eip_shared.specs.Deeds.{silent}
@@ -31,6 +31,7 @@ returns-in-Ok-clause-some c =
         };
         told = c.in-Ok.ensures asks.0 asks.1.0;
       },
+      refl,
     )
 
 pub returns-in-Err-clause-some : goal.returns-in-Err-clause-some
@@ -47,4 +48,5 @@ returns-in-Err-clause-some c =
           (does-one mid new w (Starve ticket.number) (subst (λ n. Adds mid new n (Starve ticket.number)) took.worker c.give_up.ensures.adds) tt),
       ((refl, refl), ((refl, refl), tt)),
       tt,
+      rw (eq-eqb ticket.number ticket.number refl) refl,
     )

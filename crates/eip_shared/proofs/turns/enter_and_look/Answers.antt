@@ -1,33 +1,21 @@
 use denote.Param.Send.{sendable}
 use Rattle.std.proofs.Common.{refl}
 use Rattle.eip_turnstile.specs.Seats.{held_knows, knows}
-use Rattle.eip_shared.proofs.Turning.{Turn, both-leave, turn-entered, turn-may, turn-worked, then-looked, then-worked}
+use Rattle.eip_shared.proofs.Turning.{both-leave, then-looked, then-worked, turn-entered, turn-may, turn-of, turn-worked}
 use Rattle.eip_shared.proofs.Sending.{run-send}
 use Rattle.eip_shared.proofs.turns.enter_and_look.Goals as goal
 
 pub enter-requires-clause-may : goal.enter-requires-clause-may
 enter-requires-clause-may g c =
     let may = c.requires.may in
-    let turn : Turn (knows c.args.seat) (held_knows c.enter-held.result) c.enter-held.result.value c.value-run.result.now c.number-worker.result = record {
-      lent = c.value-run.ensures.value;
-      number = c.number-worker.ensures;
-      claims = c.enter-held.ensures.view;
-      starts = c.enter-held.ensures.begins;
-      mine = c.enter-held.ensures.mine;
-      base = c.enter-held.ensures.base;
-    } in
+    let turn = turn-of (knows c.args.seat) (held_knows c.enter-held.result) c.enter-held.result.value c.value-run.result.now c.number-worker.result
+    c.value-run.ensures.value c.number-worker.ensures c.enter-held.ensures.view c.enter-held.ensures.begins c.enter-held.ensures.mine c.enter-held.ensures.base in
     (may.2.0, turn-may may.0 _ _ _ _ _ turn may.1 may.2.0 c.args.outcome c.hub.ensures.legal may.2.1)
 
 pub returns-clause-saw : goal.returns-clause-saw
 returns-clause-saw g c start from works known =
-    let turn : Turn (knows c.args.seat) (held_knows c.enter-held.result) c.enter-held.result.value c.value-run.result.now c.number-worker.result = record {
-      lent = c.value-run.ensures.value;
-      number = c.number-worker.ensures;
-      claims = c.enter-held.ensures.view;
-      starts = c.enter-held.ensures.begins;
-      mine = c.enter-held.ensures.mine;
-      base = c.enter-held.ensures.base;
-    } in
+    let turn = turn-of (knows c.args.seat) (held_knows c.enter-held.result) c.enter-held.result.value c.value-run.result.now c.number-worker.result
+    c.value-run.ensures.value c.number-worker.ensures c.enter-held.ensures.view c.enter-held.ensures.begins c.enter-held.ensures.mine c.enter-held.ensures.base in
     let entered = turn-entered start _ _ _ _ _ turn works _ c.enter.new.self refl from c.args.outcome c.hub.ensures.legal known c.enter.ensures.makes in
     let behind = turn-worked start _ _ _ _ _ turn works _ c.enter.new.self refl _ c.enter.ensures.makes c.enter.ensures.legal in (
       _,
@@ -39,28 +27,16 @@ returns-clause-saw g c start from works known =
 
 pub returns-clause-works : goal.returns-clause-works
 returns-clause-works g c start works =
-    let turn : Turn (knows c.args.seat) (held_knows c.enter-held.result) c.enter-held.result.value c.value-run.result.now c.number-worker.result = record {
-      lent = c.value-run.ensures.value;
-      number = c.number-worker.ensures;
-      claims = c.enter-held.ensures.view;
-      starts = c.enter-held.ensures.begins;
-      mine = c.enter-held.ensures.mine;
-      base = c.enter-held.ensures.base;
-    } in
+    let turn = turn-of (knows c.args.seat) (held_knows c.enter-held.result) c.enter-held.result.value c.value-run.result.now c.number-worker.result
+    c.value-run.ensures.value c.number-worker.ensures c.enter-held.ensures.view c.enter-held.ensures.begins c.enter-held.ensures.mine c.enter-held.ensures.base in
     let looks = c.look-what.ensures.looks in
     then-worked start _ _ _ _ _ turn works c.enter.new.self _ c.enter.ensures.makes c.enter.ensures.legal _ c.look-what.new.self c.leave.ensures.view
     looks.0 looks.1 c.look-what.ensures.legal
 
 pub leave-requires-clause-list : goal.leave-requires-clause-list
 leave-requires-clause-list g c κs =
-    let turn : Turn (knows c.args.seat) (held_knows c.enter-held.result) c.enter-held.result.value c.value-run.result.now c.number-worker.result = record {
-      lent = c.value-run.ensures.value;
-      number = c.number-worker.ensures;
-      claims = c.enter-held.ensures.view;
-      starts = c.enter-held.ensures.begins;
-      mine = c.enter-held.ensures.mine;
-      base = c.enter-held.ensures.base;
-    } in
+    let turn = turn-of (knows c.args.seat) (held_knows c.enter-held.result) c.enter-held.result.value c.value-run.result.now c.number-worker.result
+    c.value-run.ensures.value c.number-worker.ensures c.enter-held.ensures.view c.enter-held.ensures.begins c.enter-held.ensures.mine c.enter-held.ensures.base in
     let looks = c.look-what.ensures.looks in
     both-leave (knows c.args.seat) (held_knows c.enter-held.result) c.enter-held.result.value c.value-run.result.now c.enter.new.self c.look-what.new.self
     c.number-worker.result _ looks.0 turn c.enter.ensures.makes looks.1

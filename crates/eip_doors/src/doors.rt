@@ -1,6 +1,6 @@
 ghost use Rattle.eip_line.specs.Lanes.{untold_calls};
 ghost use Rattle.eip_line.specs.Sources.{untold_items, untold_commits};
-ghost use Rattle.eip_cli.specs.Doors.{lane_faults_of, inlet_faults_of};
+ghost use Rattle.eip_doors.specs.Doors.{lane_faults_of, inlet_faults_of};
 
 use eip_endpoint::{
     CommitFault, Endpoint, Files, Mover, PullFault, Pulled, SendFault, Sink, SinkFault, Source,

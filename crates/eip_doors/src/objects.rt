@@ -26,7 +26,7 @@ pub fn patterns(alloc: Global) -> CratePatterns
 }
 
 /// The lanes: `file` writes files, and `line` sends lines to peers.
-fn lanes<F: Files + Send + Drop, K: Link + Send + Drop>(
+pub fn lanes<F: Files + Send + Drop, K: Link + Send + Drop>(
     alloc: Global,
     files: F,
     peers: K,
@@ -69,7 +69,7 @@ fn inlet<S: Drop, C: Drop, W: Drop>(
 
 /// The inlets: `stream` reads lines of standard input, `file` the files of folders, `line` lines of peers that connect, and `load` the
 /// items of a load.
-fn inlets<
+pub fn inlets<
     A: Link + Send + Drop,
     F: Mover + Send + Drop,
     K: Link + Send + Drop,

@@ -1,10 +1,10 @@
 -- The counts of faults of the host's lanes and inlets: those of what they work on.
 use Rattle.std.specs.Prelude.{ℕ}
 use Rattle.eip_line.specs.Sources.{faults_with}
-use Rattle.eip_cli.specs.declared.doors.HostLane.{HostLane}
-use Rattle.eip_cli.specs.declared.doors.HostLane.TheVariants as lane
-use Rattle.eip_cli.specs.declared.doors.HostInlet.{HostInlet}
-use Rattle.eip_cli.specs.declared.doors.HostInlet.TheVariants as inlet
+use Rattle.eip_doors.specs.declared.doors.HostLane.{HostLane}
+use Rattle.eip_doors.specs.declared.doors.HostLane.TheVariants as lane
+use Rattle.eip_doors.specs.declared.doors.HostInlet.{HostInlet}
+use Rattle.eip_doors.specs.declared.doors.HostInlet.TheVariants as inlet
 
 abbrev pub lane_faults_of : {F K : Type 0} → (F → ℕ) → (K → ℕ) → HostLane F K → ℕ
 lane_faults_of files link (lane.Files l) = files l.files

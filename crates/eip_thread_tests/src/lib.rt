@@ -1,0 +1,15 @@
+// Tests of the command with workers: what the top call prints and leaves, whatever the schedule.
+#![tactic(auto)]
+
+#[cfg(test)]
+mod feed;
+#[cfg(test)]
+mod given;
+#[cfg(test)]
+mod loads;
+#[cfg(test)]
+mod parts;
+#[cfg(test)]
+mod signals;
+#[cfg(test)]
+mod unlocked;

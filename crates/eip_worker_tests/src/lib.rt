@@ -1,0 +1,5 @@
+// Tests of workers beside each other: they call at one time, and what they were dealt comes back.
+#![tactic(auto)]
+
+#[cfg(test)]
+mod workers;

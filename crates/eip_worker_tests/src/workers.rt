@@ -1,0 +1,142 @@
+use eip_endpoint::{Inlet, Lane, MemoryLane, MemorySource};
+use eip_exchange::End;
+use eip_hub::Hub;
+use eip_ledger::{Place, Stop};
+use eip_text::NoMemory;
+use eip_worker::{Gate, NoGate};
+use eip_worker_runs::{hand_in, run_of};
+use eip_workers::run_workers;
+use std::sync::atomic::{AtomicU32, Ordering};
+use std::test::Fail;
+use std::thread::yield_now;
+
+/// The parts of a line are worked on at one time.
+const PARTS: &str =
+    r#"[{"from":{"uri":"stream:in","steps":[{"split":{"tokenize":",","parallelProcessing":true,"steps":[{"process":"keep"}]}}]}}]"#;
+
+/// Each part is sent on three lanes, on the second one and on the third one with a body of its own.
+const THRICE: &str =
+    r#"[{"from":{"uri":"stream:in","steps":[{"split":{"tokenize":",","parallelProcessing":true,"steps":[{"to":"lane:x"},{"setBody":{"simple":"<${body}>"}},{"to":"lane:y"},{"setBody":{"simple":"${body}!"}},{"to":"lane:z"}]}}]}}]"#;
+
+/// How often a call that is held looks for the other one, before the test fails.
+const POLLS: u32 = 1_000_000;
+
+/// Holds the first call until the second one has begun.
+#[derive(Drop)]
+struct Holding {
+    begun: AtomicU32,
+    polls: AtomicU32,
+}
+
+impl Gate for Holding {
+    fn before_process(&self, _worker: u32, _number: u64) {
+        if self.begun.fetch_add(1, Ordering::SeqCst) > 0 {
+            return;
+        }
+        for _ in 0..POLLS {
+            if self.begun.load(Ordering::SeqCst) > 1 {
+                return;
+            }
+            self.polls.fetch_add(1, Ordering::SeqCst);
+            yield_now();
+        }
+    }
+}
+
+/// Whether the exchanges from 1 up to this one are completed.
+fn are_completed(hub: &Hub, last: u64) -> Result<bool, NoMemory> {
+    for number in 1..=last {
+        let place = hub.place(number)?;
+        if !matches!(place, Some(Place::Ended(End::Completed))) {
+            return Ok(false);
+        }
+    }
+    Ok(true)
+}
+
+#[test]
+fn two_workers_call_a_processor_at_one_time(rt: HostRuntime) -> Result<(), Fail> {
+    let alloc = rt.alloc();
+    let mut handed = hand_in(alloc, &[], &["stream"])?;
+    let Some(hub) = run_of(
+        alloc,
+        PARTS,
+        &handed.lanes,
+        &handed.inlets,
+        &handed.registry,
+        100,
+    ) else {
+        panic!(rt; "no run")
+    };
+    let gate = Holding {
+        begun: AtomicU32::new(0),
+        polls: AtomicU32::new(0),
+    };
+    let (hub, stop) = run_workers(
+        &rt,
+        alloc,
+        hub,
+        &mut handed.lanes,
+        &mut handed.inlets,
+        &handed.registry,
+        &gate,
+        2,
+    );
+    let are_done = are_completed(&hub, 3)?;
+    assert!(rt; gate.polls.load(Ordering::SeqCst) < POLLS);
+    assert!(rt; stop == Stop::Drained && are_done);
+    Ok(())
+}
+
+/// Whether this lane has this name and was sent these two bodies, in whichever order.
+fn was_sent(lane: &Lane<MemoryLane>, name: &str, bodies: [&str; 2]) -> bool {
+    let calls = lane.object.calls();
+    lane.name.as_str() == name
+        && calls.len() == 2
+        && bodies.iter().all(|body| calls.iter().any(|call| call.message.body.as_str() == *body))
+}
+
+/// Whether the lanes and the inlets stand where they were handed in, and each lane was sent what is its own.
+fn are_in_their_places(lanes: &[Lane<MemoryLane>], inlets: &[Inlet<MemorySource>]) -> bool {
+    let [z, x, y] = lanes else {
+        return false;
+    };
+    let [file, stream] = inlets else {
+        return false;
+    };
+    was_sent(z, "lane:z", ["<a>!", "<b>!"])
+        && was_sent(x, "lane:x", ["a", "b"])
+        && was_sent(y, "lane:y", ["<a>", "<b>"])
+        && file.name.as_str() == "file"
+        && stream.name.as_str() == "stream"
+}
+
+#[test]
+fn lanes_and_inlets_come_back_in_their_places(rt: HostRuntime) -> Result<(), Fail> {
+    let alloc = rt.alloc();
+    let mut handed = hand_in(alloc, &["lane:z", "lane:x", "lane:y"], &["file", "stream"])?;
+    let Some(hub) = run_of(
+        alloc,
+        THRICE,
+        &handed.lanes,
+        &handed.inlets,
+        &handed.registry,
+        100,
+    ) else {
+        panic!(rt; "no run")
+    };
+    let (hub, stop) = run_workers(
+        &rt,
+        alloc,
+        hub,
+        &mut handed.lanes,
+        &mut handed.inlets,
+        &handed.registry,
+        &NoGate,
+        2,
+    );
+    let are_done = are_completed(&hub, 3)?;
+    assert!(rt; stop == Stop::Drained && are_done);
+    assert!(rt; are_in_their_places(handed.lanes.as_slice(), handed.inlets.as_slice()));
+    Ok(())
+}
