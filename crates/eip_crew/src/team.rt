@@ -117,13 +117,11 @@ pub fn work_together<
         &mut crew.inlets,
     );
     let present = AtomicU32::new(0);
-    let waiting = AtomicU32::new(0);
     let round = Round {
         lock: &lock,
         registry,
         gate,
         present: &present,
-        waiting: &waiting,
         workers: crew.workers.len() as u32,
     };
     serve_all(rt, &round, &mut crew.workers);

@@ -1,2 +1,5 @@
 pub mod Appended
 pub mod Groups
+pub mod Places
+pub mod Held
+pub mod Items

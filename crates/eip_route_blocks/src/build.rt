@@ -1,11 +1,13 @@
-#![tactic(auto, using(eip_text::proofs::Levels::json_levels))]
+#![tactic(auto, using(eip_text::proofs::Levels::json_levels, crate::proofs::Places::one_place_held))]
 
-ghost use Rattle.std.specs.Prelude.{◌≡◌, [], ◌∷◌, IfOk};
+ghost use Rattle.std.specs.Prelude.{◌≡◌, [], ◌∷◌, IfOk, OnOk};
 ghost use Rattle.eip_text.specs.Json.{json, items_json, members_json};
 ghost use Rattle.eip_route.specs.Nest as nest;
 ghost use Rattle.eip_route_values.specs.Built.{IsStep, AreSteps, AreGroups};
 ghost use Rattle.eip_route_values.specs.Nesting as spec;
 ghost use Rattle.eip_route_values.specs.Parts as parts;
+ghost use Rattle.eip_route_values.specs.Taken as taken;
+ghost use Rattle.eip_route_values.specs.Taken.{Holds, Spends};
 
 use crate::frames::{places_of, step_of};
 use eip_exchange::How;
@@ -64,7 +66,9 @@ pub fn build_list(
     known: &mut Known,
     tree: &Tree,
 ) -> Result<Vec<Block>, NoMemory>
-    ensures { IfOk result (λ bs. bs.items ≡ nest.flat_block n (spec.nest_list (json tree.now))) }
+    requires held { Holds (taken.in_list (json tree.now)) known.old }
+    ensures value { IfOk result (λ bs. bs.items ≡ nest.flat_block n (spec.nest_list (json tree.now))) }
+    ensures left { OnOk result (Spends (taken.in_list (json tree.now)) known.old known.new) }
 {
     match tree {
         Tree::List(items) => {
@@ -88,7 +92,9 @@ fn build_steps(
     known: &mut Known,
     items: &[Tree],
 ) -> Result<BuiltSteps, NoMemory>
-    ensures { IfOk result (λ b. AreSteps b (nest.flat_steps first (spec.nest_steps (items_json items.now)))) }
+    requires held { Holds (taken.in_steps (items_json items.now)) known.old }
+    ensures value { IfOk result (λ b. AreSteps b (nest.flat_steps first (spec.nest_steps (items_json items.now)))) }
+    ensures left { OnOk result (Spends (taken.in_steps (items_json items.now)) known.old known.new) }
 {
     let mut steps = Vec::new(alloc);
     let mut blocks = Vec::new(alloc);
@@ -107,7 +113,9 @@ fn build_steps(
 
 #[cycle(build)]
 fn build_step(alloc: Global, n: u32, known: &mut Known, tree: &Tree) -> Result<BuiltStep, NoMemory>
-    ensures { IfOk result (λ b. IsStep b (nest.flat_step n (spec.nest_step (json tree.now)))) }
+    requires held { Holds (taken.in_step (json tree.now)) known.old }
+    ensures value { IfOk result (λ b. IsStep b (nest.flat_step n (spec.nest_step (json tree.now)))) }
+    ensures left { OnOk result (Spends (taken.in_step (json tree.now)) known.old known.new) }
 {
     match tree {
         Tree::Object(members) => {
@@ -130,7 +138,9 @@ fn build_only(
     known: &mut Known,
     members: &[(Text, Tree)],
 ) -> Result<BuiltStep, NoMemory>
-    ensures { IfOk result (λ b. IsStep b (nest.flat_step n (spec.nest_only (members_json members.now)))) }
+    requires held { Holds (taken.in_only (members_json members.now)) known.old }
+    ensures value { IfOk result (λ b. IsStep b (nest.flat_step n (spec.nest_only (members_json members.now)))) }
+    ensures left { OnOk result (Spends (taken.in_only (members_json members.now)) known.old known.new) }
 {
     for member in members {
         let key = step_key(member.0.as_str());
@@ -148,7 +158,9 @@ fn build_value(
     key: Option<Key>,
     tree: &Tree,
 ) -> Result<BuiltStep, NoMemory>
-    ensures { IfOk result (λ b. IsStep b (nest.flat_step n (spec.nest_value key (json tree.now)))) }
+    requires held { Holds (taken.in_value key (json tree.now)) known.old }
+    ensures value { IfOk result (λ b. IsStep b (nest.flat_step n (spec.nest_value key (json tree.now)))) }
+    ensures left { OnOk result (Spends (taken.in_value key (json tree.now)) known.old known.new) }
 {
     let Some(key) = key else {
         return no_step(alloc);
@@ -173,9 +185,11 @@ fn build_object(
     key: Key,
     members: &[(Text, Tree)],
 ) -> Result<BuiltStep, NoMemory>
-    ensures { let ms = members_json members.now in
+    requires held { Holds (taken.in_step_of key (members_json members.now)) known.old }
+    ensures value { let ms = members_json members.now in
         let step = spec.with_groups (spec.said key ms) (spec.at_places (spec.nest_at ms) (spec.places key)) in
         IfOk result (λ b. IsStep b (nest.flat_step n step)) }
+    ensures left { OnOk result (Spends (taken.in_step_of key (members_json members.now)) known.old known.new) }
 {
     let BuiltGroups { numbers, blocks } = build_places(alloc, n, known, places_of(key), members)?;
     let step = step_of(alloc, known, key, members, numbers)?;
@@ -191,8 +205,10 @@ fn build_places(
     places: &[Place],
     members: &[(Text, Tree)],
 ) -> Result<BuiltGroups, NoMemory>
-    ensures { let groups = spec.at_places (spec.nest_at (members_json members.now)) places.now in
+    requires held { Holds (taken.at_places (taken.in_place (members_json members.now)) places.now) known.old }
+    ensures value { let groups = spec.at_places (spec.nest_at (members_json members.now)) places.now in
         IfOk result (λ b. AreGroups b (nest.flat_groups first groups)) }
+    ensures left { OnOk result (Spends (taken.at_places (taken.in_place (members_json members.now)) places.now) known.old known.new) }
 {
     let mut numbers = Vec::new(alloc);
     let mut blocks = Vec::new(alloc);
@@ -214,8 +230,10 @@ fn build_place(
     place: Place,
     members: &[(Text, Tree)],
 ) -> Result<BuiltGroups, NoMemory>
-    ensures { let groups = spec.nest_at (members_json members.now) place in
+    requires held { Holds (taken.in_place (members_json members.now) place) known.old }
+    ensures value { let groups = spec.nest_at (members_json members.now) place in
         IfOk result (λ b. AreGroups b (nest.flat_groups n groups)) }
+    ensures left { OnOk result (Spends (taken.in_place (members_json members.now) place) known.old known.new) }
 {
     match place {
         Place::Steps => one_group(alloc, n, build_in(alloc, n, known, members)?),
@@ -227,7 +245,7 @@ fn build_place(
 }
 
 /// The block of a split into the messages of a batch, and then that of the steps which each runs.
-#[tactic(auto, using(crate::proofs::Groups::batch_flat))]
+#[tactic(auto, using(eip_text::proofs::Levels::json_levels, crate::proofs::Groups::batch_flat))]
 #[cycle(build)]
 fn build_batch(
     alloc: Global,
@@ -235,9 +253,11 @@ fn build_batch(
     known: &mut Known,
     members: &[(Text, Tree)],
 ) -> Result<BuiltGroups, NoMemory>
-    ensures { let ms = members_json members.now in
+    requires held { Holds (taken.in_own (members_json members.now)) known.old }
+    ensures value { let ms = members_json members.now in
         let groups = nest.batch_groups (parts.order_key_in ms) (spec.nest_in ms) in
         IfOk result (λ b. AreGroups b (nest.flat_groups n groups)) }
+    ensures left { OnOk result (Spends (taken.in_own (members_json members.now)) known.old known.new) }
 {
     let inner = after(n, 1)?;
     let blocks = build_in(alloc, inner, known, members)?;
@@ -261,8 +281,10 @@ fn build_in(
     known: &mut Known,
     members: &[(Text, Tree)],
 ) -> Result<Vec<Block>, NoMemory>
-    ensures { IfOk result (λ bs. bs.items
+    requires held { Holds (taken.in_own (members_json members.now)) known.old }
+    ensures value { IfOk result (λ bs. bs.items
         ≡ nest.flat_block n (spec.nest_in (members_json members.now))) }
+    ensures left { OnOk result (Spends (taken.in_own (members_json members.now)) known.old known.new) }
 {
     for member in members {
         if Key::Steps.is(member.0.as_str()) {
@@ -281,7 +303,9 @@ fn build_inner(
     known: &mut Known,
     tree: &Tree,
 ) -> Result<Vec<Block>, NoMemory>
-    ensures { IfOk result (λ bs. bs.items ≡ nest.flat_block n (spec.nest_inner (json tree.now))) }
+    requires held { Holds (taken.in_inner (json tree.now)) known.old }
+    ensures value { IfOk result (λ bs. bs.items ≡ nest.flat_block n (spec.nest_inner (json tree.now))) }
+    ensures left { OnOk result (Spends (taken.in_inner (json tree.now)) known.old known.new) }
 {
     match tree {
         Tree::Object(members) => Ok(build_in(alloc, n, known, members.items())?),
@@ -301,8 +325,10 @@ fn build_branches_in(
     known: &mut Known,
     members: &[(Text, Tree)],
 ) -> Result<BuiltGroups, NoMemory>
-    ensures { IfOk result (λ b. AreGroups b
+    requires held { Holds (taken.in_own (members_json members.now)) known.old }
+    ensures value { IfOk result (λ b. AreGroups b
         (nest.flat_groups n (spec.nest_branches_in (members_json members.now)))) }
+    ensures left { OnOk result (Spends (taken.in_own (members_json members.now)) known.old known.new) }
 {
     for member in members {
         if Key::Steps.is(member.0.as_str()) {
@@ -320,7 +346,9 @@ fn build_branch_list(
     known: &mut Known,
     tree: &Tree,
 ) -> Result<BuiltGroups, NoMemory>
-    ensures { IfOk result (λ b. AreGroups b (nest.flat_groups n (spec.nest_branch_list (json tree.now)))) }
+    requires held { Holds (taken.in_list (json tree.now)) known.old }
+    ensures value { IfOk result (λ b. AreGroups b (nest.flat_groups n (spec.nest_branch_list (json tree.now)))) }
+    ensures left { OnOk result (Spends (taken.in_list (json tree.now)) known.old known.new) }
 {
     match tree {
         Tree::List(items) => Ok(build_branches(alloc, n, known, items.items())?),
@@ -341,8 +369,10 @@ fn build_branches(
     known: &mut Known,
     items: &[Tree],
 ) -> Result<BuiltGroups, NoMemory>
-    ensures { IfOk result (λ b. AreGroups b
+    requires held { Holds (taken.in_steps (items_json items.now)) known.old }
+    ensures value { IfOk result (λ b. AreGroups b
         (nest.flat_groups first (spec.nest_branches (items_json items.now)))) }
+    ensures left { OnOk result (Spends (taken.in_steps (items_json items.now)) known.old known.new) }
 {
     let mut numbers = Vec::new(alloc);
     let mut blocks = Vec::new(alloc);
@@ -365,8 +395,10 @@ fn build_each_in(
     key: Key,
     members: &[(Text, Tree)],
 ) -> Result<BuiltGroups, NoMemory>
-    ensures { IfOk result (λ b. AreGroups b
+    requires held { Holds (taken.in_each_of key (members_json members.now)) known.old }
+    ensures value { IfOk result (λ b. AreGroups b
         (nest.flat_groups n (spec.nest_each_in key (members_json members.now)))) }
+    ensures left { OnOk result (Spends (taken.in_each_of key (members_json members.now)) known.old known.new) }
 {
     for member in members {
         if key.is(member.0.as_str()) {
@@ -384,7 +416,9 @@ fn build_each_list(
     known: &mut Known,
     tree: &Tree,
 ) -> Result<BuiltGroups, NoMemory>
-    ensures { IfOk result (λ b. AreGroups b (nest.flat_groups n (spec.nest_each_list (json tree.now)))) }
+    requires held { Holds (taken.in_each_list (json tree.now)) known.old }
+    ensures value { IfOk result (λ b. AreGroups b (nest.flat_groups n (spec.nest_each_list (json tree.now)))) }
+    ensures left { OnOk result (Spends (taken.in_each_list (json tree.now)) known.old known.new) }
 {
     match tree {
         Tree::List(items) => Ok(build_each(alloc, n, known, items.items())?),
@@ -405,8 +439,10 @@ fn build_each(
     known: &mut Known,
     items: &[Tree],
 ) -> Result<BuiltGroups, NoMemory>
-    ensures { IfOk result (λ b. AreGroups b
+    requires held { Holds (taken.in_each (items_json items.now)) known.old }
+    ensures value { IfOk result (λ b. AreGroups b
         (nest.flat_groups first (spec.nest_each (items_json items.now)))) }
+    ensures left { OnOk result (Spends (taken.in_each (items_json items.now)) known.old known.new) }
 {
     let mut numbers = Vec::new(alloc);
     let mut blocks = Vec::new(alloc);
@@ -429,8 +465,10 @@ fn build_one_in(
     key: Key,
     members: &[(Text, Tree)],
 ) -> Result<BuiltGroups, NoMemory>
-    ensures { IfOk result (λ b. AreGroups b
+    requires held { Holds (taken.in_one_of key (members_json members.now)) known.old }
+    ensures value { IfOk result (λ b. AreGroups b
         (nest.flat_groups n (spec.nest_one_in key (members_json members.now)))) }
+    ensures left { OnOk result (Spends (taken.in_one_of key (members_json members.now)) known.old known.new) }
 {
     for member in members {
         if key.is(member.0.as_str()) {

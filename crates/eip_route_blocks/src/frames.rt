@@ -1,12 +1,14 @@
-#![tactic(auto, using(eip_text::proofs::Levels::json_levels))]
+#![tactic(auto, using(eip_text::proofs::Levels::json_levels, eip_route_values::proofs::Taking::taking))]
 
-ghost use Rattle.std.specs.Prelude.{◌≡◌, [], true, None, Some, is_some, option_map, IfOk};
+ghost use Rattle.std.specs.Prelude.{◌≡◌, [], true, None, Some, is_some, option_map, IfOk, OnOk};
 ghost use Rattle.eip_text.specs.Json.{json, items_json, members_json};
 ghost use Rattle.eip_route.specs.Nest as nest;
 ghost use Rattle.eip_route_grammar.specs.Objects as objects;
 ghost use Rattle.eip_route_values.specs.Leaves as leaves;
 ghost use Rattle.eip_route_values.specs.Nesting as spec;
 ghost use Rattle.eip_route_values.specs.Parts as parts;
+ghost use Rattle.eip_route_values.specs.Taken as taken;
+ghost use Rattle.eip_route_values.specs.Taken.{Holds, Spends};
 
 use eip_route::{Catch, Check, Step, own_repository};
 use eip_route_grammar::keys::Key;
@@ -71,7 +73,9 @@ fn stored_nothing(alloc: Global) -> Result<Check, NoMemory>
 
 /// What a case of a choice asks.
 fn case_check(alloc: Global, known: &mut Known, tree: &Tree) -> Result<Check, NoMemory>
-    ensures { IfOk result (λ c. c ≡ spec.case_check (json tree.now)) }
+    requires held { Holds (taken.by_object taken.by_check (json tree.now)) known.old }
+    ensures value { IfOk result (λ c. c ≡ spec.case_check (json tree.now)) }
+    ensures left { OnOk result (Spends (taken.by_object taken.by_check (json tree.now)) known.old known.new) }
 {
     match tree {
         Tree::Object(members) => check_in(alloc, known, members.items()),
@@ -118,9 +122,11 @@ fn cases<'a>(
     items: &[Tree],
     numbers: &'a [u32],
 ) -> Result<(Vec<(Check, u32)>, &'a [u32]), NoMemory>
-    ensures { let checks = spec.checks_of (items_json items.now) in
+    requires held { Holds (taken.by_each taken.by_check (items_json items.now)) known.old }
+    ensures value { let checks = spec.checks_of (items_json items.now) in
         IfOk result (λ r. (r.0.items ≡ nest.cases_with checks numbers.now)
         × (r.1.now ≡ nest.past checks numbers.now)) }
+    ensures left { OnOk result (Spends (taken.by_each taken.by_check (items_json items.now)) known.old known.new) }
 {
     let mut cases = Vec::new(alloc);
     let mut left = numbers;
@@ -139,9 +145,11 @@ fn choice(
     members: &[(Text, Tree)],
     numbers: &[u32],
 ) -> Result<Step, NoMemory>
-    ensures { let ms = members_json members.now in
+    requires held { Holds (taken.by_step Key.Choice (members_json members.now)) known.old }
+    ensures value { let ms = members_json members.now in
         let frame = nest.chooses (spec.checks_in ms) (is_some (objects.value_at Key.Otherwise ms)) in
         IfOk result (λ s. s ≡ nest.fill frame numbers.now) }
+    ensures left { OnOk result (Spends (taken.by_step Key.Choice (members_json members.now)) known.old known.new) }
 {
     let items = items_at(Key::When, members);
     let (cases, left) = cases(alloc, known, items, numbers)?;
@@ -169,8 +177,10 @@ fn on_when(
     known: &mut Known,
     members: &[(Text, Tree)],
 ) -> Result<Option<Check>, NoMemory>
-    ensures { IfOk result (λ c. c
+    requires held { Holds (taken.by_given_check (leaves.members_at Key.OnWhen (members_json members.now))) known.old }
+    ensures value { IfOk result (λ c. c
         ≡ option_map parts.check_in (leaves.members_at Key.OnWhen (members_json members.now))) }
+    ensures left { OnOk result (Spends (taken.by_given_check (leaves.members_at Key.OnWhen (members_json members.now))) known.old known.new) }
 {
     match members_at(Key::OnWhen, members) {
         None => Ok(None),
@@ -184,7 +194,9 @@ fn catch_in(
     members: &[(Text, Tree)],
     block: u32,
 ) -> Result<Catch, NoMemory>
-    ensures { IfOk result (λ c. c ≡ nest.catch_with (spec.catching_in (members_json members.now)) block) }
+    requires held { Holds (taken.by_catch (members_json members.now)) known.old }
+    ensures value { IfOk result (λ c. c ≡ nest.catch_with (spec.catching_in (members_json members.now)) block) }
+    ensures left { OnOk result (Spends (taken.by_catch (members_json members.now)) known.old known.new) }
 {
     let names = exceptions_at(alloc, members)?;
     let when = on_when(alloc, known, members)?;
@@ -208,7 +220,9 @@ fn catch_of_nothing(alloc: Global, block: u32) -> Catch
 
 /// The catch that an item of `doCatch` says, whose block has this number.
 fn catch_of(alloc: Global, known: &mut Known, tree: &Tree, block: u32) -> Result<Catch, NoMemory>
-    ensures { IfOk result (λ c. c ≡ nest.catch_with (spec.catching_of (json tree.now)) block) }
+    requires held { Holds (taken.by_object taken.by_catch (json tree.now)) known.old }
+    ensures value { IfOk result (λ c. c ≡ nest.catch_with (spec.catching_of (json tree.now)) block) }
+    ensures left { OnOk result (Spends (taken.by_object taken.by_catch (json tree.now)) known.old known.new) }
 {
     match tree {
         Tree::Object(members) => catch_in(alloc, known, members.items(), block),
@@ -229,9 +243,11 @@ fn catches<'a>(
     items: &[Tree],
     numbers: &'a [u32],
 ) -> Result<(Vec<Catch>, &'a [u32]), NoMemory>
-    ensures { let takes = spec.catchings_of (items_json items.now) in
+    requires held { Holds (taken.by_each taken.by_catch (items_json items.now)) known.old }
+    ensures value { let takes = spec.catchings_of (items_json items.now) in
         IfOk result (λ r. (r.0.items ≡ nest.catches_with takes numbers.now)
         × (r.1.now ≡ nest.past takes numbers.now)) }
+    ensures left { OnOk result (Spends (taken.by_each taken.by_catch (items_json items.now)) known.old known.new) }
 {
     let mut catches = Vec::new(alloc);
     let mut left = numbers;
@@ -250,9 +266,11 @@ fn try_step(
     members: &[(Text, Tree)],
     numbers: &[u32],
 ) -> Result<Step, NoMemory>
-    ensures { let ms = members_json members.now in
+    requires held { Holds (taken.by_step Key.DoTry (members_json members.now)) known.old }
+    ensures value { let ms = members_json members.now in
         let frame = nest.tries (spec.catchings_in ms) (is_some (objects.value_at Key.DoFinally ms)) in
         IfOk result (λ s. s ≡ nest.fill frame numbers.now) }
+    ensures left { OnOk result (Spends (taken.by_step Key.DoTry (members_json members.now)) known.old known.new) }
 {
     let items = items_at(Key::DoCatch, members);
     let (catches, left) = catches(alloc, known, items, behind_first(numbers))?;
@@ -271,8 +289,10 @@ fn filter(
     members: &[(Text, Tree)],
     block: u32,
 ) -> Result<Step, NoMemory>
-    ensures { let check = parts.check_in (members_json members.now) in
+    requires held { Holds (taken.by_step Key.Filter (members_json members.now)) known.old }
+    ensures value { let check = parts.check_in (members_json members.now) in
         IfOk result (λ s. s ≡ Step.Filter check block) }
+    ensures left { OnOk result (Spends (taken.by_step Key.Filter (members_json members.now)) known.old known.new) }
 {
     let check = check_in(alloc, known, members)?;
     Ok(Step::Filter { check, block })
@@ -343,8 +363,10 @@ pub fn step_of(
     members: &[(Text, Tree)],
     numbers: Vec<u32>,
 ) -> Result<Step, NoMemory>
-    ensures { let said = spec.said step (members_json members.now) in
+    requires held { Holds (taken.by_step step (members_json members.now)) known.old }
+    ensures value { let said = spec.said step (members_json members.now) in
         IfOk result (λ s. s ≡ spec.with_numbers said numbers.items) }
+    ensures left { OnOk result (Spends (taken.by_step step (members_json members.now)) known.old known.new) }
 {
     let block = first_of(numbers.as_slice());
     match step {

@@ -1,3 +1,5 @@
 pub mod Filled
+pub mod Held
+pub mod Items
 pub mod Walked
 pub mod Validity

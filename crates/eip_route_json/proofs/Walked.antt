@@ -1,13 +1,16 @@
 -- What a walk over a file's places says of the routes that are read.
-use Rattle.std.proofs.Common.{◌≡◌, ℕ, Bool, true, false, cond, List, Option, Some, None, Result, Ok, Err, refl, sym, ap, subst, ◌∙◌, inl, inr, codes}
-use Rattle.eip_text.specs.Json.{json_read}
+use Rattle.std.proofs.Common.{◌≡◌, ℕ, Bool, true, false, cond, List, [], ◌++◌, Option, Some, None, Result, Ok, Err, refl, sym, ap, subst, ◌∙◌, inl, inr, codes}
+use Rattle.eip_text.specs.Json.{Json, json_read}
 use Rattle.eip_route.specs.Valid.{IsValid}
 use Rattle.eip_route.specs.declared.route.Names.{Names}
 use Rattle.eip_route.specs.declared.route.RouteSet.{RouteSet}
 use Rattle.eip_simple_read.specs.Builds.{Told, added, built, Begins}
 use Rattle.eip_simple_read.proofs.Asked.{added_nothing, begins_nothing}
-use Rattle.eip_route_faults.specs.Sites.{Site, first_fault, patterns_at, Builder, Builds, Walks, Starves}
+use Rattle.eip_route_faults.specs.Sites.{Site, first_fault, patterns_at, entries_at, Builder, Builds, Walks, Starves}
 use Rattle.eip_route_faults.proofs.Walking.{refuses_stops}
+use Rattle.eip_route_file.specs.Later.{file_sites}
+use Rattle.eip_route_values.specs.Taken.{Holds, in_file}
+use Rattle.eip_route_validity.proofs.filed.Taken.{file_held}
 use Rattle.eip_route_grammar.specs.declared.fault.Cause.{Cause}
 use Rattle.eip_route_grammar.specs.declared.fault.Cause.TheVariants as cause
 use Rattle.eip_route_grammar.specs.declared.fault.RouteFault.{RouteFault}
@@ -38,6 +41,18 @@ walk_asks_until at f a before after k l h e = walk_asks at f before after k l (s
 pub walk_passes : (at : List Site) (before after : Builder) (k l : List Entry) → Walks at None before k after l → (first_fault at ≡ None) × Builds (patterns_at at) before after
 unfolding Walks
 walk_passes at before after k l h = (h.0, h.1)
+
+-- and what is known then
+walk_keeps : (at : List Site) (before after : Builder) (k l : List Entry) → Walks at None before k after l → (first_fault at ≡ None) × (l ≡ k ++ entries_at at)
+unfolding Walks
+walk_keeps at before after k l h = (h.0, h.2)
+
+-- each predicate that building takes
+pub walk_holds : (n : Names) (t : Json) (a : Option RouteFault) (before after : Builder) (k l : List Entry) → Walks (file_sites n t) a before k after l → a ≡ None → k ≡ [] → Holds (in_file t) l
+walk_holds n t a before after k l h none empty =
+    let w = walk_keeps (file_sites n t) before after k l (subst (λ (x : Option RouteFault). Walks (file_sites n t) x before k after l) none h) in
+    let kept : l ≡ entries_at (file_sites n t) = w.1 ∙ ap (λ (es : List Entry). es ++ entries_at (file_sites n t)) empty in
+    subst (Holds (in_file t)) (sym kept) (file_held n t w.0)
 
 -- and what it asks for
 pub walk_asks_all : (at : List Site) (s : RouteSet) (a : Option RouteFault) (before after : Builder) (k l : List Entry) → Walks at a before k after l → a ≡ None → AsksFor at before.builds after.builds (Ok s)

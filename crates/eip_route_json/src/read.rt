@@ -3,6 +3,7 @@ ghost use Rattle.eip_text.specs.Json.{json};
 ghost use Rattle.eip_route.specs.Nest.{flat_set};
 ghost use Rattle.eip_route_file.specs.Later.{file_sites};
 ghost use Rattle.eip_route_values.specs.Sets.{nest};
+ghost use Rattle.eip_route_values.specs.Taken.{Holds, in_file};
 ghost use Rattle.eip_route_json.specs.Reading.{AsksFor, ReadsAt, Refuses, byte_sites, is_too_long, set_of};
 
 use crate::sets::build_routes;
@@ -93,8 +94,9 @@ fn read_tree<P: Patterns>(
     }
 }
 
-/// The set of a tree that has no fault.
+/// The set of a tree that has no fault, and of which each predicate is known.
 fn built(alloc: Global, tree: &Tree, names: &Names, known: &mut Known) -> Result<RouteSet, NoMemory>
+    requires held { Holds (in_file (json tree.now)) known.old }
     ensures { IfOk result (λ s. s ≡ flat_set names.now (nest (json tree.now))) }
 {
     let names = copied(alloc, names)?;

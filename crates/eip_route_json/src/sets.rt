@@ -1,6 +1,7 @@
-#![tactic(auto, using(eip_text::proofs::Levels::json_levels))]
+#![tactic(auto, using(eip_text::proofs::Levels::json_levels, eip_route_values::proofs::Taking::taking))]
 
-ghost use Rattle.std.specs.Prelude.{◌≡◌, ◌+◌, [], IfOk};
+ghost use Rattle.std.specs.Prelude.{◌≡◌, ◌+◌, [], IfOk, OnOk};
+ghost use Rattle.std.specs.Bool.{OnFalse};
 ghost use Rattle.eip_text.specs.Json.{json, items_json, members_json};
 ghost use Rattle.eip_route.specs.Nest as nest;
 ghost use Rattle.eip_route_grammar.specs.Objects as objects;
@@ -8,6 +9,8 @@ ghost use Rattle.eip_route_values.specs.Built.{AreClauses, AreRoutes, IsRoute, M
 ghost use Rattle.eip_route_values.specs.Leaves as leaves;
 ghost use Rattle.eip_route_values.specs.Nesting.{nest_list, nest_steps};
 ghost use Rattle.eip_route_values.specs.Sets as spec;
+ghost use Rattle.eip_route_values.specs.Taken as taken;
+ghost use Rattle.eip_route_values.specs.Taken.{Holds, Spends};
 
 use eip_exchange::Clause;
 use eip_route::{Block, Handler, Names, Route, RouteSet};
@@ -30,7 +33,8 @@ use std::alloc::Global;
 // ---- clauses for exceptions
 
 fn is_filled(items: &[Tree]) -> bool
-    ensures { result ≡ spec.is_filled (nest_steps (items_json items.now)) }
+    ensures filled { result ≡ spec.is_filled (nest_steps (items_json items.now)) }
+    ensures empty { OnFalse result (taken.in_steps (items_json items.now) ≡ []) }
 {
     match items {
         [] => false,
@@ -45,8 +49,10 @@ fn build_filled(
     known: &mut Known,
     tree: &Tree,
 ) -> Result<Vec<Block>, NoMemory>
-    ensures { IfOk result (λ bs. bs.items
+    requires held { Holds (taken.in_list (json tree.now)) known.old }
+    ensures value { IfOk result (λ bs. bs.items
         ≡ nest.flat_last n (spec.where_filled (nest_list (json tree.now)))) }
+    ensures left { OnOk result (Spends (taken.in_list (json tree.now)) known.old known.new) }
 {
     match tree {
         Tree::List(items) if is_filled(items.items()) => build_list(alloc, n, known, tree),
@@ -67,8 +73,10 @@ fn build_clause_steps(
     known: &mut Known,
     members: &[(Text, Tree)],
 ) -> Result<Vec<Block>, NoMemory>
-    ensures { let steps = spec.clause_steps (objects.value_at Key.Steps (members_json members.now)) in
+    requires held { Holds (taken.in_given (objects.value_at Key.Steps (members_json members.now))) known.old }
+    ensures value { let steps = spec.clause_steps (objects.value_at Key.Steps (members_json members.now)) in
         IfOk result (λ bs. bs.items ≡ nest.flat_last n steps) }
+    ensures left { OnOk result (Spends (taken.in_given (objects.value_at Key.Steps (members_json members.now))) known.old known.new) }
 {
     match value_at(Key::Steps, members) {
         None => Ok(Vec::new(alloc)),
@@ -96,8 +104,10 @@ fn clause_in(
 /// The clauses for exceptions and their blocks, which are numbered from 0 (Camel manual, *Exception
 /// Clause*).
 fn build_clauses(alloc: Global, known: &mut Known, items: &[Tree]) -> Result<BuiltClauses, NoMemory>
-    ensures { IfOk result (λ b. AreClauses b
+    requires held { Holds (taken.in_clauses (items_json items.now)) known.old }
+    ensures value { IfOk result (λ b. AreClauses b
         (nest.flat_clauses 0 (spec.clauses_of (items_json items.now)))) }
+    ensures left { OnOk result (Spends (taken.in_clauses (items_json items.now)) known.old known.new) }
 {
     let mut clauses = Vec::new(alloc);
     let mut blocks = Vec::new(alloc);
@@ -191,8 +201,10 @@ fn build_from_steps(
     known: &mut Known,
     members: &[(Text, Tree)],
 ) -> Result<Vec<Block>, NoMemory>
-    ensures { let steps = spec.steps_given (objects.value_at Key.Steps (members_json members.now)) in
+    requires held { Holds (taken.in_given (objects.value_at Key.Steps (members_json members.now))) known.old }
+    ensures value { let steps = spec.steps_given (objects.value_at Key.Steps (members_json members.now)) in
         IfOk result (λ bs. bs.items ≡ nest.flat_block n steps) }
+    ensures left { OnOk result (Spends (taken.in_given (objects.value_at Key.Steps (members_json members.now))) known.old known.new) }
 {
     match value_at(Key::Steps, members) {
         None => empty_block(alloc),
@@ -206,8 +218,10 @@ fn build_inner_steps(
     known: &mut Known,
     members: &[(Text, Tree)],
 ) -> Result<Vec<Block>, NoMemory>
-    ensures { let from = leaves.members_at Key.From (members_json members.now) in
+    requires held { Holds (taken.in_object (leaves.members_at Key.From (members_json members.now))) known.old }
+    ensures value { let from = leaves.members_at Key.From (members_json members.now) in
         IfOk result (λ bs. bs.items ≡ nest.flat_block n (spec.steps_given (spec.inner_steps from))) }
+    ensures left { OnOk result (Spends (taken.in_object (leaves.members_at Key.From (members_json members.now))) known.old known.new) }
 {
     match members_at(Key::From, members) {
         None => empty_block(alloc),
@@ -222,10 +236,12 @@ fn build_route_steps(
     known: &mut Known,
     members: &[(Text, Tree)],
 ) -> Result<Vec<Block>, NoMemory>
-    ensures { let ms = members_json members.now in
+    requires held { Holds (taken.in_whole_route (members_json members.now)) known.old }
+    ensures value { let ms = members_json members.now in
         let inner = spec.inner_steps (leaves.members_at Key.From ms) in
         let steps = spec.steps_or (objects.value_at Key.Steps ms) inner in
         IfOk result (λ bs. bs.items ≡ nest.flat_block n steps) }
+    ensures left { OnOk result (Spends (taken.in_whole_route (members_json members.now)) known.old known.new) }
 {
     match value_at(Key::Steps, members) {
         None => build_inner_steps(alloc, n, known, members),
@@ -240,8 +256,10 @@ fn build_whole_route(
     known: &mut Known,
     members: &[(Text, Tree)],
 ) -> Result<BuiltRoute, NoMemory>
-    ensures { let x = spec.whole_route position (members_json members.now) in
+    requires held { Holds (taken.in_whole_route (members_json members.now)) known.old }
+    ensures value { let x = spec.whole_route position (members_json members.now) in
         IfOk result (λ b. IsRoute n b x) }
+    ensures left { OnOk result (Spends (taken.in_whole_route (members_json members.now)) known.old known.new) }
 {
     let id = id_in(alloc, position, members)?;
     let from = begins_at(alloc, members)?;
@@ -259,8 +277,10 @@ fn build_from_route(
     known: &mut Known,
     members: &[(Text, Tree)],
 ) -> Result<BuiltRoute, NoMemory>
-    ensures { let x = spec.from_route position (members_json members.now) in
+    requires held { Holds (taken.in_given (objects.value_at Key.Steps (members_json members.now))) known.old }
+    ensures value { let x = spec.from_route position (members_json members.now) in
         IfOk result (λ b. IsRoute n b x) }
+    ensures left { OnOk result (Spends (taken.in_given (objects.value_at Key.Steps (members_json members.now))) known.old known.new) }
 {
     let id = own_id(alloc, position as u64)?;
     let from = endpoint_in(alloc, members)?;
@@ -279,9 +299,13 @@ fn build_route(
     known: &mut Known,
     item: &Tree,
 ) -> Result<Option<BuiltRoute>, NoMemory>
-    ensures { let t = json item.now in
+    requires held { let t = json item.now in
+        Holds (taken.in_route (leaves.members_in Key.Route t) (leaves.members_in Key.From t)) known.old }
+    ensures value { let t = json item.now in
         let x = spec.route_given position (leaves.members_in Key.Route t) (leaves.members_in Key.From t) in
         IfOk result (λ b. MayBeRoute n b x) }
+    ensures left { let t = json item.now in
+        OnOk result (Spends (taken.in_route (leaves.members_in Key.Route t) (leaves.members_in Key.From t)) known.old known.new) }
 {
     if let Some(members) = members_in(Key::Route, item) {
         return Ok(Some(build_whole_route(alloc, n, position, known, members)?));
@@ -299,8 +323,10 @@ fn build_route_items(
     known: &mut Known,
     items: &[Tree],
 ) -> Result<BuiltRoutes, NoMemory>
-    ensures { IfOk result (λ b. AreRoutes b
+    requires held { Holds (taken.in_routes (items_json items.now)) known.old }
+    ensures value { IfOk result (λ b. AreRoutes b
         (nest.flat_routes first (spec.routes_of 1 (items_json items.now)))) }
+    ensures left { OnOk result (Spends (taken.in_routes (items_json items.now)) known.old known.new) }
 {
     let mut routes = Vec::new(alloc);
     let mut blocks = Vec::new(alloc);
@@ -328,7 +354,9 @@ fn build_items(
     names: Names,
     known: &mut Known,
 ) -> Result<RouteSet, NoMemory>
-    ensures { IfOk result (λ s. s ≡ nest.flat_set names (spec.nest_items (items_json items.now))) }
+    requires held { Holds (taken.in_items (items_json items.now)) known.old }
+    ensures value { IfOk result (λ s. s ≡ nest.flat_set names (spec.nest_items (items_json items.now))) }
+    ensures left { OnOk result (Spends (taken.in_items (items_json items.now)) known.old known.new) }
 {
     let BuiltClauses {
         clauses,
@@ -351,14 +379,16 @@ fn build_items(
 }
 
 /// The set of routes that a tree without faults says (Camel manual, *YAML DSL*), where these names
-/// are handed in. Each predicate of the tree is known: it was read, and is taken out here.
+/// are handed in. Each predicate of the tree is known, since it was read, and is taken out here.
 pub fn build_routes(
     alloc: Global,
     tree: &Tree,
     names: Names,
     known: &mut Known,
 ) -> Result<RouteSet, NoMemory>
-    ensures { IfOk result (λ s. spec.Reads (json tree.now) names s) }
+    requires held { Holds (taken.in_file (json tree.now)) known.old }
+    ensures value { IfOk result (λ s. spec.Reads (json tree.now) names s) }
+    ensures left { OnOk result (Spends (taken.in_file (json tree.now)) known.old known.new) }
 {
     match tree {
         Tree::List(items) => build_items(alloc, items.items(), names, known),

@@ -1,6 +1,5 @@
 -- In a set that fits, the split of a batch stands alone in the block of the aggregator that gathers it, and nowhere else.
-use Rattle.std.proofs.Common.{ℕ, ◌+◌, Bool, true, false, ◌||◌, List, [], ◌∷◌, ◌++◌, Option, Some, None, length, ◌≡◌, refl, sym, ap, ◌∙◌, subst, All, append-nil}
-use Rattle.std.specs.Prelude.{slice_get}
+use Rattle.std.proofs.Common.{ℕ, ◌+◌, Bool, true, false, ◌||◌, List, [], ◌∷◌, ◌++◌, Option, length, ◌≡◌, refl, sym, ap, ◌∙◌, subst, All, append-nil}
 use Rattle.std.specs.List.{list_any}
 use Rattle.std.proofs.Math.Bool.{or-false}
 use Rattle.std.proofs.lemmas.List.Elements.{All-nil, All-cons, All-append, All-head, All-tail}

@@ -1,10 +1,10 @@
 -- Steps that fit are good: each step of their numbered blocks passes its test.
-use Rattle.std.proofs.Common.{ℕ, ◌+◌, Bool, true, false, cond, sym, subst, List, [], ◌∷◌, ◌++◌, Option, Some, None, length, ◌≡◌, refl, ◌∙◌, All, arith, le-leb}
+use Rattle.std.proofs.Common.{ℕ, ◌+◌, Bool, true, false, cond, sym, subst, List, [], ◌∷◌, ◌++◌, Option, Some, None, length, ◌≡◌, refl, All, arith, le-leb}
 use Rattle.std.proofs.lemmas.Bool.{and_from, or_left, or_right}
 use Rattle.std.proofs.lemmas.Slice.Eq.{bytes_eq-Decides}
 use Rattle.std.proofs.lemmas.List.Elements.{All-nil, All-cons, All-append, All-head, All-tail}
 use Rattle.eip_exchange.specs.declared.setting.Clause.{Clause}
-use Rattle.eip_route.specs.Nest.{Gathering, Frame, chooses, filters, splits, multicasts, aggregates, runs_once, tries, Catching, NestedStep, NestedSteps, NestedGroups, NestedLast, NestedClause, NestedRoute, leaf, holds, none, more, no_group, group, no_last, last, first_of, rest_of, past, cases_with, catches_with, IsNamed, FrameNamed, fill, held, FlatSteps, headed, with_block, own_repository, repository_of, flat_steps, flat_step, flat_groups, flat_last, flat_block, flat_clauses, flat_routes, number_of}
+use Rattle.eip_route.specs.Nest.{Gathering, Frame, chooses, filters, splits, multicasts, aggregates, runs_once, tries, Catching, NestedStep, NestedSteps, NestedGroups, NestedLast, NestedClause, NestedRoute, leaf, holds, none, more, no_group, group, no_last, last, first_of, rest_of, cases_with, catches_with, IsNamed, FrameNamed, fill, held, FlatSteps, headed, with_block, own_repository, repository_of, flat_steps, flat_step, flat_groups, flat_last, flat_block, flat_clauses, flat_routes, number_of}
 use Rattle.eip_route.specs.Valid.{is_filled, is_aggregate, is_batching, is_batch_strategy, is_given_name, is_repository, are_cases, is_given_check, are_catches, is_step, are_steps, is_route, is_clause}
 use Rattle.eip_route.specs.declared.route.Block.{Block}
 use Rattle.eip_route.specs.declared.route.Names.{Names}
@@ -13,7 +13,7 @@ use Rattle.eip_route.specs.declared.step.Check.{Check}
 use Rattle.eip_route.specs.declared.step.Step.{Step}
 use Rattle.eip_route.specs.declared.step.Step.TheVariants as step
 use Rattle.eip_route_validity.proofs.GoodParts.{good_target, good_source, good_expr, good_check}
-use Rattle.eip_route_validity.specs.Fit.{GatheringFits, BatchingFits, AnyGatheringFits, ChecksFit, MayCheckFit, CatchesFit, LeafFits, FrameFits, FrameHolds, HasGroup, GroupsSuit, StepsFit, StepFits, GroupsFit, LastFits, ClauseFits, RouteFits}
+use Rattle.eip_route_validity.specs.Fit.{GatheringFits, BatchingFits, AnyGatheringFits, ChecksFit, MayCheckFit, CatchesFit, LeafFits, FrameFits, HasGroup, GroupsSuit, StepsFit, StepFits, GroupsFit, LastFits, ClauseFits, RouteFits}
 
 abbrev Good : Names → Block → Type 0
 Good n b = are_steps n b.steps ≡ true

@@ -8,3 +8,4 @@ pub mod Items
 pub mod Listed
 pub mod Apart
 pub mod Whole
+pub mod Taken

@@ -13,3 +13,6 @@ pub mod Batches
 pub mod Batched
 pub mod OneStep
 pub mod Steps
+pub mod Marks
+pub mod KeySites
+pub mod Taken

@@ -3,3 +3,4 @@ pub mod Parts
 pub mod Nesting
 pub mod Sets
 pub mod Built
+pub mod Taken

@@ -1,12 +1,14 @@
 #![tactic(auto, using(eip_text::proofs::Levels::json_levels))]
 
-ghost use Rattle.std.specs.Prelude.{◌≡◌, [], None, IfOk, option_map, unwrap_or};
+ghost use Rattle.std.specs.Prelude.{◌≡◌, [], ◌∷◌, None, IfOk, OnOk, option_map, unwrap_or};
 ghost use Rattle.eip_text.specs.Json.{json, members_json};
 ghost use Rattle.eip_route.specs.Nest.{plain_fan, with_block};
 ghost use Rattle.eip_route_grammar.specs.Objects as objects;
 ghost use Rattle.eip_route_grammar.specs.Texts.{key_of, key_of_part, strategy_of};
 ghost use Rattle.eip_route_values.specs.Leaves as leaves;
 ghost use Rattle.eip_route_values.specs.Parts as spec;
+ghost use Rattle.eip_route_values.specs.Taken as taken;
+ghost use Rattle.eip_route_values.specs.Taken.{Holds, Spends};
 
 use crate::leaves::{
     constant_of, count_at, expression_of, flag_at, members_at, small_count_at, text_at, text_of,
@@ -48,14 +50,15 @@ pub fn template(alloc: Global, text: &str) -> Result<Template, NoMemory>
     }
 }
 
-/// The predicate that a text spells. It was read before; so it is known, and want of memory is
-/// answered where it isn't, which does not happen.
-pub fn predicate(known: &mut Known, text: &str) -> Result<Predicate, NoMemory>
-    ensures { IfOk result (λ p. p ≡ spec.predicate text.now) }
+/// The predicate that a text spells, which is known, since it was read before. It is taken out.
+fn predicate(known: &mut Known, text: &str) -> Predicate
+    requires held { Holds (text.now ∷ []) known.old }
+    ensures value { result ≡ spec.predicate text.now }
+    ensures left { Spends (text.now ∷ []) known.old known.new }
 {
     match known.take(text) {
-        None => Err(NoMemory),
-        Some(predicate) => Ok(predicate),
+        None => unreachable!(),
+        Some(predicate) => predicate,
     }
 }
 
@@ -126,10 +129,12 @@ fn plain_check_in(
     known: &mut Known,
     members: &[(Text, Tree)],
 ) -> Result<Check, NoMemory>
-    ensures { IfOk result (λ c. c ≡ spec.plain_check_in (members_json members.now)) }
+    requires held { Holds (taken.by_plain_check (members_json members.now)) known.old }
+    ensures value { IfOk result (λ c. c ≡ spec.plain_check_in (members_json members.now)) }
+    ensures left { OnOk result (Spends (taken.by_plain_check (members_json members.now)) known.old known.new) }
 {
     if let Some(tree) = value_at(Key::Simple, members) {
-        return Ok(Check::Simple(predicate(known, expression_of(tree))?));
+        return Ok(Check::Simple(predicate(known, expression_of(tree))));
     }
     if let Some(tree) = value_at(Key::Constant, members) {
         return Ok(Check::Fixed(is_fixed(tree)));
@@ -138,13 +143,15 @@ fn plain_check_in(
     Ok(Check::Stored(name))
 }
 
-/// What an object asks of a message (Camel manual, *Predicate*).
+/// What an object asks of a message (Camel manual, *Predicate*). Its predicate is known, and is taken out.
 pub fn check_in(
     alloc: Global,
     known: &mut Known,
     members: &[(Text, Tree)],
 ) -> Result<Check, NoMemory>
-    ensures { IfOk result (λ c. c ≡ spec.check_in (members_json members.now)) }
+    requires held { Holds (taken.by_check (members_json members.now)) known.old }
+    ensures value { IfOk result (λ c. c ≡ spec.check_in (members_json members.now)) }
+    ensures left { OnOk result (Spends (taken.by_check (members_json members.now)) known.old known.new) }
 {
     match members_at(Key::Expression, members) {
         None => plain_check_in(alloc, known, members),
@@ -247,25 +254,27 @@ pub fn repository_in(alloc: Global, members: &[(Text, Tree)]) -> Result<Option<T
     }
 }
 
-fn completion_given(
-    known: &mut Known,
-    members: &[(Text, Tree)],
-) -> Result<Option<Predicate>, NoMemory>
-    ensures { IfOk result (λ p. p
-        ≡ spec.completion_given (objects.value_at Key.Simple (members_json members.now))) }
+fn completion_given(known: &mut Known, members: &[(Text, Tree)]) -> Option<Predicate>
+    requires held { Holds (taken.by_plain_check (members_json members.now)) known.old }
+    ensures value { result ≡ spec.completion_given (objects.value_at Key.Simple (members_json members.now)) }
+    ensures left { Spends (taken.by_plain_check (members_json members.now)) known.old known.new }
 {
     match value_at(Key::Simple, members) {
-        None => Ok(None),
-        Some(tree) => Ok(Some(predicate(known, expression_of(tree))?)),
+        None => None,
+        Some(tree) => Some(predicate(known, expression_of(tree))),
     }
 }
 
-fn completion_in(known: &mut Known, members: &[(Text, Tree)]) -> Result<Option<Predicate>, NoMemory>
-    ensures { IfOk result (λ p. p
-        ≡ spec.completion_of (leaves.members_at Key.CompletionPredicate (members_json members.now))) }
+fn completion_in(known: &mut Known, members: &[(Text, Tree)]) -> Option<Predicate>
+    requires held { let inner = leaves.members_at Key.CompletionPredicate (members_json members.now) in
+        Holds (taken.by_completion inner) known.old }
+    ensures value { let inner = leaves.members_at Key.CompletionPredicate (members_json members.now) in
+        result ≡ spec.completion_of inner }
+    ensures left { let inner = leaves.members_at Key.CompletionPredicate (members_json members.now) in
+        Spends (taken.by_completion inner) known.old known.new }
 {
     match members_at(Key::CompletionPredicate, members) {
-        None => Ok(None),
+        None => None,
         Some(inner) => completion_given(known, inner),
     }
 }
@@ -279,19 +288,21 @@ fn group_strategy(alloc: Global, members: &[(Text, Tree)]) -> Result<Strategy, N
     }
 }
 
-/// The setting of an aggregate whose block has this number.
+/// The setting of an aggregate whose block has this number. Its predicate is known, and is taken out.
 pub fn aggregate_in(
     alloc: Global,
     block: u32,
     known: &mut Known,
     members: &[(Text, Tree)],
 ) -> Result<Aggregate, NoMemory>
-    ensures { IfOk result (λ a. a ≡ with_block (spec.gathering_in (members_json members.now)) block) }
+    requires held { Holds (taken.by_step Key.Aggregate (members_json members.now)) known.old }
+    ensures value { IfOk result (λ a. a ≡ with_block (spec.gathering_in (members_json members.now)) block) }
+    ensures left { OnOk result (Spends (taken.by_step Key.Aggregate (members_json members.now)) known.old known.new) }
 {
     Ok(Aggregate {
         key: expr_at(alloc, Key::CorrelationExpression, members)?,
         strategy: group_strategy(alloc, members)?,
-        predicate: completion_in(known, members)?,
+        predicate: completion_in(known, members),
         size: small_count_at(Key::CompletionSize, members),
         timeout: count_at(Key::CompletionTimeout, members),
         force: flag_at(false, Key::ForceCompletionOnStop, members),

@@ -19,7 +19,8 @@ use std::marker::Model;
 pub struct SharedRun {
     hub: Hub,
     began: usize,
-    /// How many exchanges wait for a call, as far as the looks told.
+    /// How many exchanges wait for a call, as far as the looks told. It decides how early a source is pulled, and no contract speaks
+    /// of it.
     waiting: u32,
 }
 
@@ -87,12 +88,6 @@ impl SharedRun {
     {
         let _ = self.hub.journal();
         &self.hub
-    }
-
-    /// How many exchanges wait for a call. It decides how early a source is pulled, and when an idle worker looks, and no contract
-    /// speaks of it.
-    pub fn waiting(&self) -> u32 {
-        self.waiting
     }
 
     /// Enters what came of a call that a worker made outside the lock. It takes no memory.

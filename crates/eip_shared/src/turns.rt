@@ -13,7 +13,6 @@ use crate::outcome::Outcome;
 use crate::shared::SharedRun;
 use eip_turnstile::{Seat, Turnstile};
 use std::sync::Wait;
-use std::sync::atomic::{AtomicU32, Ordering};
 
 /// Enters in one turn what came of a call that the worker made outside the lock. Whatever others did since the worker took it in hand,
 /// it is still there, so this cannot be refused, and it takes no memory.
@@ -38,12 +37,11 @@ pub fn enter_outcome<R: Wait>(
     lock.leave(held)
 }
 
-/// Looks in one turn what the worker does next, and shows in `waiting` how many exchanges wait for a call then.
+/// Looks in one turn what the worker does next.
 pub fn look<R: Wait>(
     rt: &R,
     lock: &Turnstile<SharedRun>,
     seat: Seat<SharedRun>,
-    waiting: &AtomicU32,
 ) -> (Seat<SharedRun>, Look)
     requires own { lock_of seat ≡ lock_id lock.now }
     requires works { (start : Began) × IsAtWork start (knows seat) }
@@ -56,7 +54,6 @@ pub fn look<R: Wait>(
     let run = held.value();
     let _ = run.hub();
     let what = run.look(worker);
-    waiting.store(run.waiting(), Ordering::SeqCst);
     (lock.leave(held), what)
 }
 
@@ -66,7 +63,6 @@ pub fn enter_and_look<R: Wait>(
     lock: &Turnstile<SharedRun>,
     seat: Seat<SharedRun>,
     outcome: Outcome,
-    waiting: &AtomicU32,
 ) -> (Seat<SharedRun>, Look)
     requires own { lock_of seat ≡ lock_id lock.now }
     requires may { (start : Began) × IsAtWork start (knows seat) × ((from : Origin) × Knows start (knows seat) from outcome) }
@@ -81,6 +77,5 @@ pub fn enter_and_look<R: Wait>(
     let _ = run.hub();
     run.enter(worker, outcome);
     let what = run.look(worker);
-    waiting.store(run.waiting(), Ordering::SeqCst);
     (lock.leave(held), what)
 }

@@ -135,10 +135,20 @@ impl<V: Chronicle> Turnstile<V> {
         unreachable!()
     }
 
+    /// Whether nobody has the turn. By the time that the caller reads it, it may have changed.
+    pub fn is_free(&self) -> bool {
+        self.table.shared.peek(1) == 0
+    }
+
+    /// How many entries there are, those of a turn once it ends. By the time that the caller reads it, there may be more.
+    pub fn length(&self) -> u64 {
+        self.table.shared.peek(0)
+    }
+
     /// Whether the turn comes free within a short while.
     fn comes_free(&self) -> bool {
         for _ in 0..PEEKS {
-            if self.table.shared.peek(1) == 0 {
+            if self.is_free() {
                 return true;
             }
             let_others_work();
@@ -228,6 +238,13 @@ impl<V: Chronicle> Seat<V> {
         ensures { result ≡ (knows self.now).number }
     {
         self.number
+    }
+
+    /// How many entries there are, as far as the seat has seen them.
+    pub fn seen(&self) -> u64
+        ensures { result ≡ length (knows self.now).seen }
+    {
+        self.seen
     }
 }
 

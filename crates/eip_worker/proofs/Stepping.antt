@@ -1,5 +1,5 @@
 -- One step of a worker: a look, the call that it may ask for, and the entry of what came of that.
-use Rattle.std.proofs.Common.{◌≡◌, ℕ, true, List, [], ◌++◌, Option, Some, sym, ap, subst, append-nil}
+use Rattle.std.proofs.Common.{◌≡◌, ℕ, true, List, [], ◌++◌, Option, Some, refl, sym, ap, subst, append-nil}
 use Rattle.eip_exchange.specs.declared.birth.Origin.{Origin}
 use Rattle.eip_frames.specs.Fits.{fits}
 use Rattle.eip_route.specs.declared.route.RouteSet.{RouteSet}
@@ -44,6 +44,11 @@ pub served-turn : {start : Beginning} {u w : View Deed Beginning} {l m : List La
     → ((v : View Deed Beginning) → IsAtWork start v → Turned u v ds → Served start u v l m i j registry)
     → Served start u w l m i j registry × Stands start w what
 served-turn what turn after enters = (served-trans (enters turn.0 turn.2 turn.1) (served-look what after turn.3), turn.3.3)
+
+-- nothing was looked at
+pub saw-nothing : (start : Beginning) (v : View Deed Beginning) → Saw start v v look.Did
+saw-nothing start v =
+    ([], record { mine = sym (append-nil v.mine); seen = ([], sym (append-nil v.seen)); number = refl; base = refl; made = refl; olds = refl }, tt, tt, refl)
 
 -- one step behind others
 pub served-on : {start : Beginning} {u v w : View Deed Beginning} {sources : RouteSet} {l m n : List LaneView} {i j k : List InletView} {registry : RegistryView} (what next : Look)

@@ -3,6 +3,7 @@
 
 mod calls;
 mod gate;
+mod pace;
 mod serving;
 mod worker;
 

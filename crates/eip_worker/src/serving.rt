@@ -1,86 +1,61 @@
-ghost use Rattle.std.specs.Prelude.{◌≡◌};
+ghost use Rattle.std.specs.Prelude.{◌≡◌, [], ◌∷◌};
+ghost use Rattle.eip_exchange.specs.declared.birth.Origin.{Origin};
 ghost use Rattle.eip_endpoint.specs.Inlets.{inlet_views};
 ghost use Rattle.eip_endpoint.specs.Lanes.{lane_views};
 ghost use Rattle.eip_turnstile.specs.Seats.{lock_id, lock_of, knows};
+ghost use Rattle.eip_turnstile.specs.declared.view.View.{View};
 ghost use Rattle.eip_shared.specs.declared.beginning.Beginning.{Beginning as Began};
+ghost use Rattle.eip_shared.specs.declared.deed.Deed.{Deed};
+ghost use Rattle.eip_shared.specs.Looks.{Saw};
+ghost use Rattle.eip_shared.specs.Shared.{deed_of};
+ghost use Rattle.eip_shared.specs.Turns.{IsAtWork, Knows, Turned};
 ghost use Rattle.eip_worker.specs.Serves.{IsReady, Served, Stands};
 ghost use Rattle.eip_worker.specs.Seats.{MaySit, Sat};
 
 use crate::calls::{call, pull};
 use crate::gate::Gate;
+use crate::pace::Pace;
 use crate::worker::{Round, Worker};
 use eip_endpoint::{Endpoint, Source};
 use eip_processor::Registered;
-use eip_shared::{Look, SharedRun, enter_and_look, look};
+use eip_shared::{Look, Outcome, SharedRun, enter_and_look, enter_outcome, look};
 use eip_turnstile::Seat;
 use std::sync::Wait;
 use std::sync::atomic::Ordering;
-use std::thread::{Parker, yield_now};
-use std::time::Duration;
-
-/// So often a worker that found nothing to do looks at once whether somebody waits for a call, before it sleeps.
-const GLANCES: u32 = 100;
-
-/// How long it sleeps then, in microseconds, before it looks for that again.
-const PAUSE: u64 = 50;
-
-/// Behind so many sleeps it looks at the run in any case.
-const PAUSES: u32 = 8;
-
-/// Behind so many looks in a row that found nothing to do, a worker ends its round if another one is not at work: where that one could
-/// not be started, the caller does its work behind the others, which must not wait for it for ever.
-const LOOKS_WITHOUT_ALL: u32 = 200;
-
-impl<R, G> Round<'_, R, G> {
-    /// Whether a worker looks again, behind so many looks in a row that found nothing to do.
-    fn goes_on(&self, fruitless: u32) -> bool {
-        fruitless < LOOKS_WITHOUT_ALL || self.present.load(Ordering::SeqCst) >= self.workers
-    }
-
-    /// So many looks in a row found nothing to do, behind one that told this, where so many did before. `None` where the worker is at its
-    /// end: the run has stopped, there was no memory, or there was nothing to do for long while not all are at work.
-    fn fruitless_behind(&self, what: &Look, fruitless: u32) -> Option<u32> {
-        match what {
-            Look::Did | Look::Call { .. } | Look::Pull(_) => Some(0),
-            Look::Nothing if self.goes_on(fruitless) => Some(fruitless.saturating_add(1)),
-            Look::Nothing | Look::NoMemory | Look::Stopped => None,
-        }
-    }
-
-    /// Whether somebody waits for a call, now or soon. It takes no turn.
-    fn is_wanted(&self) -> bool {
-        for _ in 0..GLANCES {
-            if self.waiting.load(Ordering::SeqCst) > 0 {
-                return true;
-            }
-            yield_now();
-        }
-        false
-    }
-
-    /// Where the last looks found nothing to do, lets others work until somebody waits for a call, or for a short while.
-    fn rest<W: Wait>(&self, rt: &W, parker: &Parker, fruitless: u32) {
-        if fruitless == 0 {
-            return;
-        }
-        for _ in 0..PAUSES {
-            if self.is_wanted() {
-                return;
-            }
-            parker.park_timeout(rt, Duration::from_micros(PAUSE));
-        }
-    }
-}
+use std::thread::Parker;
 
 /// A seat, and what the last look from it told.
 type Standing = (Seat<SharedRun>, Look);
 
+/// Enters in a turn what came of a call, and looks in the same turn what the worker does next, unless it makes way for others.
+fn enter<R, G, W: Wait>(
+    rt: &W,
+    round: &Round<'_, R, G>,
+    seat: Seat<SharedRun>,
+    outcome: Outcome,
+    makes_way: bool,
+) -> Standing
+    requires own { lock_of seat ≡ lock_id round.now.lock.now }
+    requires may { (start : Began) × IsAtWork start (knows seat) × ((from : Origin) × Knows start (knows seat) from outcome) }
+    ensures own { lock_of result.0 ≡ lock_of seat }
+    ensures saw { (start : Began) (from : Origin) → IsAtWork start (knows seat) → Knows start (knows seat) from outcome
+        → (behind : View Deed Began) × Turned (knows seat) behind (deed_of from outcome ∷ []) × IsAtWork start behind × Saw start behind (knows result.0) result.1 }
+    ensures works { (start : Began) → IsAtWork start (knows seat) → IsAtWork start (knows result.0) }
+{
+    if makes_way {
+        return (enter_outcome(rt, round.lock, seat, outcome), Look::Did);
+    }
+    enter_and_look(rt, round.lock, seat, outcome)
+}
+
 /// Makes the call outside the lock that the last look asked for, if it asked for one, enters in a turn what came of it, and looks in the
-/// same turn what the worker does next. Where there was no memory for a pull, that stays out, and the worker is at its end.
+/// same turn what the worker does next, unless it makes way for others. Where there was no memory for a pull, that stays out, and the
+/// worker is at its end.
 fn make_step<E: Endpoint, S: Source, R: Registered, G: Gate, W: Wait>(
     rt: &W,
     round: &Round<'_, R, G>,
     at: Standing,
+    pace: &mut Pace,
     worker: &mut Worker<E, S>,
 ) -> Standing
     requires own { lock_of at.0 ≡ lock_id round.now.lock.now }
@@ -106,10 +81,13 @@ fn make_step<E: Endpoint, S: Source, R: Registered, G: Gate, W: Wait>(
             told,
         )),
         Look::Pull(source) => pull(&worker.sources, &mut worker.inlets, source),
-        _ => return look(rt, round.lock, seat, round.waiting),
+        _ => return look(rt, round.lock, seat),
     };
     match outcome {
-        Some(outcome) => enter_and_look(rt, round.lock, seat, outcome, round.waiting),
+        Some(outcome) => {
+            let makes_way = pace.meets(round.lock.is_free());
+            enter(rt, round, seat, outcome, makes_way)
+        }
         None => (seat, Look::NoMemory),
     }
 }
@@ -127,7 +105,7 @@ fn end_of<E, S>(at: Standing, worker: &mut Worker<E, S>) -> Seat<SharedRun>
 }
 
 /// Takes turns and makes calls until the run stops, or there was no memory, or there was nothing to do for long while not all are at
-/// work. Whoever finds nothing to do lets others work.
+/// work. Whoever finds nothing to do, or others in its way, lets them work.
 fn work<E: Endpoint, S: Source, R: Registered, G: Gate, W: Wait>(
     rt: &W,
     round: &Round<'_, R, G>,
@@ -144,16 +122,15 @@ fn work<E: Endpoint, S: Source, R: Registered, G: Gate, W: Wait>(
         (inlet_views S.Source worker.old.inlets.items) (inlet_views S.Source worker.new.inlets.items) (R.view round.now.registry.now) }
     ensures seat { worker.new.seat ≡ worker.old.seat }
 {
-    let mut at = look(rt, round.lock, seat, round.waiting);
-    let mut fruitless: u32 = 0;
+    let mut at = look(rt, round.lock, seat);
+    let mut pace = Pace::new();
     let parker = Parker::new();
     for _ in rt.forever() {
-        let Some(count) = round.fruitless_behind(&at.1, fruitless) else {
+        if !round.goes_on(&at.1, &mut pace) {
             return end_of(at, worker);
-        };
-        fruitless = count;
-        round.rest(rt, &parker, fruitless);
-        at = make_step(rt, round, at, worker);
+        }
+        round.rest(rt, &parker, &mut pace, &at.0);
+        at = make_step(rt, round, at, &mut pace, worker);
     }
     unreachable!()
 }

@@ -15,14 +15,12 @@ pub struct Worker<E, S> {
     pub lacks_memory: bool,
 }
 
-/// What all workers of a round share: the run, what is called by name, the gate, how many of the workers are at work, and how many
-/// exchanges waited for a call when the last turn ended.
+/// What all workers of a round share: the run, what is called by name, the gate, and how many of the workers are at work.
 #[derive(Drop)]
 pub struct Round<'a, R, G> {
     pub lock: &'a Turnstile<SharedRun>,
     pub registry: &'a R,
     pub gate: &'a G,
     pub present: &'a AtomicU32,
-    pub waiting: &'a AtomicU32,
     pub workers: u32,
 }

@@ -1,11 +1,11 @@
 -- In the steps that a file says, a batch's split stands in the block of its aggregator, and nowhere else.
-use Rattle.std.proofs.Common.{◌≡◌, Bool, true, false, not, cond, ◌||◌, List, [], ◌∷◌, Option, Some, None, refl, sym, ap, subst}
+use Rattle.std.proofs.Common.{◌≡◌, Bool, true, false, not, ◌||◌, List, [], ◌∷◌, Option, Some, None, refl, sym, ap, subst}
 use Rattle.std.specs.Prelude.{unwrap_or}
 use Rattle.std.proofs.lemmas.Bool.{cond_both}
 use Rattle.eip_text.specs.Json.{Json, list, object, word, Items, no_items, item, Members, no_members, member}
 use Rattle.eip_exchange.specs.declared.setting.Strategy.{Strategy}
 use Rattle.eip_exchange.specs.declared.setting.Strategy.TheVariants as strategy
-use Rattle.eip_route.specs.Nest.{NestedSteps, NestedGroups, splits, no_group, group, none}
+use Rattle.eip_route.specs.Nest.{NestedGroups, splits, no_group, group}
 use Rattle.eip_route.specs.Valid.{is_batch_strategy, is_fan_strategy}
 use Rattle.eip_route.specs.declared.step.Fan.{Fan}
 use Rattle.eip_route_grammar.specs.Keys.{is_spelled}

@@ -27,7 +27,6 @@ use Rattle.eip_route_grammar.specs.declared.table.Kind.TheVariants as kind
 use Rattle.eip_route_grammar.specs.declared.table.Row.TheVariants as row
 use Rattle.eip_route_grammar.specs.declared.table.Rule.TheVariants as rule
 use Rattle.eip_route_values.specs.Leaves.{members_given, expression_of, small_count_at, count_at}
-use Rattle.eip_route_values.specs.Parts as parts
 use Rattle.eip_route_values.specs.Parts.{template_or_empty, order_key_given, order_key_in, batch_size, batch_timeout, batching_in}
 use Rattle.eip_route_validity.specs.Fit.{BatchingFits, StepsFit, StepFits}
 use Rattle.eip_route_validity.proofs.fitting.Faultless.{ObjectFits}

@@ -42,11 +42,11 @@ template_told : (w : List ℕ) → template_of w ≡ Err fault.NoMemory → ⊥
 unfolding template_of
 template_told w e = answer_told (length w) _ (template 0 0 w) e
 
-predicate_told : (w : List ℕ) → predicate_of w ≡ Err fault.NoMemory → ⊥
+pub predicate_told : (w : List ℕ) → predicate_of w ≡ Err fault.NoMemory → ⊥
 unfolding predicate_of
 predicate_told w e = answer_told (length w) _ (all_tests None w) e
 
-no_cause : (e : SimpleFault) → simple_cause e ≡ None → e ≡ fault.NoMemory
+pub no_cause : (e : SimpleFault) → simple_cause e ≡ None → e ≡ fault.NoMemory
 no_cause (fault.BadSimple at) h = absurd cc
 no_cause (fault.UnknownFunction at) h = absurd cc
 no_cause (fault.BadPattern at) h = absurd cc

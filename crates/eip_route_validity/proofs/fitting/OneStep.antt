@@ -1,5 +1,5 @@
 -- A step with which nothing is wrong fits, where the steps that it holds do.
-use Rattle.std.proofs.Common.{ℕ, ◌≡◌, ◌+◌, ◌<◌, Bool, true, false, cond, ◌&&◌, List, [], Option, Some, None, is_some, option_map, length, refl, sym, ap, ◌∙◌, subst, arith, le-leb}
+use Rattle.std.proofs.Common.{ℕ, ◌≡◌, ◌+◌, ◌<◌, Bool, true, false, cond, List, [], Option, Some, None, is_some, option_map, length, refl, ap, ◌∙◌, subst, arith, le-leb}
 use Rattle.std.proofs.lemmas.Bool.{and_from}
 use Rattle.eip_text.specs.Json.{Json, null, flag, whole, float, word, list, object, Items, no_items, item, Members, no_members, member}
 use Rattle.eip_text.specs.Names.{is_name}
@@ -29,12 +29,12 @@ use Rattle.eip_route_validity.specs.Fit.{TemplateFits, Registered, ChecksFit, Ch
 use Rattle.eip_route_values.specs.Leaves.{text_given, members_given, exceptions_given}
 use Rattle.eip_route_values.specs.Nesting.{said, text_said, with_groups, followed, at_places, nest_at, case_check, checks_of, items_given, checks_in, catching_in, catching_of, catchings_of, catchings_in, nest_in, nest_branches_in, nest_each_in, nest_each_list, nest_each, nest_one_in, nest_inner, places}
 use Rattle.eip_route_values.specs.Parts.{template, check_in, fan_in, how_given, gathering_in, batch_size, batch_timeout, order_key_in}
-use Rattle.eip_route_validity.proofs.fitting.Faultless.{IsFaultless, WordFits, ObjectFits, fits, first_item}
+use Rattle.eip_route_validity.proofs.fitting.Faultless.{IsFaultless, WordFits, ObjectFits, first_item}
 use Rattle.eip_route_validity.proofs.fitting.Keyed.{HasRow, value_fits, with_must, with_may}
 use Rattle.eip_route_validity.proofs.fitting.Values.{IsTextRule, IsForObjects, with_object, for_case, for_nested, for_catch, for_when, IsForLists, with_list, with_text_or_object}
-use Rattle.eip_route_validity.proofs.fitting.Tables.{value_values, named_values, recipients_values, idempotent_values, case_checks, when_checks}
+use Rattle.eip_route_validity.proofs.fitting.Tables.{value_values, case_checks, when_checks}
 use Rattle.eip_route_validity.proofs.fitting.StepTables as tables
-use Rattle.eip_route_validity.proofs.fitting.StepTables.{step_kind, IsStepKey}
+use Rattle.eip_route_validity.proofs.fitting.StepTables.{step_kind, IsStepKey, named_values, recipients_values, idempotent_values}
 use Rattle.eip_route_validity.proofs.fitting.Endpoints.{target_fits}
 use Rattle.eip_route_validity.proofs.fitting.Leaves.{template_word, template_leaf, name_word, name_leaf, given_name, given_repository, exceptions_filled, registered_word, processor_leaf, thrown_leaf, given_delimiter}
 use Rattle.eip_route_validity.proofs.fitting.Parts.{how_fits, fan_fits, expr_fits, check_fits, target_in}

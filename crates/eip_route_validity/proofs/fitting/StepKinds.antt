@@ -1,10 +1,10 @@
 -- The key of a step's object says what its value is to be.
-use Rattle.std.proofs.Common.{ℕ, ◌≡◌, List, [], ◌∷◌, Option, Some, None, is_some, option_map, ap, subst}
+use Rattle.std.proofs.Common.{ℕ, ◌≡◌, List, [], ◌∷◌, Option, Some, None, is_some, option_map, ap, ◌∙◌, subst}
 use Rattle.eip_text.specs.Json.{Json, no_members, member}
 use Rattle.eip_route.specs.declared.route.Names.{Names}
 use Rattle.eip_route_grammar.specs.Keys.{is_spelled}
 use Rattle.eip_route_grammar.specs.Table.{rows, row_for, key_in}
-use Rattle.eip_route_grammar.specs.Objects.{known_one, value_kind_in, pairs_in, parameters_of}
+use Rattle.eip_route_grammar.specs.Objects.{known_one, value_kind, value_kind_in, pairs_in, parameters_of}
 use Rattle.eip_route_faults.specs.Sites.{members_sites, first_fault}
 use Rattle.eip_route_grammar.specs.declared.fault.Cause.{Cause}
 use Rattle.eip_route_grammar.specs.declared.keys.Key.{Key}
@@ -25,6 +25,7 @@ found_row k (s ∷ rs) r h e = row_cases (is_spelled (key_in s) k) s r (row_for 
 pub record StepIs (n : Names) (d : ℕ) (k : List ℕ) (t : Json) : Type 0 where
   pub step : Key
   pub is : step_key k ≡ Some step
+  pub by_key : value_kind kind.Step k ≡ step_kind step
   pub known : IsStepKey step
   pub alone : parameters_of (member k t no_members) ≡ []
   pub faultless : IsFaultless n d (parameters_of (member k t no_members)) (step_kind step) t
@@ -38,6 +39,7 @@ step_is n d k t c o e =
     record {
       step = key_in r.0;
       is = ap (option_map key_in) r.1;
+      by_key = ap value_kind_in r.1 ∙ s.0;
       known = s.1;
       alone = ap pairs_in (absent_known kind.Step key.Parameters (member k t no_members) step_parameters (ap is_some r.1, tt));
       faultless =

@@ -10,6 +10,7 @@ use Rattle.eip_route_grammar.specs.declared.table.Row.{Row}
 use Rattle.eip_route_grammar.specs.declared.table.Row.TheVariants as row
 use Rattle.eip_route_grammar.specs.declared.table.Rule.TheVariants as rule
 use Rattle.eip_route_validity.proofs.fitting.Keyed.{HasRow, Lacks}
+use Rattle.eip_route_validity.proofs.fitting.Tables.{HasPlainValues, HasValues}
 
 -- ---- the kinds of steps
 
@@ -272,3 +273,29 @@ order_property = (refl, refl)
 pub order_text : HasRow kind.OrderKey (row.Must key.Expression (kind.Leaf rule.OrderKey))
 unfolding spelled dashed is_spelled rows
 order_text = (refl, refl)
+
+-- ---- expressions among the keys of a step
+
+plain_of_named : HasPlainValues kind.NamedValue
+unfolding spelled dashed is_spelled rows
+plain_of_named = record { simple = (refl, refl); constant = (refl, refl); header = (refl, refl); property = (refl, refl) }
+
+pub named_values : HasValues kind.NamedValue
+unfolding spelled dashed is_spelled rows
+named_values = record { plain = plain_of_named; expression = (refl, refl); one = λ ms. refl }
+
+plain_of_recipients : HasPlainValues kind.RecipientList
+unfolding spelled dashed is_spelled rows
+plain_of_recipients = record { simple = (refl, refl); constant = (refl, refl); header = (refl, refl); property = (refl, refl) }
+
+pub recipients_values : HasValues kind.RecipientList
+unfolding spelled dashed is_spelled rows
+recipients_values = record { plain = plain_of_recipients; expression = (refl, refl); one = λ ms. refl }
+
+plain_of_idempotent : HasPlainValues kind.IdempotentConsumer
+unfolding spelled dashed is_spelled rows
+plain_of_idempotent = record { simple = (refl, refl); constant = (refl, refl); header = (refl, refl); property = (refl, refl) }
+
+pub idempotent_values : HasValues kind.IdempotentConsumer
+unfolding spelled dashed is_spelled rows
+idempotent_values = record { plain = plain_of_idempotent; expression = (refl, refl); one = λ ms. refl }

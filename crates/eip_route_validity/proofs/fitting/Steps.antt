@@ -4,7 +4,7 @@ use Rattle.std.specs.Prelude.{nat_le}
 use Rattle.std.proofs.lemmas.Bool.{cond_both, true≢false}
 use Rattle.eip_text.specs.Json.{Json, null, flag, whole, float, word, list, object, Items, no_items, item, Members, no_members, member}
 use Rattle.eip_route.specs.declared.route.Names.{Names}
-use Rattle.eip_route.specs.Nest.{NestedGroups, no_group, group}
+use Rattle.eip_route.specs.Nest.{no_group, group}
 use Rattle.eip_route_grammar.specs.Keys.{is_spelled}
 use Rattle.eip_route_grammar.specs.Table.{rows, key_in, kind_in, rule_of, list_of, shape_of, listing}
 use Rattle.eip_route_grammar.specs.Objects.{own_keys, keys_of, value_at, value_kind_in, parameters_of}
@@ -24,7 +24,6 @@ use Rattle.eip_route_values.specs.Nesting.{nest_list, nest_steps, nest_step, nes
 use Rattle.eip_route_validity.proofs.fitting.Faultless.{IsFaultless, fits, first_item, first_member, object_fits}
 use Rattle.eip_route_validity.proofs.fitting.Keyed.{HasRow, row_of_key, must_be_there}
 use Rattle.eip_route_validity.proofs.fitting.Values.{IsForObjects, with_object, IsForLists, with_list}
-use Rattle.eip_route_validity.proofs.fitting.StepTables as tables
 use Rattle.eip_route_validity.proofs.fitting.StepTables.{step_kind, IsStepKey}
 use Rattle.eip_route_validity.proofs.fitting.StepKinds.{step_is}
 use Rattle.eip_route_validity.proofs.fitting.OneStep.{IsHolder, AreHolders, step_keyed, step_value, text_step_fits, object_step_fits}

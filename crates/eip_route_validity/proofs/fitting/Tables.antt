@@ -49,30 +49,6 @@ pub value_values : HasValues kind.Value
 unfolding spelled dashed is_spelled rows
 value_values = record { plain = plain_of_value; expression = (refl, refl); one = λ ms. refl }
 
-plain_of_named : HasPlainValues kind.NamedValue
-unfolding spelled dashed is_spelled rows
-plain_of_named = record { simple = (refl, refl); constant = (refl, refl); header = (refl, refl); property = (refl, refl) }
-
-pub named_values : HasValues kind.NamedValue
-unfolding spelled dashed is_spelled rows
-named_values = record { plain = plain_of_named; expression = (refl, refl); one = λ ms. refl }
-
-plain_of_recipients : HasPlainValues kind.RecipientList
-unfolding spelled dashed is_spelled rows
-plain_of_recipients = record { simple = (refl, refl); constant = (refl, refl); header = (refl, refl); property = (refl, refl) }
-
-pub recipients_values : HasValues kind.RecipientList
-unfolding spelled dashed is_spelled rows
-recipients_values = record { plain = plain_of_recipients; expression = (refl, refl); one = λ ms. refl }
-
-plain_of_idempotent : HasPlainValues kind.IdempotentConsumer
-unfolding spelled dashed is_spelled rows
-plain_of_idempotent = record { simple = (refl, refl); constant = (refl, refl); header = (refl, refl); property = (refl, refl) }
-
-pub idempotent_values : HasValues kind.IdempotentConsumer
-unfolding spelled dashed is_spelled rows
-idempotent_values = record { plain = plain_of_idempotent; expression = (refl, refl); one = λ ms. refl }
-
 -- ---- checks
 
 abbrev pub is_plain_check : Members → Bool

@@ -3,8 +3,11 @@ use Rattle.std.proofs.lemmas.Result.{err_from_is_err_and}
 use Rattle.eip_route_faults.proofs.Walking.{starves_walked}
 use Rattle.eip_route_validity.proofs.filed.Whole.{file_fits}
 use Rattle.eip_route_validity.proofs.ValidSets.{fits_valid}
-use Rattle.eip_route_json.proofs.Walked.{walk_tells, walk_asks_until, walk_reads, walk_asks_all, reading_ended, asking_ended}
+use Rattle.eip_route_json.proofs.Walked.{walk_tells, walk_holds, walk_asks_until, walk_reads, walk_asks_all, reading_ended, asking_ended}
 use Rattle.eip_route_json.proofs.read.read_tree.Goals as goal
+
+pub built-requires : goal.built-requires
+built-requires g c = record { held = walk_holds _ _ c.in_ok-found.found _ _ _ _ c.in_ok-found.ensures.finds c.in-None.is c.new-known.ensures }
 
 pub returns-in-Some : goal.returns-in-Some
 returns-in-Some g c = record {

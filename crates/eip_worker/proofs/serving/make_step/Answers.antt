@@ -1,6 +1,8 @@
+use denote.Param.Send.{sendable}
 use Rattle.std.proofs.Common.{◌≡◌, sym, ◌∙◌}
 use Rattle.eip_exchange.specs.declared.birth.Origin.TheVariants.{Group}
 use Rattle.eip_turnstile.specs.Seats.{knows}
+use Rattle.eip_shared.proofs.Sending.{run-send}
 use Rattle.eip_worker.proofs.Following.{served-call, served-pull}
 use Rattle.eip_worker.proofs.Stepping.{served-look, served-turn, call-askable, call-known, pull-inlet, pull-known, served-unpulled}
 use Rattle.eip_worker.proofs.serving.make_step.Goals as goal
@@ -20,8 +22,11 @@ pull-outcome-requires-after_bounds g c κs within =
     let ready = c.requires.ready in
     pull-inlet ready.0 (knows c.args.at.0) _ _ _ _ _ ready.1 (rw c.in-Pull.is at ready.2)
 
-pub enter_and_look-requires-clause-may : goal.enter_and_look-requires-clause-may
-enter_and_look-requires-clause-may g c =
+pub is_free-requires-send-V : goal.is_free-requires-send-V
+is_free-requires-send-V g c κs = search (run-send, sendable) depth 12
+
+pub enter-requires-clause-may : goal.enter-requires-clause-may
+enter-requires-clause-may g c =
     let start = c.requires.ready.0 in
     let ready = c.requires.ready.1 in
     let seat = knows c.args.at.0 in
@@ -49,7 +54,7 @@ pub returns-in-Some-clause-served : goal.returns-in-Some-clause-served
 returns-in-Some-clause-served g c start ready stands =
     let seat = knows c.args.at.0 in
     let sources = c.args.worker.now.sources in
-    let after = c.enter_and_look.ensures.works start ready.works in
+    let after = c.enter.ensures.works start ready.works in
     elim c.match-what.branch [
       | in-Call w ↦
           let took = rw w.in-Call.is at stands in
@@ -57,14 +62,14 @@ returns-in-Some-clause-served g c start ready stands =
           let is : w.call.result ≡ c.in-Some.outcome = cc some in
           let called = rw is at w.call.ensures took.from took.told (call-askable start seat _ _ _ _ w.in-Call.ticket w.in-Call.told ready took) in
           let known = call-known start seat sources _ _ _ _ _ w.in-Call.ticket w.in-Call.told c.in-Some.outcome took called in
-          rw w.worker-is (served-turn c.enter_and_look.result.1 (c.enter_and_look.ensures.saw start took.from ready.works known) after
+          rw w.worker-is (served-turn c.enter.result.1 (c.enter.ensures.saw start took.from ready.works known) after
           (λ v works turned. served-call sources took.from w.in-Call.ticket c.in-Some.outcome ready.routes works called turned))
       | in-Pull w ↦
           let pulled = rw w.in-Pull.is at stands in
           let is = sym w.outcome-is ∙ c.in-Some.is in
           let came = rw is at w.pull-outcome.ensures.came in
           let known = pull-known start seat sources _ _ (Group 0) w.in-Pull.source c.in-Some.outcome pulled came in
-          rw w.worker-is (served-turn c.enter_and_look.result.1 (c.enter_and_look.ensures.saw start (Group 0) ready.works known) after
+          rw w.worker-is (served-turn c.enter.result.1 (c.enter.ensures.saw start (Group 0) ready.works known) after
           (λ v works turned. served-pull sources (Group 0) w.in-Pull.source c.in-Some.outcome ready.routes works came turned))
     ]
 
