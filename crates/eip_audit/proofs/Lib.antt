@@ -4,3 +4,4 @@ pub mod Hands
 pub mod Judged
 pub mod OwnEntries
 pub mod SourceStates
+pub mod Walk

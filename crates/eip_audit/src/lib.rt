@@ -3,10 +3,12 @@
 
 pub mod answers;
 pub mod auditor;
+pub mod dumped;
 pub mod exchanges;
 pub mod moments;
 pub mod sources;
 pub mod whole;
 
+pub use dumped::audit_dump;
 pub use eip_verdict::Verdict;
 pub use whole::audit;

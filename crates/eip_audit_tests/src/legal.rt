@@ -1,5 +1,5 @@
 use crate::routes::{GROUPED, JOINED, KEYED, LOGGING, QUEUED, RETRYING};
-use crate::support::{Outcome, outcome_of};
+use crate::support::{Outcome, comes_to};
 use eip_audit::Verdict;
 use std::test::*;
 
@@ -76,11 +76,9 @@ const LEGAL: [(&str, &str, u64); 13] = [
 #[test]
 fn a_legal_journal_is_legal(rt: HostRuntime) -> Result<(), Fail> {
     for (routes, journal, entries) in &LEGAL {
-        let told = outcome_of(rt.alloc(), routes, journal)?;
-        assert!(rt;
-            told == Outcome::Audited(Verdict::Legal(*entries)),
-            "{journal}"
-        );
+        let legal = Outcome::Audited(Verdict::Legal(*entries));
+        let told = comes_to(rt.alloc(), routes, journal, legal)?;
+        assert!(rt; told, "{journal}");
     }
     Ok(())
 }

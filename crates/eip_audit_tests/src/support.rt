@@ -1,6 +1,6 @@
 ghost use Rattle.std.specs.Prelude.{◌≤◌, ◌↔◌, IsTrue, length};
 
-use eip_audit::{Verdict, audit};
+use eip_audit::{Verdict, audit, audit_dump};
 use eip_dump::{DumpFault, read_dump};
 use eip_route::{Names, RouteSet};
 use eip_route_json::{RouteRefusal, read_routes};
@@ -13,8 +13,10 @@ use std::alloc::Global;
 #[derive(Clone, Copy, Debug, PartialEq, Eq)]
 pub enum Outcome {
     Audited(Verdict),
-    /// The route file is refused, or the dump.
-    Unread,
+    /// The route file is refused.
+    NoRoutes,
+    /// The first bad line of the dump.
+    BadDump(u64),
 }
 
 fn names(alloc: Global) -> Result<Names, NoMemory> {
@@ -24,6 +26,13 @@ fn names(alloc: Global) -> Result<Names, NoMemory> {
         processors: Series::of(Vec::new(alloc)),
         predicates: Series::of(Vec::new(alloc)),
     })
+}
+
+/// Whether a set has as many routes as a set may have.
+fn is_within(set: &RouteSet) -> bool
+    ensures { IsTrue result ↔ length set.now.routes ≤ 256 }
+{
+    set.routes.items().len() <= 256
 }
 
 fn set_of(alloc: Global, file: &str) -> Result<Option<RouteSet>, NoMemory> {
@@ -39,30 +48,50 @@ fn set_of(alloc: Global, file: &str) -> Result<Option<RouteSet>, NoMemory> {
     }
 }
 
-/// Whether a set has as many routes as a set may have.
-fn is_within(set: &RouteSet) -> bool
-    ensures { IsTrue result ↔ length set.now.routes ≤ 256 }
-{
-    set.routes.items().len() <= 256
+/// Who reads a dump, and judges its entries.
+#[derive(Clone, Copy)]
+enum Auditing {
+    /// The journal is read, and then audited.
+    Journal,
+    /// Each entry is judged as its line is read.
+    Lines,
 }
 
-/// The verdict on a dump for the routes of a file.
-pub fn outcome_of(alloc: Global, file: &str, dump: &str) -> Result<Outcome, NoMemory> {
-    let Some(set) = set_of(alloc, file)? else {
-        return Ok(Outcome::Unread);
-    };
-    if !is_within(&set) {
-        drop(set);
-        return Ok(Outcome::Unread);
-    }
-    match read_dump(alloc, dump.as_bytes()) {
-        Ok(journal) => Ok(Outcome::Audited(audit(alloc, set, &journal)?)),
-        Err(DumpFault::BadDump(_)) => {
-            drop(set);
-            Ok(Outcome::Unread)
+impl Auditing {
+    fn verdict(self, alloc: Global, set: RouteSet, dump: &str) -> Result<Verdict, DumpFault>
+        requires { length set.routes ≤ 256 }
+    {
+        match self {
+            Auditing::Journal => {
+                let journal = read_dump(alloc, dump.as_bytes())?;
+                Ok(audit(alloc, set, &journal)?)
+            }
+            Auditing::Lines => audit_dump(alloc, set, dump.as_bytes()),
         }
-        Err(DumpFault::NoMemory) => Err(NoMemory),
     }
+
+    /// What comes of a route file and a dump.
+    fn outcome(self, alloc: Global, file: &str, dump: &str) -> Result<Outcome, NoMemory> {
+        let Some(set) = set_of(alloc, file)? else {
+            return Ok(Outcome::NoRoutes);
+        };
+        if !is_within(&set) {
+            drop(set);
+            return Ok(Outcome::NoRoutes);
+        }
+        match self.verdict(alloc, set, dump) {
+            Ok(verdict) => Ok(Outcome::Audited(verdict)),
+            Err(DumpFault::BadDump(line)) => Ok(Outcome::BadDump(line)),
+            Err(DumpFault::NoMemory) => Err(NoMemory),
+        }
+    }
+}
+
+/// Whether this is what comes of a route file and a dump, in both ways.
+pub fn comes_to(alloc: Global, file: &str, dump: &str, wanted: Outcome) -> Result<bool, NoMemory> {
+    let by_journal = Auditing::Journal.outcome(alloc, file, dump)?;
+    let by_lines = Auditing::Lines.outcome(alloc, file, dump)?;
+    Ok(by_journal == wanted && by_lines == wanted)
 }
 
 /// The outcome of a journal whose entry with this number breaks this rule, and none before it does.

@@ -1,5 +1,5 @@
 use crate::routes::{GROUPED, JOINED, KEYED, LOGGING, QUEUED, RETRYING};
-use crate::support::{outcome_of, wrong};
+use crate::support::{Outcome, comes_to, wrong};
 use eip_test_support::joined;
 use eip_text::NoMemory;
 use std::alloc::Global;
@@ -174,8 +174,7 @@ const OF_THE_CLOCK: [Row; 8] = [
 fn first_untold(alloc: Global, rows: &[Row]) -> Result<Option<&'static str>, NoMemory> {
     for (routes, before, behind, entry, rule) in rows {
         let journal = joined(alloc, &[before, behind])?;
-        let told = outcome_of(alloc, routes, journal.as_str())?;
-        if told != wrong(*entry, *rule) {
+        if !comes_to(alloc, routes, journal.as_str(), wrong(*entry, *rule))? {
             return Ok(Some(behind));
         }
     }
@@ -205,5 +204,23 @@ fn an_answer_that_breaks_its_rule_is_told(rt: HostRuntime) -> Result<(), Fail> {
 #[test]
 fn a_clock_or_a_force_that_breaks_its_rule_is_told(rt: HostRuntime) -> Result<(), Fail> {
     assert_eq!(rt; first_untold(rt.alloc(), &OF_THE_CLOCK)?, None);
+    Ok(())
+}
+
+/// Journals of which the line with this number is the first bad one: behind an entry that breaks its rule, where one is missing, and
+/// where one is too many.
+const BAD: [(&str, u64); 4] = [
+    ("eip-journal 1 2 99\n1 end 0\n1 pull  0\n", 3),
+    ("eip-journal 2 2 99 3\n1 end 0\n1 pull 0\n", 4),
+    ("eip-journal 2 2 99 1\n1 end 0\n1 pull 0\n", 3),
+    ("eip-journal 3 2 99\n1 end 0\n", 1),
+];
+
+#[test]
+fn a_bad_line_goes_before_an_entry_that_breaks_its_rule(rt: HostRuntime) -> Result<(), Fail> {
+    for (journal, line) in &BAD {
+        let told = comes_to(rt.alloc(), LOGGING, journal, Outcome::BadDump(*line))?;
+        assert!(rt; told, "{journal}");
+    }
     Ok(())
 }

@@ -145,8 +145,8 @@ fn tell_fault<O: Sink>(fault: TextFault, out: &mut O) -> u8
 
 /// What the program does: it answers the words that the host gave, and ends with the status. `--help` and `--version`
 /// are told. Other words are run as a command, with the files, the patterns, the lanes, the inlets and the registry that are
-/// handed in; where they name workers, it isn't said that the call returns. Where the host gave no words since one of them is not UTF-8, that is told as words that are
-/// refused; where memory was wanting, that is told.
+/// handed in; where they name workers, it isn't said that the call returns. Where the host gave no words since one of them is
+/// not UTF-8, that is told as words that are refused; where memory was wanting, that is told.
 pub fn answer<
     F: Files,
     P: Patterns,

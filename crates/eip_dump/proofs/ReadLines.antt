@@ -14,7 +14,7 @@ use Rattle.eip_dump.specs.declared.fault.DumpFault.TheVariants as fault
 use Rattle.eip_dump.specs.declared.first_line.First.{First}
 use Rattle.eip_dump.specs.Lines.{kind_word, entry_text}
 use Rattle.eip_dump.specs.Kept.{IsEntry}
-use Rattle.eip_dump.specs.Dump.{first_text, IsFirst, lines, first_of, old_text, dump_text, AreEntries, HasRoom, IsMissing, IsWithinCount, HasNoEntry, IsBadAt, IsDumpOf, ReadsDump, TakesOne, TakesAll, ReadsLines}
+use Rattle.eip_dump.specs.Dump.{first_text, IsFirst, lines, first_of, old_text, dump_text, AreEntries, HasRoom, IsMissing, IsWithinCount, HasNoEntry, IsBadAt, IsDumpOf, ReadsDump, TakesAll, ReadsLines}
 
 -- ---- a line is not empty
 
@@ -52,11 +52,11 @@ entries_more : (es : List Entry) (e : Entry) → AreEntries es → IsEntry e →
 entries_more [] e a i = (i, tt)
 entries_more (f ∷ es) e a i = (a.0, entries_more es e a.1 i)
 
--- the entries so far, and what stands behind them
-pub record SoFar (count : Option ℕ) (j : JournalView) (bs rest : List ℕ) (n : ℕ) : Type 0 where
-  pub whole : bs ≡ lines (reverse j.past) ++ rest
-  pub entries : AreEntries (reverse j.past)
-  pub number : n ≡ length j.past
+-- the entries so far, the newest first, and what stands behind them
+pub record SoFar (count : Option ℕ) (past : List Entry) (bs rest : List ℕ) (n : ℕ) : Type 0 where
+  pub whole : bs ≡ lines (reverse past) ++ rest
+  pub entries : AreEntries (reverse past)
+  pub number : n ≡ length past
   pub within : IsWithinCount count n
   pub room : 2 * n + length rest ≤ length bs
 
@@ -64,8 +64,8 @@ none_yet : (count : Option ℕ) → IsWithinCount count 0
 none_yet None = tt
 none_yet (Some c) = omega arith
 
-pub so_far_none : (count : Option ℕ) (j : JournalView) (bs : List ℕ) → j.past ≡ [] → SoFar count j bs bs 0
-so_far_none count j bs h = record {
+pub so_far_none : (count : Option ℕ) (past : List Entry) (bs : List ℕ) → past ≡ [] → SoFar count past bs bs 0
+so_far_none count past bs h = record {
   whole = rw h refl;
   entries = rw h tt;
   number = rw h refl;
@@ -77,65 +77,49 @@ one_within : (count : Option ℕ) (n : ℕ) → HasRoom count n → IsWithinCoun
 one_within None n h = tt
 one_within (Some c) n h = omega (arith, h)
 
-pub so_far_more : (count : Option ℕ) (old new : JournalView) (bs rest more : List ℕ) (n : ℕ) → SoFar count old bs rest n → HasRoom count n → TakesOne old new rest more → SoFar count new bs more (n + 1)
-so_far_more count old new bs rest more n s h t =
-    let past : reverse new.past ≡ reverse old.past ++ t.entry ∷ [] = ap reverse t.past ∙ reverse-cons t.entry old.past in
-    let text : lines (reverse new.past) ≡ lines (reverse old.past) ++ entry_text t.entry = ap lines past ∙ lines_more (reverse old.past) t.entry in
-    let size : length rest ≡ length (entry_text t.entry) + length more = ap length t.whole ∙ length-append (entry_text t.entry) more in
+-- the next entry
+pub so_far_more : (count : Option ℕ) (past : List Entry) (bs rest more : List ℕ) (n : ℕ) (e : Entry) → SoFar count past bs rest n → HasRoom count n × IsEntry e × (rest ≡ entry_text e ++ more) → SoFar count (e ∷ past) bs more (n + 1)
+so_far_more count old bs rest more n e s h =
+    let past : reverse (e ∷ old) ≡ reverse old ++ e ∷ [] = reverse-cons e old in
+    let text : lines (reverse (e ∷ old)) ≡ lines (reverse old) ++ entry_text e = ap lines past ∙ lines_more (reverse old) e in
+    let size : length rest ≡ length (entry_text e) + length more = ap length h.2 ∙ length-append (entry_text e) more in
     record {
-      whole = s.whole ∙ ap (λ (r : List ℕ). lines (reverse old.past) ++ r) t.whole ∙ sym (append_assoc (lines (reverse old.past)) (entry_text t.entry) more) ∙ ap (λ (x : List ℕ). x ++ more) (sym text);
-      entries = subst AreEntries (sym past) (entries_more (reverse old.past) t.entry s.entries t.is_entry);
-      number = ap (λ (k : ℕ). k + 1) s.number ∙ rw t.past (omega arith);
-      within = one_within count n h;
-      room = omega (arith, s.room, size, some_text t.entry);
+      whole = s.whole ∙ ap (λ (r : List ℕ). lines (reverse old) ++ r) h.2 ∙ sym (append_assoc (lines (reverse old)) (entry_text e) more) ∙ ap (λ (x : List ℕ). x ++ more) (sym text);
+      entries = subst AreEntries (sym past) (entries_more (reverse old) e s.entries h.1);
+      number = ap (λ (k : ℕ). k + 1) s.number ∙ omega arith;
+      within = one_within count n h.0;
+      room = omega (arith, s.room, size, some_text e);
     }
 
 -- what stands behind a line that was read is shorter
-pub shorter : (old new : JournalView) (rest more : List ℕ) → TakesOne old new rest more → length more < length rest
-shorter old new rest more t =
-    let size : length rest ≡ length (entry_text t.entry) + length more = ap length t.whole ∙ length-append (entry_text t.entry) more in
-    omega (arith, size, some_text t.entry)
+pub shorter : (rest more : List ℕ) (e : Entry) → rest ≡ entry_text e ++ more → length more < length rest
+shorter rest more e h =
+    let size : length rest ≡ length (entry_text e) + length more = ap length h ∙ length-append (entry_text e) more in
+    omega (arith, size, some_text e)
 
--- ---- a bad line
-
--- where a line is there
-pub bad_line : (count : Option ℕ) (j : JournalView) (bs rest : List ℕ) (n : ℕ) → SoFar count j bs rest n → (rest ≡ [] → ⊥) → (HasRoom count n → HasNoEntry rest) → IsBadAt count (n + 2) bs
-bad_line count j bs rest n s there none =
-    let number : n ≡ length (reverse j.past) = s.number ∙ sym (length-reverse j.past) in
+-- the next line is bad
+pub bad_line : (count : Option ℕ) (past : List Entry) (bs rest : List ℕ) (n k : ℕ) → SoFar count past bs rest n → (k ≡ n + 2) × (rest ≡ [] → IsMissing count n) × (HasRoom count n → HasNoEntry rest) → IsBadAt count k bs
+bad_line count past bs rest n k s bad =
+    let number : n ≡ length (reverse past) = s.number ∙ sym (length-reverse past) in
     record {
-      entries = reverse j.past;
+      entries = reverse past;
       rest = rest;
       are_entries = s.entries;
       whole = s.whole;
-      place = ap (λ (k : ℕ). k + 2) number;
+      place = bad.0 ∙ ap (λ (m : ℕ). m + 2) number;
       within = subst (IsWithinCount count) number s.within;
-      missing = λ empty. absurd (there empty);
-      no_entry = λ room. none (subst (HasRoom count) (sym number) room);
-    }
-
--- where none is
-pub missing_line : (count : Option ℕ) (j : JournalView) (bs rest : List ℕ) (n : ℕ) → SoFar count j bs rest n → rest ≡ [] → IsMissing count n → IsBadAt count (n + 2) bs
-missing_line count j bs rest n s empty missing =
-    let number : n ≡ length (reverse j.past) = s.number ∙ sym (length-reverse j.past) in
-    record {
-      entries = reverse j.past;
-      rest = rest;
-      are_entries = s.entries;
-      whole = s.whole;
-      place = ap (λ (k : ℕ). k + 2) number;
-      within = subst (IsWithinCount count) number s.within;
-      missing = λ _. subst (IsMissing count) number missing;
-      no_entry = λ _. no_entry_in_nothing rest empty;
+      missing = λ empty. subst (IsMissing count) number (bad.1 empty);
+      no_entry = λ room. bad.2 (subst (HasRoom count) (sym number) room);
     }
 
 -- ---- all lines
 
-pub all_lines : (count : Option ℕ) (old new : JournalView) (bs rest : List ℕ) (n : ℕ) → n < 2 ^ 64 → SoFar count new bs rest n → rest ≡ [] → (IsMissing count n → ⊥) → new.workers ≡ old.workers → new.turns ≡ old.turns → TakesAll count old new bs
-all_lines count old new bs rest n fits s empty enough workers turns = record {
-  whole = s.whole ∙ ap (λ (r : List ℕ). lines (reverse new.past) ++ r) empty ∙ append-nil (lines (reverse new.past));
+pub all_lines : (count : Option ℕ) (old new : JournalView) (bs rest : List ℕ) (n : ℕ) → n < 2 ^ 64 → SoFar count new.past bs rest n → (rest ≡ []) × (IsMissing count n → ⊥) → new.workers ≡ old.workers → new.turns ≡ old.turns → TakesAll count old new bs
+all_lines count old new bs rest n fits s last workers turns = record {
+  whole = s.whole ∙ ap (λ (r : List ℕ). lines (reverse new.past) ++ r) last.0 ∙ append-nil (lines (reverse new.past));
   entries = s.entries;
   countable = subst (λ (k : ℕ). k < 2 ^ 64) s.number fits;
-  counted = (λ missing. enough (subst (IsMissing count) (sym s.number) missing), subst (IsWithinCount count) s.number s.within);
+  counted = (λ missing. last.1 (subst (IsMissing count) (sym s.number) missing), subst (IsWithinCount count) s.number s.within);
   workers = workers;
   turns = turns;
 }

@@ -136,19 +136,18 @@ Migrates bs (Err fault.NoMemory) = Unit {0}
 
 -- ---- one turn of the reader
 
--- one more entry was read
-pub record TakesOne (old new : JournalView) (bs rest : List ℕ) : Type 0 where
-  pub entry : Entry
-  pub is_entry : IsEntry entry
-  pub whole : bs ≡ entry_text entry ++ rest
-  pub past : new.past ≡ entry ∷ old.past
-  pub workers : new.workers ≡ old.workers
-  pub turns : new.turns ≡ old.turns
+-- what a call that reads the next entry behind n answers: the entry whose line stands in front, that none is left and none is missing, or that the line is bad
+abbrev pub ReadsNext : {X : Type 0} → (X → Entry × List ℕ) → Option ℕ → ℕ → List ℕ → Result (Option X) DumpFault → Type 0
+ReadsNext view count n bs (Ok (Some x)) = HasRoom count n × IsEntry (view x).0 × (bs ≡ entry_text (view x).0 ++ (view x).1)
+ReadsNext view count n bs (Ok None) = (bs ≡ []) × (IsMissing count n → ⊥)
+ReadsNext view count n bs (Err (fault.BadDump k)) = (k ≡ n + 2) × (bs ≡ [] → IsMissing count n) × (HasRoom count n → HasNoEntry bs)
+ReadsNext view count n bs (Err fault.NoMemory) = Unit {0}
 
-abbrev pub TakesNext : {X : Type 0} → (X → List ℕ) → JournalView → JournalView → List ℕ → ℕ → Result X DumpFault → Type 0
-TakesNext view old new bs k (Ok rest) = TakesOne old new bs (view rest)
-TakesNext view old new bs k (Err (fault.BadDump line)) = (line ≡ k) × HasNoEntry bs
-TakesNext view old new bs k (Err fault.NoMemory) = Unit {0}
+-- what a call that reads a first line answers: the one that stands in front, or that none does
+abbrev pub ReadsFirst : {X : Type 0} → (X → First × List ℕ) → List ℕ → Result X DumpFault → Type 0
+ReadsFirst view bs (Ok x) = IsFirst (view x).0 × (bs ≡ first_text (view x).0 ++ (view x).1)
+ReadsFirst view bs (Err (fault.BadDump k)) = (k ≡ 1) × HasNoFirst bs
+ReadsFirst view bs (Err fault.NoMemory) = Unit {0}
 
 -- the entries that a text consists of were read
 pub record TakesAll (count : Option ℕ) (old new : JournalView) (bs : List ℕ) : Type 0 where

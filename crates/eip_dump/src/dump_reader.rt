@@ -1,12 +1,12 @@
-ghost use Rattle.std.specs.Prelude.{◌≡◌, ◌↔◌, [], IsTrue};
+ghost use Rattle.std.specs.Prelude.{◌≡◌, ◌↔◌, ◌*◌, ◌≤◌, [], IsTrue};
 ghost use Rattle.eip_dump.specs.Dump as spec;
-ghost use Rattle.eip_dump.specs.Dump.{ReadsDump, ReadsLines, TakesNext, Migrates};
+ghost use Rattle.eip_dump.specs.Dump.{ReadsDump, ReadsFirst, ReadsLines, ReadsNext, Migrates};
 
 use crate::dump_printer::dump;
 use crate::entry_reader::entry_front;
 use crate::fault::{DumpFault, Stop};
-use crate::first_line::first_front;
-use eip_ledger::Journal;
+use crate::first_line::{First, first_front};
+use eip_ledger::{Entry, Journal};
 use eip_text::{NoMemory, Text};
 use std::alloc::Global;
 
@@ -33,23 +33,42 @@ fn is_missing(count: Option<u64>, entries: u64) -> bool
     }
 }
 
-/// Reads one more entry into the journal, from the line with this number, and gives what stands behind it.
-fn read_next<'b>(
+/// The next entry of a dump behind so many, and what stands behind it; `None` exactly where no more stands there and none is missing.
+/// `BadDump` with the number of its line where that line is missing, is one too many, or is the line of no entry.
+pub fn next_entry(
     alloc: Global,
-    journal: &mut Journal,
-    bytes: &'b [u8],
-    line: u64,
-) -> Result<&'b [u8], DumpFault>
-    ensures { TakesNext (λ x. x.now) journal.old journal.new bytes.now line result }
+    count: Option<u64>,
+    entries: u64,
+    bytes: &[u8],
+) -> Result<Option<(Entry, &[u8])>, DumpFault>
+    requires { 2 * entries ≤ 9223372036854775807 }
+    ensures { ReadsNext (λ x. (x.0, x.1.now)) count entries bytes.now result }
 {
-    let (entry, rest) = match entry_front(alloc, bytes) {
-        Ok(read) => read,
-        Err(Stop::Bad) => return Err(DumpFault::BadDump(line)),
-        Err(Stop::Memory) => return Err(DumpFault::NoMemory),
-    };
-    journal.reserve(1)?;
-    journal.append_reserved(entry);
-    Ok(rest)
+    if bytes.is_empty() {
+        if is_missing(count, entries) {
+            return Err(DumpFault::BadDump(entries + 2));
+        }
+        return Ok(None);
+    }
+    if !has_room(count, entries) {
+        return Err(DumpFault::BadDump(entries + 2));
+    }
+    match entry_front(alloc, bytes) {
+        Ok(read) => Ok(Some(read)),
+        Err(Stop::Bad) => Err(DumpFault::BadDump(entries + 2)),
+        Err(Stop::Memory) => Err(DumpFault::NoMemory),
+    }
+}
+
+/// What the first line of a dump says, and what stands behind it. `BadDump(1)` exactly where no first line stands there.
+pub fn first_limits(alloc: Global, bytes: &[u8]) -> Result<(First, &[u8]), DumpFault>
+    ensures { ReadsFirst (λ x. (x.0, x.1.now)) bytes.now result }
+{
+    match first_front(alloc, bytes) {
+        Ok(read) => Ok(read),
+        Err(Stop::Bad) => Err(DumpFault::BadDump(1)),
+        Err(Stop::Memory) => Err(DumpFault::NoMemory),
+    }
 }
 
 /// Reads the entries behind the first line into a journal that has none.
@@ -64,15 +83,11 @@ fn read_lines(
 {
     let mut rest = bytes;
     let mut entries: u64 = 0;
-    while !rest.is_empty() {
-        if !has_room(count, entries) {
-            return Err(DumpFault::BadDump(entries + 2));
-        }
-        rest = read_next(alloc, journal, rest, entries + 2)?;
+    while let Some((entry, more)) = next_entry(alloc, count, entries, rest)? {
+        journal.reserve(1)?;
+        journal.append_reserved(entry);
+        rest = more;
         entries += 1;
-    }
-    if is_missing(count, entries) {
-        return Err(DumpFault::BadDump(entries + 2));
     }
     Ok(())
 }
@@ -82,11 +97,7 @@ fn read_lines(
 pub fn read_dump(alloc: Global, bytes: &[u8]) -> Result<Journal, DumpFault>
     ensures { ReadsDump bytes.now result }
 {
-    let (first, rest) = match first_front(alloc, bytes) {
-        Ok(read) => read,
-        Err(Stop::Bad) => return Err(DumpFault::BadDump(1)),
-        Err(Stop::Memory) => return Err(DumpFault::NoMemory),
-    };
+    let (first, rest) = first_limits(alloc, bytes)?;
     let mut journal = Journal::new(alloc, first.workers, first.turns);
     read_lines(alloc, first.count, &mut journal, rest)?;
     Ok(journal)

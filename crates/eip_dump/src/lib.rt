@@ -16,8 +16,9 @@ mod number_reader;
 mod text_reader;
 
 pub use dump_printer::dump;
-pub use dump_reader::{migrate, read_dump};
+pub use dump_reader::{first_limits, migrate, next_entry, read_dump};
 pub use entry_printer::print_entry;
 pub use entry_reader::read_entry;
 pub use fault::DumpFault;
+pub use first_line::First;
 pub use laws::dump_laws;

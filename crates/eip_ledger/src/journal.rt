@@ -76,6 +76,6 @@ impl Journal {
         ensures workers { self.new.workers ≡ self.old.workers }
         ensures turns { self.new.turns ≡ self.old.turns }
     {
-        let _ = self.entries.push(entry);
+        self.entries.push_reserved(entry);
     }
 }

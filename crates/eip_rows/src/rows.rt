@@ -48,7 +48,7 @@ fn put_behind<T: Drop>(items: &mut Vec<T>, item: T)
     ensures items { items.new.items ≡ items.old.items ++ item ∷ [] }
     ensures spare { vec_capacity items.old - vec_len items.old ≤ vec_capacity items.new - vec_len items.new + 1 }
 {
-    let _ = items.push(item);
+    items.push_reserved(item);
 }
 
 impl Rows {

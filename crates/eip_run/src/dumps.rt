@@ -2,7 +2,7 @@ ghost use Rattle.std.specs.Prelude.{◌≡◌, ◌≤◌, length};
 ghost use Rattle.eip_run.specs.Dumps.{read_refusal, files_refusal, ReadsJournal, Judges, Migrates};
 ghost use Rattle.eip_run.specs.declared.dumps.DumpRefusal.TheVariants as refusal;
 
-use eip_audit::{Verdict, audit};
+use eip_audit::{Verdict, audit_dump};
 use eip_command::Path;
 use eip_dump::dump_reader::LIMIT;
 use eip_dump::{DumpFault, dump, read_dump};
@@ -77,8 +77,13 @@ pub fn judge<F: Files>(
     ensures same { F.files files.new ≡ F.files files.old }
     ensures judged { Judges set path.now (F.files files.old) (F.files_faults files.old) (F.files_faults files.new) result }
 {
-    let journal = journal_at(alloc, path, files)?;
-    Ok(audit(alloc, set, &journal)?)
+    match files.read(&path.folder, &path.name, DUMP_LIMIT)? {
+        FileRead::Bytes(bytes) => Ok(audit_dump(alloc, set, bytes.items())?),
+        FileRead::Missing | FileRead::TooLong => {
+            drop(set);
+            Err(DumpRefusal::BadDump(0))
+        }
+    }
 }
 
 /// Writes the journal in the old dump to the new one in the latest version, in place of what it held, and gives the number of its

@@ -79,7 +79,7 @@ pub fn put_behind<T: Drop>(items: &mut Vec<T>, item: T)
     ensures items { items.new.items ≡ items.old.items ++ item ∷ [] }
     ensures room { vec_capacity items.old ≤ vec_capacity items.new }
 {
-    drop(items.push(item));
+    items.push_reserved(item);
 }
 
 /// The rows of the parts that these seeds make go behind the others, into room that was reserved, each with a fault for the case that

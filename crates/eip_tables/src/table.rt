@@ -52,7 +52,7 @@ impl<T: Drop> Table<T> {
         ensures items { self.new.items ≡ self.old.items ++ item ∷ [] }
         ensures spare { self.old.spare ≤ self.new.spare + 1 }
     {
-        let _ = self.items.push(item);
+        self.items.push_reserved(item);
     }
 
     /// The row with a number.

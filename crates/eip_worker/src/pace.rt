@@ -98,7 +98,8 @@ impl<R, G> Round<'_, R, G> {
         }
     }
 
-    /// Watches the others, without a turn: whether nobody takes one for a short while, and there are more entries than were seen before.
+    /// Watches the others, without a turn: whether nobody takes one for a short while and, where a number is given, there are more entries
+    /// than that.
     fn is_wanted(&self, seen: Option<u64>) -> bool {
         let mut length = self.lock.length();
         let mut quiet: u32 = 0;

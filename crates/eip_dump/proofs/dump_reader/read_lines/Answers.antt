@@ -1,20 +1,21 @@
-use Rattle.std.proofs.Common.{◌∙◌}
-use Rattle.eip_dump.proofs.AgainEntries.{none_left}
-use Rattle.eip_dump.proofs.ReadLines.{so_far_more, shorter, missing_line}
+use Rattle.std.proofs.Common.{◌≡◌, ◌+◌, ◌∷◌, List, ap, sym, subst, ◌∙◌}
+use Rattle.eip_ledger.specs.declared.entry.Entry.{Entry}
+use Rattle.eip_dump.proofs.ReadLines.{SoFar, so_far_more, shorter}
 use Rattle.eip_dump.proofs.dump_reader.read_lines.Goals as goal
 
-pub loop-rest-smaller : goal.loop-rest-smaller
-loop-rest-smaller c = shorter c.loop-rest.journal c.read_next.new.journal c.loop-rest.rest.now c.in_ok-rest.rest.now c.in_ok-rest.ensures
+pub loop-entry-smaller : goal.loop-entry-smaller
+loop-entry-smaller c =
+    let read = rw c.in-Some.is at c.in_ok-entry.ensures in
+    shorter c.loop-entry.rest.now c.in-Some.more.now c.in-Some.entry read.2
 
-pub loop-rest-preserved : goal.loop-rest-preserved
-loop-rest-preserved c = record {
-  so_far = so_far_more c.args.count c.loop-rest.journal c.read_next.new.journal c.args.bytes.now c.loop-rest.rest.now c.in_ok-rest.rest.now c.loop-rest.entries
-      c.loop-rest.invariant.so_far (c.has_room.ensures.0 c.if-not-has_room.false) c.in_ok-rest.ensures;
-  workers = c.in_ok-rest.ensures.workers ∙ c.loop-rest.invariant.workers;
-  turns = c.in_ok-rest.ensures.turns ∙ c.loop-rest.invariant.turns;
-}
-
-pub returns-then-is_missing : goal.returns-then-is_missing
-returns-then-is_missing c =
-    missing_line c.args.count c.loop-rest.journal c.args.bytes.now c.loop-rest.rest.now c.loop-rest.entries c.loop-rest.invariant.so_far
-    (none_left c.is_empty.result c.loop-rest.rest.now c.is_empty.ensures c.loop-rest-test.false) (c.is_missing.ensures.0 c.if-is_missing.true)
+pub loop-entry-preserved : goal.loop-entry-preserved
+loop-entry-preserved c =
+    let read = rw c.in-Some.is at c.in_ok-entry.ensures in
+    let past : c.append_reserved.new.self.past ≡ c.in-Some.entry ∷ c.loop-entry.journal.past =
+    c.append_reserved.ensures.past ∙ ap (λ (es : List Entry). c.in-Some.entry ∷ es) c.reserve.ensures.same.past in
+    record {
+      so_far = subst (λ (es : List Entry). SoFar c.args.count es c.args.bytes.now c.in-Some.more.now (c.loop-entry.entries + 1)) (sym past)
+          (so_far_more c.args.count c.loop-entry.journal.past c.args.bytes.now c.loop-entry.rest.now c.in-Some.more.now c.loop-entry.entries c.in-Some.entry c.loop-entry.invariant.so_far read);
+      workers = c.append_reserved.ensures.workers ∙ (c.reserve.ensures.same.workers ∙ c.loop-entry.invariant.workers);
+      turns = c.append_reserved.ensures.turns ∙ (c.reserve.ensures.same.turns ∙ c.loop-entry.invariant.turns);
+    }
