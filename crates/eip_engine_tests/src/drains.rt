@@ -29,6 +29,19 @@ fn stream_names(alloc: Global) -> Result<Names, NoMemory>
     })
 }
 
+/// A route of this name.
+fn route_of(alloc: Global, id: &str, from: Uri, block: u32) -> Result<Route, NoMemory>
+    ensures { IfOk result (λ r. r ≡ record { id = id.now; from = from; block = block }) }
+{
+    match Text::of_str(alloc, id) {
+        Ok(id) => Ok(Route { id, from, block }),
+        Err(refused) => {
+            drop(from);
+            Err(refused)
+        }
+    }
+}
+
 /// One route from `stream:in`, whose one step is a log.
 fn logging(alloc: Global) -> Result<RouteSet, NoMemory>
     ensures { IfOk result (λ s. s ≡ logging) }
@@ -36,11 +49,7 @@ fn logging(alloc: Global) -> Result<RouteSet, NoMemory>
     let log = Step::To(Uri::Log(Text::of_str(alloc, "out")?));
     let steps = Series::of(vec![in alloc; log]?);
     let blocks = Series::of(vec![in alloc; Block { steps }]?);
-    let route = Route {
-        id: Text::of_str(alloc, "route1")?,
-        from: Uri::StreamIn,
-        block: 0,
-    };
+    let route = route_of(alloc, "route1", Uri::StreamIn, 0)?;
     let routes = Series::of(vec![in alloc; route]?);
     Ok(RouteSet {
         names: stream_names(alloc)?,
@@ -70,14 +79,6 @@ fn copying(alloc: Global) -> Result<Block, NoMemory>
     let step = Step::To(queue(alloc)?);
     let steps = Series::of(vec![in alloc; step]?);
     Ok(Block { steps })
-}
-
-/// A route of this name.
-fn route_of(alloc: Global, id: &str, from: Uri, block: u32) -> Result<Route, NoMemory>
-    ensures { IfOk result (λ r. r ≡ record { id = id.now; from = from; block = block }) }
-{
-    let id = Text::of_str(alloc, id)?;
-    Ok(Route { id, from, block })
 }
 
 /// A route from `stream:in` and one from the queue `l`, each of which puts a copy into that queue.

@@ -43,11 +43,16 @@ impl Gate for Holding {
     }
 }
 
+fn is_completed(place: Option<Place>) -> bool {
+    let is_completed = matches!(&place, Some(Place::Ended(End::Completed)));
+    drop(place);
+    is_completed
+}
+
 /// Whether the exchanges from 1 up to this one are completed.
 fn are_completed(hub: &Hub, last: u64) -> Result<bool, NoMemory> {
     for number in 1..=last {
-        let place = hub.place(number)?;
-        if !matches!(place, Some(Place::Ended(End::Completed))) {
+        if !is_completed(hub.place(number)?) {
             return Ok(false);
         }
     }
