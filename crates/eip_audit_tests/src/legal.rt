@@ -1,5 +1,5 @@
 use crate::routes::{GROUPED, JOINED, KEYED, LOGGING, QUEUED, RETRYING};
-use crate::support::{Outcome, comes_to};
+use crate::support::{Outcome, outcomes_of};
 use eip_audit::Verdict;
 use std::test::*;
 
@@ -77,8 +77,8 @@ const LEGAL: [(&str, &str, u64); 13] = [
 fn a_legal_journal_is_legal(rt: HostRuntime) -> Result<(), Fail> {
     for (routes, journal, entries) in &LEGAL {
         let legal = Outcome::Audited(Verdict::Legal(*entries));
-        let told = comes_to(rt.alloc(), routes, journal, legal)?;
-        assert!(rt; told, "{journal}");
+        let (by_journal, by_lines) = outcomes_of(rt.alloc(), routes, journal)?;
+        assert!(rt; by_journal == legal && by_lines == legal, "{journal}");
     }
     Ok(())
 }

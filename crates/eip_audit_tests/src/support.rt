@@ -87,11 +87,12 @@ impl Auditing {
     }
 }
 
-/// Whether this is what comes of a route file and a dump, in both ways.
-pub fn comes_to(alloc: Global, file: &str, dump: &str, wanted: Outcome) -> Result<bool, NoMemory> {
+/// What comes of a route file and a dump: where the journal is read and then audited, and where each entry is judged as its line is
+/// read.
+pub fn outcomes_of(alloc: Global, file: &str, dump: &str) -> Result<(Outcome, Outcome), NoMemory> {
     let by_journal = Auditing::Journal.outcome(alloc, file, dump)?;
     let by_lines = Auditing::Lines.outcome(alloc, file, dump)?;
-    Ok(by_journal == wanted && by_lines == wanted)
+    Ok((by_journal, by_lines))
 }
 
 /// The outcome of a journal whose entry with this number breaks this rule, and none before it does.

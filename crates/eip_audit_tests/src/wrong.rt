@@ -1,5 +1,5 @@
 use crate::routes::{GROUPED, JOINED, KEYED, LOGGING, QUEUED, RETRYING};
-use crate::support::{Outcome, comes_to, wrong};
+use crate::support::{Outcome, outcomes_of, wrong};
 use eip_test_support::joined;
 use eip_text::NoMemory;
 use std::alloc::Global;
@@ -174,7 +174,9 @@ const OF_THE_CLOCK: [Row; 8] = [
 fn first_untold(alloc: Global, rows: &[Row]) -> Result<Option<&'static str>, NoMemory> {
     for (routes, before, behind, entry, rule) in rows {
         let journal = joined(alloc, &[before, behind])?;
-        if !comes_to(alloc, routes, journal.as_str(), wrong(*entry, *rule))? {
+        let wanted = wrong(*entry, *rule);
+        let (by_journal, by_lines) = outcomes_of(alloc, routes, journal.as_str())?;
+        if by_journal != wanted || by_lines != wanted {
             return Ok(Some(behind));
         }
     }
@@ -219,8 +221,9 @@ const BAD: [(&str, u64); 4] = [
 #[test]
 fn a_bad_line_goes_before_an_entry_that_breaks_its_rule(rt: HostRuntime) -> Result<(), Fail> {
     for (journal, line) in &BAD {
-        let told = comes_to(rt.alloc(), LOGGING, journal, Outcome::BadDump(*line))?;
-        assert!(rt; told, "{journal}");
+        let bad = Outcome::BadDump(*line);
+        let (by_journal, by_lines) = outcomes_of(rt.alloc(), LOGGING, journal)?;
+        assert!(rt; by_journal == bad && by_lines == bad, "{journal}");
     }
     Ok(())
 }
