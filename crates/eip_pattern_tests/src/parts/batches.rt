@@ -1,4 +1,4 @@
-use crate::splits::shown;
+use crate::parts::splits::shown;
 use eip_exchange::{How, Key, Message};
 use eip_splitter::{SplitFault, parts};
 use eip_text::{NoMemory, Text};
