@@ -1,5 +1,6 @@
 -- The walk over the lines of a dump: the entries read so far, and one more.
-use Rattle.std.proofs.Common.{◌≡◌, ℕ, ◌+◌, ◌^◌, ◌<◌, List, [], ◌∷◌, ◌++◌, length, Option, Some, None, Result, Ok, Err, refl, sym, ap, subst, ◌∙◌, inr}
+use Rattle.std.proofs.Common.{◌≡◌, ℕ, ◌+◌, ◌-◌, ◌^◌, ◌<◌, arith, drop, length-append, List, [], ◌∷◌, ◌++◌, length, Option, Some, None, Result, Ok, Err, refl, sym, ap, subst, ◌∙◌, inr}
+use Rattle.std.proofs.Math.Seq.{drop-append_seam}
 use Rattle.eip_route.specs.declared.route.RouteSet.{RouteSet}
 use Rattle.eip_ledger.specs.declared.entry.Entry.{Entry}
 use Rattle.eip_ledger.specs.View.{JournalView}
@@ -13,7 +14,7 @@ use Rattle.eip_dump.specs.declared.fault.DumpFault.TheVariants as fault
 use Rattle.eip_dump.specs.declared.first_line.First.{First}
 use Rattle.eip_dump.specs.Kept.{IsEntry}
 use Rattle.eip_dump.specs.Lines.{entry_text}
-use Rattle.eip_dump.proofs.ReadLines.{SoFar, so_far_none, so_far_more, all_lines, dump_read}
+use Rattle.eip_dump.proofs.ReadLines.{SoFar, so_far_more, all_lines, dump_read}
 use Rattle.eip_verdict.specs.declared.verdict.Verdict.{Verdict}
 use Rattle.eip_verdict.specs.declared.verdict.Verdict.TheVariants.{Legal, Wrong}
 use Rattle.eip_verdict.specs.Verdicts.{rule_of, Keeps, IsFirstWrong, Says}
@@ -42,17 +43,12 @@ pub record Walked (set : RouteSet) (workers turns : ℕ) (count : Option ℕ) (b
   pub so_far : SoFar count past bs rest n
   pub told : HasFound set workers turns past a found
 
-pub walk_begun : (count : Option ℕ) (bs : List ℕ) (a : Auditor) → Holds a → a.books.journal.past ≡ [] → Walked a.books.set a.books.journal.workers a.books.journal.turns count bs bs 0 a None
-walk_begun count bs a holds none = record {
-  past = [];
-  so_far = so_far_none count [] bs refl;
-  told = record { set_is = refl; workers_are = refl; turns_are = refl; past_is = none; holds = holds };
-}
-
--- as long as nothing is found, the auditor may judge
-pub found_none : (set : RouteSet) (w t : ℕ) (past : Past) (a : Auditor) (found : Option Verdict) → HasFound set w t past a found → found ≡ None → Holds a
-found_none set w t past a None told is = told.holds
-found_none set w t past a (Some v) told is = absurd cc
+-- of what is left only what stands behind the next line
+pub left_behind : (line more rest : List ℕ) (left : ℕ) → rest ≡ line ++ more → left ≡ length more → drop (length rest - left) rest ≡ more
+left_behind line more rest left split many =
+    let size : length rest ≡ length line + length more = ap length split ∙ length-append line more in
+    let gone : length rest - left ≡ length line = omega (arith, size, many) in
+    rw (gone, split) (drop-append_seam line more)
 
 module _ (set : RouteSet) (w t : ℕ) (past : Past) (a : Auditor) where
   -- what the auditor's books have is what was handed in
@@ -112,13 +108,6 @@ walk_on set w t count bs rest more n a b found now e h read finds = record {
 module _ (set : RouteSet) (w t : ℕ) (count : Option ℕ) (bs rest : List ℕ) (n : ℕ) (a : Auditor) (fits : n < 2 ^ 64) (last : (rest ≡ []) × (IsMissing count n → ⊥)) where
   abbrev journal_of : Past → JournalView
   journal_of past = record { workers = w; turns = t; past = past; spare = 0 }
-
-  pub walked_all : Walked set w t count bs rest n a None → JudgesLines (plan_of set) w t count bs (Ok (Legal n))
-  walked_all h = (
-    journal_of h.past,
-    all_lines count (no_entries w t) (journal_of h.past) bs rest n fits h.so_far last refl refl,
-    (here set w t h.past a IsLegal h.told h.told.holds.legal, h.so_far.number),
-  )
 
   pub walked_wrong : (v : Verdict) → Walked set w t count bs rest n a (Some v) → JudgesLines (plan_of set) w t count bs (Ok v)
   walked_wrong (Wrong number rule) h = (journal_of h.past, all_lines count (no_entries w t) (journal_of h.past) bs rest n fits h.so_far last refl refl, h.told)

@@ -1,11 +1,11 @@
 -- What an audit says of the text of a journal, entry by entry as it is read.
-use Rattle.std.specs.Prelude.{ℕ, ◌≡◌, List, [], Option, Some, None, Result, Ok, Err}
+use Rattle.std.specs.Prelude.{ℕ, ◌≡◌, length, List, [], Option, Some, None, Result, Ok, Err}
 use Rattle.eip_ledger.specs.declared.entry.Entry.{Entry}
 use Rattle.eip_ledger.specs.View.{JournalView}
 use Rattle.eip_history.specs.Plan.{Plan}
 use Rattle.eip_dump.specs.declared.fault.DumpFault.{DumpFault}
 use Rattle.eip_dump.specs.declared.fault.DumpFault.TheVariants as fault
-use Rattle.eip_dump.specs.Dump.{IsBadAt, IsBadLine, IsDumpOf, TakesAll}
+use Rattle.eip_dump.specs.Dump.{IsBadAt, IsBadLine, IsDumpOf, ReadsNext, TakesAll}
 use Rattle.eip_verdict.specs.declared.verdict.Verdict.{Verdict}
 use Rattle.eip_verdict.specs.declared.verdict.Verdict.TheVariants.{Wrong}
 use Rattle.eip_verdict.specs.Verdicts.{rule_of, Says}
@@ -17,6 +17,12 @@ abbrev pub Finds : Auditor → Auditor → Option Verdict → Entry → ℕ → 
 Finds old new (Some v) e number now = now ≡ Some v
 Finds old new None e number None = Enters old new e.worker e.kind
 Finds old new None e number (Some v) = (v ≡ Wrong number (rule_of e.kind)) × (KeepsHere old e → ⊥)
+
+-- the next entry of what is left, and how many bytes stand behind it; none where no more stands there and none is missing
+abbrev pub ReadsNextOf : Option ℕ → (entries : ℕ) → List ℕ → Result (Option (Entry × ℕ)) DumpFault → Type 0
+ReadsNextOf count n bs (Ok (Some x)) = (more : List ℕ) × (x.1 ≡ length more) × ReadsNext (λ (y : Entry × List ℕ). y) count n bs (Ok (Some (x.0, more)))
+ReadsNextOf count n bs (Ok None) = ReadsNext (λ (y : Entry × List ℕ). y) count n bs (Ok None)
+ReadsNextOf count n bs (Err e) = ReadsNext (λ (y : Entry × List ℕ). y) count n bs (Err e)
 
 abbrev pub no_entries : (workers turns : ℕ) → JournalView
 no_entries workers turns = record { workers = workers; turns = turns; past = []; spare = 0 }

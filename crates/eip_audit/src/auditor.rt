@@ -73,7 +73,7 @@ impl Auditor {
                 source,
                 item,
                 message,
-            } => self.accept(worker, *source, item, message),
+            } => self.accept(worker, *source, item, message.get()),
             Kind::Refuse {
                 source,
                 item,

@@ -1,10 +1,11 @@
-ghost use Rattle.std.specs.Prelude.{◌≡◌, ◌≤◌, [], length, IfOk, None};
+ghost use Rattle.std.specs.Prelude.{◌≡◌, ◌≤◌, ◌*◌, [], length, IfOk, None};
 ghost use Rattle.eip_plan.specs.Plan.{plan_of};
 ghost use Rattle.eip_books.specs.View.{plan};
 ghost use Rattle.eip_audit.specs.Judging.{Holds};
-ghost use Rattle.eip_audit.specs.Dumped.{Finds, JudgesLines, Audits};
+ghost use Rattle.eip_audit.specs.Dumped.{Finds, ReadsNextOf, JudgesLines, Audits};
 
 use crate::auditor::Auditor;
+use crate::rest::Rest;
 use eip_dump::{DumpFault, first_limits, next_entry};
 use eip_ledger::Entry;
 use eip_route::RouteSet;
@@ -50,25 +51,42 @@ fn first_wrong_with(
     now
 }
 
+/// The next entry behind so many, and how many bytes stand behind its line, as `next_entry` reads them.
+fn next_of(
+    alloc: Global,
+    count: Option<u64>,
+    entries: u64,
+    rest: &Rest,
+) -> Result<Option<(Entry, usize)>, DumpFault>
+    requires { 2 * entries ≤ 9223372036854775807 }
+    ensures { ReadsNextOf count entries rest.now result }
+{
+    match next_entry(alloc, count, entries, rest.bytes())? {
+        Some((entry, more)) => Ok(Some((entry, more.len()))),
+        None => Ok(None),
+    }
+}
+
 /// The verdict on the entries whose lines these are, by an auditor who has judged none yet. No more than one of them is kept beside the
 /// auditor's books. Behind the first wrong one the others are read too, since a bad line goes before it.
 fn verdict_on(
     alloc: Global,
     auditor: &mut Auditor,
     count: Option<u64>,
-    bytes: &[u8],
+    lines: Rest,
 ) -> Result<Verdict, DumpFault>
     requires holds { Holds auditor.old }
     requires past { auditor.old.books.journal.past ≡ [] }
-    ensures { JudgesLines (plan auditor.old.books) auditor.old.books.journal.workers auditor.old.books.journal.turns count bytes.now result }
+    requires few { length lines ≤ 9223372036854775807 }
+    ensures { JudgesLines (plan auditor.old.books) auditor.old.books.journal.workers auditor.old.books.journal.turns count lines result }
 {
-    let mut rest = bytes;
+    let mut rest = lines;
     let mut entries: u64 = 0;
     let mut found = None;
-    while let Some((entry, more)) = next_entry(alloc, count, entries, rest)? {
+    while let Some((entry, left)) = next_of(alloc, count, entries, &rest)? {
         entries += 1;
         found = first_wrong_with(auditor, found, entry, entries)?;
-        rest = more;
+        rest.leave(alloc, left)?;
     }
     match found {
         Some(verdict) => Ok(verdict),
@@ -77,14 +95,17 @@ fn verdict_on(
 }
 
 /// What `audit` says of the journal that `read_dump` reads from these bytes, with its refusals: `BadDump` with the first bad line. Each
-/// entry is judged as its line is read, so that the journal is kept once.
-pub fn audit_dump(alloc: Global, set: RouteSet, bytes: &[u8]) -> Result<Verdict, DumpFault>
+/// entry is judged as its line is read, so that the journal is kept once, and of the bytes no more than twice those that are left.
+pub fn audit_dump(alloc: Global, set: RouteSet, bytes: Vec<u8>) -> Result<Verdict, DumpFault>
     requires { length set.routes ≤ 256 }
-    ensures { Audits (plan_of set) bytes.now result }
+    ensures { Audits (plan_of set) bytes.items result }
 {
-    let (first, rest) = first_limits(alloc, bytes)?;
+    let (first, rest) = first_limits(alloc, bytes.as_slice())?;
+    let left = rest.len();
+    let mut lines = Rest::new(bytes);
+    lines.leave(alloc, left)?;
     let mut auditor = Auditor::new(alloc, set, first.workers, first.turns)?;
-    let verdict = verdict_on(alloc, &mut auditor, first.count, rest);
+    let verdict = verdict_on(alloc, &mut auditor, first.count, lines);
     auditor.close();
     verdict
 }

@@ -6,6 +6,7 @@ pub mod auditor;
 pub mod dumped;
 pub mod exchanges;
 pub mod moments;
+pub mod rest;
 pub mod sources;
 pub mod whole;
 

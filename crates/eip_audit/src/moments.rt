@@ -1,4 +1,4 @@
-ghost use Rattle.std.specs.Prelude.{◌≡◌, ◌≤◌, IfOk};
+ghost use Rattle.std.specs.Prelude.{◌≤◌, IfOk};
 ghost use Rattle.eip_ledger.specs.declared.entry.Kind.TheVariants.{Tick, Force};
 ghost use Rattle.eip_audit.specs.Judging.{Holds, Judges};
 

@@ -48,6 +48,11 @@ fn set_of(alloc: Global, file: &str) -> Result<Option<RouteSet>, NoMemory> {
     }
 }
 
+/// The bytes of a dump, as a file gives them.
+fn bytes_of(alloc: Global, dump: &str) -> Result<Vec<u8>, NoMemory> {
+    Ok(Vec::from_slice(alloc, dump.as_bytes())?)
+}
+
 /// Who reads a dump, and judges its entries.
 #[derive(Clone, Copy)]
 enum Auditing {
@@ -66,7 +71,10 @@ impl Auditing {
                 let journal = read_dump(alloc, dump.as_bytes())?;
                 Ok(audit(alloc, set, &journal)?)
             }
-            Auditing::Lines => audit_dump(alloc, set, dump.as_bytes()),
+            Auditing::Lines => {
+                let bytes = bytes_of(alloc, dump)?;
+                audit_dump(alloc, set, bytes)
+            }
         }
     }
 

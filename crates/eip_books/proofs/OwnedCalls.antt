@@ -21,7 +21,7 @@ use Rattle.eip_tables.specs.Outside.{is_among}
 use Rattle.eip_tables.specs.Rows.{row_ready}
 use Rattle.eip_tables.specs.Stands.{Tables, Stands}
 use Rattle.eip_tables.specs.State.{row_outside, outside_at, is_outside_row, is_wanted}
-use Rattle.eip_tables.specs.declared.row.Row.{Row}
+use Rattle.eip_tables.specs.Row.{Row}
 use Rattle.eip_table_laws.proofs.HandCalls.{known-outside, outside-are}
 use Rattle.eip_tables.proofs.NumbersRise.{numbers-rise}
 use Rattle.eip_tables.specs.Rows.{IsIdleSource, is_idle, source_row}

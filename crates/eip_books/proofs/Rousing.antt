@@ -4,10 +4,10 @@ use Rattle.std.specs.List.{slice_get}
 use Rattle.std.proofs.lemmas.Bool.{cases_Bool, eqb-true, lt-ltb, ltb-true}
 use Rattle.std.proofs.lemmas.Option.{slice_get_within}
 use Rattle.eip_redelivery.specs.Sleep as sleep
-use Rattle.eip_redelivery.specs.Sleep.{Call, Woke, IsFirstSleeper}
+use Rattle.eip_redelivery.specs.Sleep.{Woke, IsFirstSleeper}
 use Rattle.eip_history.specs.Tables.{bit, put_in}
 use Rattle.eip_progress.specs.declared.cursor.Cursor.{Cursor}
-use Rattle.eip_tables.specs.declared.row.Row.{Row}
+use Rattle.eip_tables.specs.Row.{Row}
 use Rattle.eip_tables.specs.Moves.{woken}
 use Rattle.eip_tables.specs.Numbers.{row_numbers, row_count}
 use Rattle.eip_tables.specs.Parts.{rows_behind, woken_at}

@@ -44,7 +44,7 @@ use eip_tables::origin::{OriginView, ending_of, origin_born};
 use eip_tables::places::place_of;
 use eip_tables::queues::{empty_queues, leave};
 use eip_tables::rising::RisingNumbers;
-use eip_tables::row::{Row, SourceState, Stage, end_asked, offer_asked, offered_message};
+use eip_tables::row::{Newborn, SourceState, Stage, end_asked, offer_asked, offered_message};
 use eip_tables::sources::Sources;
 use eip_tables::stop::{first_fault, stop_by};
 use eip_tables::table::Table;
@@ -186,15 +186,8 @@ impl Books {
         ensures outside { self.new.outside ≡ self.old.outside }
     {
         let born = self.journal.entries().len();
-        self.journal.append_reserved(Entry {
-            worker,
-            kind: Kind::Accept {
-                source,
-                item,
-                message,
-            },
-        });
-        self.rows.put_last(Row::new(born));
+        self.journal.accept_reserved(worker, source, item, message);
+        self.rows.put_last(Newborn::of_item(born));
         let number = self.rows.len() as u64;
         self.ready.put_last(number);
         self.sources.set(source, SourceState::Idle);
@@ -294,16 +287,10 @@ impl Books {
         ensures err { OnErr result (IsSame self.old self.new) }
     {
         let row = self.rows.get(number);
-        match row.stage {
+        match row.stage() {
             Stage::New => {
-                let (cursor, request) = first_look(
-                    self.alloc,
-                    &self.set,
-                    self.journal.entries(),
-                    number,
-                    row,
-                )?;
-                self.rows.begin(number, cursor, request);
+                let first = first_look(self.alloc, &self.set, self.journal.entries(), number, row)?;
+                self.rows.begin(number, first);
                 Ok(())
             }
             Stage::Answered(entry) => match &self.journal.entries()[entry].kind {
@@ -324,7 +311,7 @@ impl Books {
         ensures outside { is_outside_kind result ≡ outside_asked (asked (plan self.now) self.now.journal.past number) }
         ensures some { result ≢ Unknown }
     {
-        asked_of(&self.rows.get(number).request)
+        asked_of(self.rows.get(number))
     }
 
     /// The line of the log that the exchange asks for is written.
@@ -389,7 +376,7 @@ impl Books {
         let entry = self.journal.entries().len();
         let row = self.rows.get(number);
         let hops = row.hops();
-        let Some((queue, discard)) = offer_asked(&row.request) else {
+        let Some((queue, discard)) = offer_asked(row) else {
             unreachable!()
         };
         match self.queues.offer(queue, next) {
@@ -398,7 +385,7 @@ impl Books {
                     unreachable!()
                 };
                 let birth = offered_birth(&self.set, next, queue, hops, message);
-                self.rows.put_last(Row::queued(queue, birth));
+                self.rows.put_last(Newborn::queued(queue, birth));
                 append_answer(&mut self.journal, worker, number, Answer::Queued(next));
                 self.live += 1;
                 self.turns += 1;
@@ -604,7 +591,7 @@ impl Books {
         ensures room { self.new.room ≡ self.old.room }
         ensures outside { self.new.outside ≡ self.old.outside }
     {
-        leave(&mut self.queues, self.rows.get(number).born);
+        leave(&mut self.queues, self.rows.get(number).born());
         self.keys.settle(number, ending_by(&end, &answer));
         self.rows.end_by(number, end, &answer);
         append_answer(&mut self.journal, worker, number, answer);
@@ -724,7 +711,7 @@ impl Books {
         if number > self.rows.len() as u64 {
             return None;
         }
-        origin_born(self.journal.entries(), self.rows.get(number).born)
+        origin_born(self.journal.entries(), self.rows.get(number).born())
     }
 
     /// How an exchange ended; None exactly where it is not born or has not ended.
@@ -737,7 +724,7 @@ impl Books {
         if number > self.rows.len() as u64 {
             return None;
         }
-        ending_of(self.rows.get(number).stage)
+        ending_of(self.rows.get(number).stage())
     }
 
     /// The least number of a Ready exchange.

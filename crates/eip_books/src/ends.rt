@@ -42,9 +42,9 @@ impl Books {
         self.ready
             .reserve((self.room + self.pulled + self.taken + 1) as usize)?;
         let row = self.rows.get(number);
-        let born = row.born;
+        let born = row.born();
         let told = part_end(row)?;
-        let Some(ending) = ending_asked(&row.request) else {
+        let Some(ending) = ending_asked(row) else {
             unreachable!()
         };
         self.keys.settle(number, ending);
@@ -70,7 +70,7 @@ impl Books {
         ensures outside { self.new.outside ≡ without number self.old.outside }
     {
         let row = self.rows.get(number);
-        let born = row.born;
+        let born = row.born();
         leave(&mut self.queues, born);
         close(&mut self.joins, number);
         self.keys.settle(number, Ending::Failed);
@@ -102,7 +102,7 @@ impl Books {
         } = ticket;
         drop(request);
         let row = self.rows.get(number);
-        let born = row.born;
+        let born = row.born();
         leave(&mut self.queues, born);
         self.keys.settle(number, Ending::Failed);
         let ended = self.rows.starve(number);

@@ -14,7 +14,7 @@ use eip_aggregator::OpenGroup;
 use eip_frames::Answer;
 use eip_ledger::{Entry, Kind};
 use eip_rows::coming::{Coming, come};
-use eip_tables::groups::row_of;
+use eip_tables::groups::newborn_of;
 use eip_tables::notes::{append_answer, make_room};
 use eip_text::NoMemory;
 
@@ -66,7 +66,7 @@ impl Books {
                     cause: closed.cause,
                     number: next,
                 };
-                self.rows.put_last(row_of(&self.set, next, closed));
+                self.rows.put_last(newborn_of(&self.set, next, closed));
                 self.ready.put_last(next);
                 append_answer(&mut self.journal, worker, number, answer);
                 self.live += 1;

@@ -30,7 +30,7 @@ impl Books {
         make_room(&mut self.journal, &mut self.notes, needed)?;
         let entry = self.journal.entries().len();
         let row = self.rows.get(number);
-        let offered = offer_key(&mut self.keys, &row.request, number)?;
+        let offered = offer_key(&mut self.keys, row, number)?;
         drop(self.rows.answer(number, entry));
         append_answer(&mut self.journal, worker, number, key_answer(offered));
         self.turns += 1;

@@ -43,7 +43,7 @@ impl Books {
         ensures { result ≡ outlet_by (outlets self.now.set) (asked (plan self.now) self.now.journal.past number) }
     {
         let route = route_of(self.origin(number));
-        let Some(request) = &self.rows.get(number).request else {
+        let Some(request) = self.rows.get(number).request() else {
             unreachable!()
         };
         outlet_of(&self.set, route, request)

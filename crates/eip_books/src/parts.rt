@@ -29,7 +29,7 @@ impl Books {
         ensures room { self.new.room ≡ self.old.room }
     {
         let row = self.rows.get(number);
-        let count = count_asked(&row.request);
+        let count = count_asked(row);
         let parent = parent_of(number, row);
         let first = self.rows.len() as u64 + 1;
         let entry = self.journal.entries().len();

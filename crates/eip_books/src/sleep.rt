@@ -56,7 +56,7 @@ impl Books {
         let needed = 2 * self.room + self.pulled + self.taken + 1;
         make_room(&mut self.journal, &mut self.notes, needed)?;
         let entry = self.journal.entries().len();
-        let Some(ticks) = ticks_asked(&self.rows.get(number).request) else {
+        let Some(ticks) = ticks_asked(self.rows.get(number)) else {
             unreachable!()
         };
         let due = due_moment(self.clock, ticks);

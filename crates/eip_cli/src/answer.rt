@@ -15,6 +15,7 @@ use eip_run::run;
 use eip_simple_read::Patterns;
 use eip_text::{NoMemory, Text, TextFault};
 use std::alloc::Global;
+use std::mem;
 use std::process::ExitCode;
 use std::sync::Wait;
 use std::thread::Threads;
@@ -56,7 +57,10 @@ fn ended<
     let report = run(
         rt, alloc, words, files, patterns, lanes, inlets, registry, out,
     );
-    report.status
+    let status = report.status;
+    // The process is about to end, and the system takes the journal's memory back at once, not entry by entry.
+    mem::forget(report);
+    status
 }
 
 /// The same over what is handed in. Where memory was wanting for that, nothing is done.

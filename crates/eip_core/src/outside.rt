@@ -21,7 +21,7 @@ use eip_ledger::Refused;
 use eip_outlets::serves;
 use eip_processor::{ProcessFault, Registered};
 use eip_route::RouteSet;
-use eip_text::{NoMemory, Text};
+use eip_text::{Boxed, NoMemory, Text};
 use eip_uri::Uri;
 
 /// The index of the inlet that the source of a route is read by, and the URI that it reads.
@@ -118,9 +118,10 @@ fn process<R: Registered>(registry: &R, name: &Text, message: &Message) -> Resul
     ensures fitting { IfOk result (λ a. fits (Process name.now message.now) a ≡ true) }
     ensures theirs { IfOk result (λ a. IsTheirs (R.view registry.now) (Process name.now message.now) a) }
 {
+    let alloc = message.alloc();
     match registry.process(name.bytes(), message) {
-        Ok(made) => Ok(Answer::Became(made)),
-        Err(ProcessFault::Raised(fault)) => Ok(Answer::Raised(fault)),
+        Ok(made) => Ok(Answer::Became(Boxed::of(alloc, made)?)),
+        Err(ProcessFault::Raised(fault)) => Ok(Answer::Raised(Boxed::of(alloc, fault)?)),
         Err(ProcessFault::NoMemory) => Err(NoMemory),
     }
 }

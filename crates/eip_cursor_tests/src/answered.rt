@@ -2,15 +2,15 @@
 use eip_exchange::{End, Ended, Fault};
 use eip_frames::Answer;
 use eip_test_support::message_of;
-use eip_text::{NoMemory, Series, Text};
+use eip_text::{Boxed, NoMemory, Series, Text};
 use std::alloc::Global;
 
 /// The answer that these words say: its own word, and what it holds behind a space.
 pub fn answer_of(alloc: Global, words: &str) -> Result<Option<Answer>, NoMemory> {
     let (word, rest) = words.split_once(' ').unwrap_or((words, ""));
     match word {
-        "became" => Ok(Some(Answer::Became(message_of(alloc, rest)?))),
-        "raised" => Ok(Some(Answer::Raised(fault_of(alloc, rest)?))),
+        "became" => Ok(Some(Answer::Became(Boxed::of(alloc, message_of(alloc, rest)?)?))),
+        "raised" => Ok(Some(Answer::Raised(Boxed::of(alloc, fault_of(alloc, rest)?)?))),
         "joined" => Ok(Some(joined(alloc, rest)?)),
         _ => Ok(plain(word, rest)),
     }

@@ -1,20 +1,19 @@
 -- The lines of a dump, as they are read one by one.
-use Rattle.std.proofs.Common.{◌≡◌, ℕ, ◌+◌, ◌*◌, ◌^◌, ◌<◌, ◌≤◌, List, [], ◌∷◌, ◌++◌, length, reverse, Option, Some, None, Err, refl, sym, ap, subst, ◌∙◌, append_assoc, length-append, inl, inr, arith}
+use Rattle.std.proofs.Common.{◌≡◌, ℕ, ◌+◌, ◌*◌, ◌^◌, ◌<◌, ◌≤◌, List, [], ◌∷◌, ◌++◌, length, reverse, Option, Some, None, refl, sym, ap, subst, ◌∙◌, append_assoc, length-append, inl, inr, arith}
 use Rattle.std.specs.Prelude.{◌⊎◌}
 use Rattle.std.proofs.lemmas.Grind.{flat_map-append}
 use mathlib.Core.List.{reverse-cons}
 use Rattle.std.proofs.lemmas.Bool.{cases_lt}
-use Rattle.std.proofs.lemmas.List.{append-nil, length-reverse}
+use Rattle.std.proofs.lemmas.List.{append-nil}
 use Rattle.eip_ledger.specs.View.{JournalView}
 use Rattle.eip_ledger.specs.declared.entry.Entry.{Entry}
 use Rattle.eip_ledger.specs.declared.entry.Kind.{Kind}
 use Rattle.eip_ledger.specs.declared.entry.Kind.TheVariants as kind
-use Rattle.eip_dump.specs.declared.fault.DumpFault.{DumpFault}
 use Rattle.eip_dump.specs.declared.fault.DumpFault.TheVariants as fault
 use Rattle.eip_dump.specs.declared.first_line.First.{First}
 use Rattle.eip_dump.specs.Lines.{kind_word, entry_text}
 use Rattle.eip_dump.specs.Kept.{IsEntry}
-use Rattle.eip_dump.specs.Dump.{first_text, IsFirst, lines, first_of, old_text, dump_text, AreEntries, HasRoom, IsMissing, IsWithinCount, HasNoEntry, IsBadAt, IsDumpOf, ReadsDump, TakesAll, ReadsLines}
+use Rattle.eip_dump.specs.Dump.{first_text, IsFirst, lines, first_of, old_text, dump_text, AreEntries, HasRoom, IsMissing, IsWithinCount, HasNoEntry, IsDumpOf, TakesAll}
 
 -- ---- a line is not empty
 
@@ -97,21 +96,6 @@ shorter rest more e h =
     let size : length rest ≡ length (entry_text e) + length more = ap length h ∙ length-append (entry_text e) more in
     omega (arith, size, some_text e)
 
--- the next line is bad
-pub bad_line : (count : Option ℕ) (past : List Entry) (bs rest : List ℕ) (n k : ℕ) → SoFar count past bs rest n → (k ≡ n + 2) × (rest ≡ [] → IsMissing count n) × (HasRoom count n → HasNoEntry rest) → IsBadAt count k bs
-bad_line count past bs rest n k s bad =
-    let number : n ≡ length (reverse past) = s.number ∙ sym (length-reverse past) in
-    record {
-      entries = reverse past;
-      rest = rest;
-      are_entries = s.entries;
-      whole = s.whole;
-      place = bad.0 ∙ ap (λ (m : ℕ). m + 2) number;
-      within = subst (IsWithinCount count) number s.within;
-      missing = λ empty. subst (IsMissing count) number (bad.1 empty);
-      no_entry = λ room. bad.2 (subst (HasRoom count) (sym number) room);
-    }
-
 -- ---- all lines
 
 pub all_lines : (count : Option ℕ) (old new : JournalView) (bs rest : List ℕ) (n : ℕ) → n < 2 ^ 64 → SoFar count new.past bs rest n → (rest ≡ []) × (IsMissing count n → ⊥) → new.workers ≡ old.workers → new.turns ≡ old.turns → TakesAll count old new bs
@@ -151,8 +135,3 @@ dump_read f old new bs rest whole i w t all =
       entries = all.entries;
       countable = all.countable;
     }
-
--- a bad line behind the first one
-pub bad_behind : (e : DumpFault) (f : First) (old new : JournalView) (bs rest : List ℕ) → bs ≡ first_text f ++ rest → IsFirst f → ReadsLines {U = Unit {0}} f.count old new rest (Err e) → ReadsDump bs (Err e)
-bad_behind (fault.BadDump k) f old new bs rest whole i h = inr (record { first = f; later = rest; is_first = i; whole = whole; bad = h })
-bad_behind fault.NoMemory f old new bs rest whole i h = tt

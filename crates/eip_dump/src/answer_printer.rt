@@ -85,9 +85,9 @@ fn push_fields(out: &mut String, answer: &Answer) -> Result<(), NoMemory>
     ensures kept { OnOk result (kept.IsReply answer.now) }
 {
     match answer {
-        Answer::Became(message) => push_message(out, message),
-        Answer::Raised(fault) => push_fault(out, fault),
-        Answer::Unfit(fault) => push_fault(out, fault),
+        Answer::Became(message) => push_message(out, message.get()),
+        Answer::Raised(fault) => push_fault(out, fault.get()),
+        Answer::Unfit(fault) => push_fault(out, fault.get()),
         Answer::Joined(parts) => push_joined(out, parts.items()),
         Answer::Queued(number) => push_number(out, *number),
         Answer::Full(size) => push_number(out, u64::from(*size)),

@@ -1,4 +1,3 @@
-ghost use Rattle.std.specs.Prelude.{◌≡◌};
 ghost use Rattle.eip_dump.specs.Reading as spec;
 ghost use Rattle.eip_dump.specs.Reading.{Gives};
 
@@ -6,7 +5,7 @@ use crate::fault::Stop;
 use crate::message_reader::{fault_at, message_at, parts_at};
 use crate::number_reader::{behind, number_at, small_at};
 use eip_frames::{Answer, Completion};
-use eip_text::Series;
+use eip_text::{Boxed, Series};
 use std::alloc::Global;
 
 /// What closed a group, and what stands behind it.
@@ -145,15 +144,15 @@ pub fn answer_at(alloc: Global, bytes: &[u8]) -> Result<(Answer, &[u8]), Stop>
 {
     if let Some(rest) = behind(bytes, b" became") {
         let (message, rest) = message_at(alloc, rest)?;
-        return Ok((Answer::Became(message), rest));
+        return Ok((Answer::Became(Boxed::of(alloc, message)?), rest));
     }
     if let Some(rest) = behind(bytes, b" raised") {
         let (fault, rest) = fault_at(alloc, rest)?;
-        return Ok((Answer::Raised(fault), rest));
+        return Ok((Answer::Raised(Boxed::of(alloc, fault)?), rest));
     }
     if let Some(rest) = behind(bytes, b" unfit") {
         let (fault, rest) = fault_at(alloc, rest)?;
-        return Ok((Answer::Unfit(fault), rest));
+        return Ok((Answer::Unfit(Boxed::of(alloc, fault)?), rest));
     }
     if let Some(rest) = behind(bytes, b" joined") {
         let (parts, rest) = parts_at(alloc, rest)?;

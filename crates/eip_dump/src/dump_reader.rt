@@ -35,6 +35,7 @@ fn is_missing(count: Option<u64>, entries: u64) -> bool
 
 /// The next entry of a dump behind so many, and what stands behind it; `None` exactly where no more stands there and none is missing.
 /// `BadDump` with the number of its line where that line is missing, is one too many, or is the line of no entry.
+/// As many entries as a text in memory can have: each takes two bytes at least, so that the number of a line is counted without a check.
 pub fn next_entry(
     alloc: Global,
     count: Option<u64>,

@@ -78,7 +78,7 @@ fn push_fields(out: &mut String, kind: &Kind) -> Result<(), NoMemory>
             source,
             item,
             message,
-        } => push_accepted(out, *source, item, message),
+        } => push_accepted(out, *source, item, message.get()),
         Kind::Refuse {
             source,
             item,

@@ -1,4 +1,4 @@
-ghost use Rattle.std.specs.Prelude.{◌≡◌, IfOk};
+ghost use Rattle.std.specs.Prelude.{IfOk};
 ghost use Rattle.eip_dump.specs.Dump.{ReadsEntry};
 ghost use Rattle.eip_dump.specs.Kept.{IsEntry};
 ghost use Rattle.eip_dump.specs.Reading as spec;
@@ -11,6 +11,7 @@ use crate::message_reader::message_at;
 use crate::number_reader::{behind, digits, number_at, small, small_at};
 use crate::text_reader::phrase_at;
 use eip_ledger::{Entry, Kind, Refused};
+use eip_text::Boxed;
 use std::alloc::Global;
 
 /// A source, an item and its message.
@@ -24,7 +25,7 @@ fn accepted_at(alloc: Global, bytes: &[u8]) -> Result<(Kind, &[u8]), Stop>
     let kind = Kind::Accept {
         source,
         item,
-        message,
+        message: Boxed::of(alloc, message)?,
     };
     Ok((kind, rest))
 }

@@ -2,7 +2,7 @@ ghost use Rattle.std.specs.Prelude.{◌≡◌};
 ghost use Rattle.eip_dump.specs.declared.fault.Stop.TheVariants.{Bad, Memory};
 
 use eip_exchange::HeaderFault;
-use eip_text::{NoMemory, TextFault};
+use eip_text::NoMemory;
 use std::alloc::{AllocError, AllocFailed};
 use thiserror::Error;
 

@@ -1,4 +1,4 @@
-ghost use Rattle.std.specs.Prelude.{◌≡◌, []};
+ghost use Rattle.std.specs.Prelude.{[]};
 ghost use Rattle.eip_dump.specs.Reading as spec;
 ghost use Rattle.eip_dump.specs.Reading.{Gives};
 

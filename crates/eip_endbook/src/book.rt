@@ -81,11 +81,19 @@ pub fn book_text(alloc: Global, hub: &Hub, stop: &Stop) -> Result<Text, NoMemory
     ensures { IfOk result (λ t. t ≡ book_of hub.now stop.now) }
 {
     let mut out = String::new(alloc);
-    push_exchanges(&mut out, hub)?;
-    push_refusals(&mut out, hub.set(), hub.journal().entries())?;
-    push_groups(&mut out, hub)?;
-    push_summary(&mut out, hub, stop)?;
+    push_book(&mut out, hub, stop)?;
     Ok(Text::of(out))
+}
+
+/// Appends the book of a run. Where memory is wanting, a front part may stand in `out`.
+pub fn push_book(out: &mut String, hub: &Hub, stop: &Stop) -> Result<(), NoMemory>
+    ensures { OnOk result (string_bytes out.new ≡ string_bytes out.old ++ book_of hub.now stop.now) }
+{
+    push_exchanges(out, hub)?;
+    push_refusals(out, hub.set(), hub.journal().entries())?;
+    push_groups(out, hub)?;
+    push_summary(out, hub, stop)?;
+    Ok(())
 }
 
 /// The last three lines of the book: how many items were accepted and refused, how many exchanges there are and how they ended,

@@ -7,6 +7,6 @@ mod lines;
 mod log;
 mod names;
 
-pub use book::{book_text, summary_text};
+pub use book::{book_text, push_book, summary_text};
 pub use counts::{Summary, totals};
-pub use log::log_text;
+pub use log::{log_text, push_log};

@@ -11,17 +11,29 @@ use eip_hub::{OpenGroup, OriginView};
 use eip_ledger::{Entry, Kind, Note, Place, Refused, Stop};
 use eip_route::RouteSet;
 use eip_text::{NoMemory, Text, push_escaped, push_quoted};
+use itoa::Buffer;
 use std::fmt::Write;
 
 // Each function appends to a text. Where memory is wanting, a front part of what it appends may stand there.
+
+/// Appends a number in decimal digits, without leading zeros.
+fn push_decimal(out: &mut String, number: u64) -> Result<(), NoMemory>
+    ensures { OnOk result (string_bytes out.new ≡ string_bytes out.old ++ decimal number) }
+{
+    let mut digits = Buffer::new();
+    out.push_str(digits.format(number))?;
+    Ok(())
+}
 
 /// Appends the line of a note: `log N NAME: TEXT`, the text escaped.
 pub fn push_note(out: &mut String, note: &Note) -> Result<(), NoMemory>
     ensures { OnOk result (string_bytes out.new ≡ string_bytes out.old ++ note_line note.now) }
 {
-    let number = note.number;
-    let name = note.name.as_str();
-    write!(out, "log {number} {name}: ")?;
+    out.push_str("log ")?;
+    push_decimal(out, note.number)?;
+    out.push_str(" ")?;
+    out.push_str(note.name.as_str())?;
+    out.push_str(": ")?;
     push_escaped(out, note.text.as_str())?;
     out.push_str("\n")?;
     Ok(())
@@ -33,8 +45,8 @@ fn push_origin(out: &mut String, set: &RouteSet, origin: &OriginView) -> Result<
 {
     match origin {
         OriginView::Source { route, .. } => {
-            let id = route_id(set, *route);
-            Ok(write!(out, "source {id}")?)
+            out.push_str("source ")?;
+            Ok(out.push_str(route_id(set, *route))?)
         }
         OriginView::Queue { route } => {
             let name = queue_name(set, *route);
@@ -94,7 +106,9 @@ pub fn push_exchange(
 ) -> Result<(), NoMemory>
     ensures { OnOk result (string_bytes out.new ≡ string_bytes out.old ++ exchange_line (route_names set.now) number (origin_seen origin.now) place.now) }
 {
-    write!(out, "exchange {number} ")?;
+    out.push_str("exchange ")?;
+    push_decimal(out, number)?;
+    out.push_str(" ")?;
     push_origin(out, set, origin)?;
     out.push_str(" ")?;
     push_place(out, set, place)?;

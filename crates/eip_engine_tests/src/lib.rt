@@ -8,4 +8,6 @@ mod drains;
 #[cfg(test)]
 mod hubs;
 #[cfg(test)]
+mod sizes;
+#[cfg(test)]
 mod support;

@@ -14,6 +14,11 @@ pub struct Message {
 }
 
 impl Message {
+    /// Where its lists find memory.
+    pub fn alloc(&self) -> Global {
+        self.properties.alloc()
+    }
+
     /// The message of a body, without headers and properties. It takes no memory.
     pub fn of_body(alloc: Global, body: Text) -> Message
         ensures { result ≡ record { body = body; headers = []; properties = [] } }

@@ -83,6 +83,11 @@ impl Pairs {
         }
     }
 
+    /// Where they find memory.
+    pub fn alloc(&self) -> Global {
+        *self.items.allocator()
+    }
+
     /// How many pairs there are.
     pub fn len(&self) -> usize
         ensures { result ≡ length self.now }

@@ -39,6 +39,11 @@ impl Properties {
         }
     }
 
+    /// Where they find memory.
+    pub fn alloc(&self) -> Global {
+        self.pairs.alloc()
+    }
+
     /// How many properties there are.
     pub fn len(&self) -> usize
         ensures len { result ≡ length self.now }

@@ -1,5 +1,5 @@
 use eip_exchange::{Ended, Fault, Message};
-use eip_text::Series;
+use eip_text::{Boxed, Series};
 
 /// What closed a group (Camel manual, *Aggregate*, completion).
 #[derive(Clone, Copy, Debug, PartialEq, Eq)]
@@ -20,9 +20,9 @@ pub enum Answer {
     /// The file was there already.
     Exists,
     /// The processor answered this message.
-    Became(Message),
+    Became(Boxed<Message>),
     /// The processor faulted.
-    Raised(Fault),
+    Raised(Boxed<Fault>),
     /// Whether the predicate holds.
     Holds(bool),
     /// The queue took the copy, which has this number.
@@ -49,7 +49,7 @@ pub enum Answer {
         number: u64,
     },
     /// The aggregator's strategy faulted.
-    Unfit(Fault),
+    Unfit(Boxed<Fault>),
     /// Nobody held the key.
     Fresh,
     /// This exchange holds the key.

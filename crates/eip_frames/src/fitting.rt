@@ -14,7 +14,7 @@ pub fn fits(request: &Request, answer: &Answer) -> bool
         (Request::Send { .. }, Answer::Done | Answer::SendFailed) => true,
         (Request::Send { target, .. }, Answer::Exists) => may_exist(target),
         (Request::Process { .. }, Answer::Became(_)) => true,
-        (Request::Process { .. }, Answer::Raised(fault)) => is_name(fault.kind.bytes()),
+        (Request::Process { .. }, Answer::Raised(fault)) => is_name(fault.get().kind.bytes()),
         (Request::Test { .. }, Answer::Holds(_)) => true,
         (Request::Offer { .. }, Answer::Queued(_)) => true,
         (Request::Offer { discard, .. }, Answer::Full(_)) => !discard,

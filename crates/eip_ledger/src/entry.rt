@@ -1,6 +1,6 @@
 use eip_exchange::Message;
 use eip_frames::Answer;
-use eip_text::Text;
+use eip_text::{Boxed, Text};
 
 /// Why a source's item is no exchange.
 #[derive(Clone, Copy, Debug, PartialEq, Eq)]
@@ -20,7 +20,7 @@ pub enum Kind {
     Accept {
         source: u32,
         item: Text,
-        message: Message,
+        message: Boxed<Message>,
     },
     /// The source gave an item that is no exchange.
     Refuse {

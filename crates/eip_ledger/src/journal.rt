@@ -1,26 +1,63 @@
-ghost use Rattle.std.specs.Prelude.{◌≡◌, ◌<◌, ◌≤◌, ◌-◌, ◌∷◌, [], ℕ, reverse, OnOk, OnErr};
+ghost use Rattle.std.specs.Prelude.{◌≡◌, ◌<◌, ◌≤◌, ◌-◌, ◌+◌, ◌∷◌, [], ℕ, reverse, length, IfOk, OnOk, OnErr};
+ghost use Rattle.eip_ledger.specs.declared.entry.Kind.TheVariants.{Accept};
 ghost use Rattle.eip_ledger.specs.Journal.{IsSameJournal};
 
-use crate::entry::Entry;
-use eip_text::NoMemory;
+use crate::entry::{Entry, Kind};
+use eip_exchange::Message;
+use eip_text::{Boxed, NoMemory, Text};
 use std::alloc::Global;
 use std::marker::Model;
 
 /// The journal of a run: its limits and its entries. Contracts see the entries with the newest first.
 #[derive(Drop)]
 pub struct Journal {
+    alloc: Global,
     workers: u32,
     turns: u32,
     entries: Vec<Entry>,
+    // Room for the messages of as many accepted items as entries are reserved.
+    letters: Vec<Boxed<Message>>,
 }
 
 impl Model for Journal {
-    ghost use Rattle.std.specs.Prelude.{reverse, vec_capacity, vec_len, ◌-◌};
+    ghost use Rattle.std.specs.Prelude.{reverse, length, vec_capacity, vec_len, ◌+◌, ◌≤◌};
     ghost use Rattle.eip_ledger.specs.View.{JournalView};
 
     ghost Value = { JournalView };
 
-    ghost view = { λ j. record { workers = j.workers; turns = j.turns; past = reverse j.entries.items; spare = vec_capacity j.entries - vec_len j.entries } };
+    ghost view = { λ j. record { workers = j.workers; turns = j.turns; past = reverse j.entries.items; spare = length j.letters.items } };
+
+    ghost invariant = { λ j. vec_len j.entries + length j.letters.items ≤ vec_capacity j.entries };
+}
+
+/// Room for so many more messages, of which each is empty; on `NoMemory` none.
+fn new_letters(alloc: Global, count: usize) -> Result<Vec<Boxed<Message>>, NoMemory>
+    ensures { IfOk result (λ v. length v.items ≡ count) }
+{
+    let mut letters = Vec::with_capacity(alloc, count)?;
+    for _index in 0..count {
+        let empty = Message::of_body(alloc, Text::of_str(alloc, "")?);
+        letters.push(Boxed::of(alloc, empty)?)?;
+    }
+    Ok(letters)
+}
+
+/// Room for so many messages, with what is there; on `NoMemory` there is as much as before.
+fn make_letters(
+    alloc: Global,
+    letters: &mut Vec<Boxed<Message>>,
+    count: usize,
+) -> Result<(), NoMemory>
+    ensures more { length letters.old.items ≤ length letters.new.items }
+    ensures ok { OnOk result (count ≤ length letters.new.items) }
+    ensures within { length letters.new.items ≤ length letters.old.items + (count - length letters.old.items) }
+    ensures err { OnErr result (length letters.new.items ≡ length letters.old.items) }
+{
+    if letters.len() < count {
+        let mut fresh = new_letters(alloc, count - letters.len())?;
+        letters.append(&mut fresh)?;
+    }
+    Ok(())
 }
 
 impl Journal {
@@ -31,9 +68,11 @@ impl Journal {
         ensures past { result.past ≡ [] }
     {
         Journal {
+            alloc,
             workers,
             turns,
             entries: Vec::new(alloc),
+            letters: Vec::new(alloc),
         }
     }
 
@@ -65,7 +104,8 @@ impl Journal {
         ensures spare { self.old.spare ≤ self.new.spare }
         ensures same { IsSameJournal self.old self.new }
     {
-        Ok(self.entries.reserve(n)?)
+        self.entries.reserve(n)?;
+        make_letters(self.alloc, &mut self.letters, n)
     }
 
     /// The entry goes behind the others, into room that was reserved.
@@ -77,5 +117,30 @@ impl Journal {
         ensures turns { self.new.turns ≡ self.old.turns }
     {
         self.entries.push_reserved(entry);
+        if self.entries.len() + self.letters.len() > self.entries.capacity() {
+            drop(self.letters.pop());
+        }
+    }
+
+    /// The entry that a source's item was accepted goes behind the others, into room that was reserved.
+    pub fn accept_reserved(&mut self, worker: u32, source: u32, item: Text, message: Message)
+        requires { 0 < self.old.spare }
+        ensures past { self.new.past ≡ (record { worker = worker; kind = Accept source item message }) ∷ self.old.past }
+        ensures spare { self.old.spare - 1 ≤ self.new.spare }
+        ensures workers { self.new.workers ≡ self.old.workers }
+        ensures turns { self.new.turns ≡ self.old.turns }
+    {
+        let Some(mut letter) = self.letters.pop() else {
+            unreachable!()
+        };
+        drop(letter.replace(message));
+        self.entries.push_reserved(Entry {
+            worker,
+            kind: Kind::Accept {
+                source,
+                item,
+                message: letter,
+            },
+        });
     }
 }

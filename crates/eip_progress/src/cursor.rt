@@ -1,11 +1,11 @@
 ghost use Rattle.std.specs.Prelude.{◌≡◌};
 ghost use Rattle.eip_progress.specs.Rest.{asked_at, state_place, wait_place};
 
-use crate::boxed::Boxed;
 use crate::frame::{Frame, Wait};
 use eip_exchange::{End, Message, Origin, Work};
 use eip_frames::{At, Request};
 use eip_meaning::Context;
+use eip_text::Boxed;
 use eip_uri::Uri;
 
 /// What comes next of an exchange.

@@ -1,8 +1,8 @@
-use crate::boxed::Boxed;
 use crate::cursor::State;
 use crate::tried::Asking;
 use eip_exchange::{End, Fault, Message};
 use eip_meaning::Context;
+use eip_text::Boxed;
 
 /// What is tried.
 #[derive(Clone, Copy)]

@@ -1,13 +1,11 @@
 // How far an exchange is on its way through a route, as data, and what is left of its meaning. There is no code but to read it.
 #![tactic(auto)]
 
-mod boxed;
 mod cursor;
 mod frame;
 mod queue;
 mod tried;
 
-pub use boxed::Boxed;
 pub use cursor::{Cursor, Next, State};
 pub use frame::{Frame, Now, Task, Turn, Wait};
 pub use queue::Queue;

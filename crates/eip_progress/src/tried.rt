@@ -1,11 +1,10 @@
 ghost use Rattle.std.specs.Prelude.{◌≡◌, IfOk};
 ghost use Rattle.eip_progress.specs.Tries.{asked};
 
-use crate::boxed::Boxed;
 use crate::queue::Queue;
 use eip_exchange::{Ended, Fault, Message};
 use eip_frames::{Request, Seed};
-use eip_text::{NoMemory, Series};
+use eip_text::{Boxed, NoMemory, Series};
 use std::alloc::Global;
 
 /// How far one try of a step is: what its request was for.

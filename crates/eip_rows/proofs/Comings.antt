@@ -6,7 +6,7 @@ use Rattle.eip_frames.specs.declared.request.Request.TheVariants.{Arrive}
 use Rattle.eip_aggregator.specs.Tables.{Table}
 use Rattle.eip_aggregator.specs.declared.closed.Arrived.{Arrived}
 use Rattle.eip_aggregator.specs.declared.closed.Closed.{Closed}
-use Rattle.eip_tables.specs.declared.row.Row.{Row}
+use Rattle.eip_tables.specs.Row.{Row}
 use Rattle.eip_rows.specs.Coming.{Joins, Comes, ComesTo, outcome}
 use Rattle.eip_rows.specs.declared.coming.Coming.{Coming}
 

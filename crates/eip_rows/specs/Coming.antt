@@ -10,7 +10,7 @@ use Rattle.eip_aggregator.specs.declared.closed.Arrived.{Arrived}
 use Rattle.eip_aggregator.specs.declared.closed.Closed.{Closed}
 use Rattle.eip_strategy.specs.declared.fault.StrategyFault.{StrategyFault}
 use Rattle.eip_meaning.specs.Parts.{fault_of_strategy}
-use Rattle.eip_tables.specs.declared.row.Row.{Row}
+use Rattle.eip_tables.specs.Row.{Row}
 use Rattle.eip_tables.specs.Groups.{settings, coming}
 use Rattle.eip_rows.specs.declared.coming.Coming.{Coming}
 use Rattle.eip_rows.specs.declared.coming.Coming.TheVariants.{Open, Shut, Unfit}

@@ -10,7 +10,7 @@ use eip_parts::values::{empty, route_id};
 use eip_route::{Aggregate, RouteSet};
 use eip_tables::aggregators::{aggregator_among, plain_aggregate};
 use eip_tables::row::Row;
-use eip_text::{NoMemory, Text};
+use eip_text::{Boxed, NoMemory, Text};
 use std::alloc::Global;
 
 /// What came of an exchange's arrival at its aggregator (Hohpe and Woolf, *Aggregator*).
@@ -21,7 +21,7 @@ pub enum Coming {
     /// It joined this group, which closed with it.
     Shut(Closed),
     /// The aggregator's strategy can't add it.
-    Unfit(Fault),
+    Unfit(Boxed<Fault>),
 }
 
 /// The exchange with this number and row comes to the aggregator that it asks to take it. On `NoMemory` the groups are as before.
@@ -38,7 +38,7 @@ pub fn come(
     ensures ok { IfOk result (λ came. ComesTo set.now row.now number clock groups.old groups.new came) }
     ensures err { OnErr result (groups.new ≡ groups.old) }
 {
-    let Some(request) = &row.request else {
+    let Some(request) = row.request() else {
         unreachable!()
     };
     let Request::Arrive {
@@ -93,7 +93,10 @@ fn arrive(
     let route = route_id(set, row.at().route, &none);
     match groups.arrive(setting, key, message, row.hops(), number, route, clock) {
         Ok(arrived) => Ok(outcome(arrived)),
-        Err(ArriveFault::Unfit(found)) => Ok(Coming::Unfit(strategy_fault(alloc, found)?)),
+        Err(ArriveFault::Unfit(found)) => {
+            let fault = strategy_fault(alloc, found)?;
+            Ok(Coming::Unfit(Boxed::of(alloc, fault)?))
+        },
         Err(ArriveFault::NoMemory) => Err(NoMemory),
     }
 }

@@ -3,8 +3,8 @@ ghost use Rattle.eip_history.specs.Place.{end_of};
 ghost use Rattle.eip_plan.specs.Plan.{plan_of};
 ghost use Rattle.eip_meaning.specs.Meaning.{mean};
 ghost use Rattle.eip_progress.specs.Rest.{rest, IsFirst};
-ghost use Rattle.eip_rows.specs.First.{CanBegin};
-ghost use Rattle.eip_tables.specs.Look.{CanTake, Stepped, HasCursor, LookedAt, birth_at, birth_of as told_birth, FirstLook};
+ghost use Rattle.eip_rows.specs.First.{CanBegin, MayStep, SteppedOn};
+ghost use Rattle.eip_tables.specs.Look.{CanTake, Stepped, HasCursor, LookedAt, birth_at, birth_of as told_birth, AsksFirst, FirstLive};
 ghost use Rattle.eip_tables.specs.Offers.{copy_birth as offered_copy};
 ghost use Rattle.eip_tables.specs.Groups.{completed};
 ghost use Rattle.eip_history.specs.Births.{name_of};
@@ -13,10 +13,10 @@ use eip_cursor::{Advance, Cursor, Next};
 use eip_exchange::{Birth, Care, Message, Origin, Work};
 use eip_frames::{Answer, Completion, Request};
 use eip_ledger::{Entry, Kind};
-use eip_progress::Boxed;
 use eip_route::RouteSet;
+use eip_tables::live::Live;
 use eip_tables::row::{self, Born, Row};
-use eip_text::{NoMemory, Text};
+use eip_text::{Boxed, NoMemory, Text};
 use std::alloc::Global;
 use std::mem;
 
@@ -37,22 +37,31 @@ fn step(
     }
 }
 
-/// The cursor of a birth with what it asks first.
-pub fn first_cursor(
-    alloc: Global,
-    birth: Birth,
-    set: &RouteSet,
-) -> Result<(Boxed<Cursor>, Request), NoMemory>
+/// What the exchange of a birth has at its first look: its cursor, and what that asks first.
+pub fn first_cursor(alloc: Global, birth: Birth, set: &RouteSet) -> Result<Boxed<Live>, NoMemory>
     requires { end_of (mean set.now birth []) ≡ None }
-    ensures { IfOk result (λ p. Stepped set.now (mean set.now birth) [] p.0 p.1) }
+    ensures { IfOk result (AsksFirst set.now (mean set.now birth)) }
 {
     let (first, next) = Cursor::begin(alloc, birth, set)?;
     match next {
-        Next::Asks(request) => {
-            let cursor = Boxed::of(alloc, first)?;
-            Ok((cursor, request))
-        }
+        Next::Asks(request) => Live::asking(alloc, first, request),
         Next::Ended(..) => unreachable!(),
+    }
+}
+
+/// Gives the cursor of a live exchange an answer, behind which it goes on and asks again. On `NoMemory` all is as before.
+fn step_on(live: &mut Live, alloc: Global, set: &RouteSet, answer: &Answer) -> Result<(), NoMemory>
+    requires { MayStep set.now answer.now live.old }
+    ensures ok { OnOk result (SteppedOn set.now answer.now live.old live.new) }
+    ensures err { OnErr result (live.new ≡ live.old) }
+{
+    match &mut live.cursor {
+        Some(cursor) => {
+            let request = step(cursor, alloc, set, answer)?;
+            drop(mem::replace(&mut live.request, Some(request)));
+            Ok(())
+        }
+        None => unreachable!(),
     }
 }
 
@@ -67,16 +76,16 @@ pub fn look_at(
     ensures ok { OnOk result (LookedAt set.now answer.now row.old row.new) }
     ensures err { OnErr result (row.new ≡ row.old) }
 {
-    let Some(mut cursor) = row.cursor.take() else {
+    let Some(mut live) = row::take_live(row) else {
         unreachable!()
     };
-    match step(cursor.get_mut(), alloc, set, answer) {
-        Ok(request) => {
-            row::begin(row, cursor, request);
+    match step_on(live.get_mut(), alloc, set, answer) {
+        Ok(()) => {
+            row::ask(row, live);
             Ok(())
         }
         Err(NoMemory) => {
-            drop(mem::replace(&mut row.cursor, Some(cursor)));
+            row::put_live(row, live);
             Err(NoMemory)
         }
     }
@@ -106,7 +115,7 @@ fn item_birth(alloc: Global, set: &RouteSet, number: u64, kind: &Kind) -> Result
         } => {
             let block = block_of(set, *source);
             let item = item.copy()?;
-            let message = message.copy(alloc)?;
+            let message = message.get().copy(alloc)?;
             Ok(Birth {
                 number,
                 origin: Origin::Source {
@@ -221,7 +230,7 @@ fn birth_of(
     requires { IsSome (told_birth set.now entries.now number row.now) }
     ensures { IfOk result (λ b. told_birth set.now entries.now number row.now ≡ Some b) }
 {
-    match (row.born, &row.birth) {
+    match (row.born(), row.birth()) {
         (Born::Item(entry), _) => match entries.get(entry) {
             Some(entry) => item_birth(alloc, set, number, &entry.kind),
             None => unreachable!(),
@@ -235,16 +244,16 @@ fn birth_of(
     }
 }
 
-/// The first cursor of the exchange with this number and row, with what it asks.
+/// What the exchange with this number and row has behind its first look.
 pub fn first_look(
     alloc: Global,
     set: &RouteSet,
     entries: &[Entry],
     number: u64,
     row: &Row,
-) -> Result<(Boxed<Cursor>, Request), NoMemory>
+) -> Result<Boxed<Live>, NoMemory>
     requires { CanBegin set.now entries.now number row.now }
-    ensures { IfOk result (λ p. FirstLook set.now entries.now number row.now p.0 p.1) }
+    ensures { IfOk result (FirstLive set.now entries.now number row.now) }
 {
     let birth = birth_of(alloc, set, entries, number, row)?;
     let first = first_cursor(alloc, birth, set)?;

@@ -1,5 +1,7 @@
-ghost use Rattle.std.specs.Prelude.{vec_capacity, vec_len, ◌≡◌, ◌+◌, ◌<◌, ◌≤◌, ◌-◌, ◌++◌, ◌∷◌, [], OnOk, length, slice_set, slice_get, Some, All, filter};
-ghost use Rattle.eip_tables.specs.declared.row.Row.{Row as ARow};
+ghost use Rattle.std.specs.Prelude.{◌≡◌, ◌+◌, ◌<◌, ◌≤◌, ◌-◌, ◌++◌, ◌∷◌, [], OnOk, length, slice_set, slice_get, Some, IsSome, All, filter};
+ghost use Rattle.eip_tables.specs.Row.{Row as ARow, asking};
+ghost use Rattle.eip_progress.specs.declared.cursor.Cursor.{Cursor as ACursor};
+ghost use Rattle.eip_frames.specs.declared.request.Request.{Request as ARequest};
 ghost use Rattle.std.specs.Prelude.{OnErr};
 ghost use Rattle.eip_tables.specs.declared.row.Stage.TheVariants.{Starved};
 ghost use Rattle.eip_tables.specs.Moves.{started, begun, answered, held, joining, sleeping, closed, starved_end, last_message, ended_with, finished_asked, ended_by};
@@ -14,41 +16,35 @@ use crate::look::look_at;
 use eip_aggregator::Closed;
 use eip_exchange::{End, Ended, Fault};
 use eip_frames::{Answer, Request, Seed};
-use eip_progress::{Boxed, Cursor};
 use eip_route::RouteSet;
 use eip_tables::groups;
+use eip_tables::live::Live;
 use eip_tables::parts::{self, Parent};
 use eip_tables::rising::RisingNumbers;
-use eip_tables::row::{self, Row};
+use eip_tables::row::{self, Newborn, Row, make_rooms, put_newborn};
 use eip_tables::wanted::first_wanted;
-use eip_text::NoMemory;
+use eip_text::{Boxed, NoMemory};
 use std::alloc::Global;
 use std::marker::Model;
 
-/// The rows of all exchanges, by number from 1, with room that is reserved before rows are added.
+/// The rows of all exchanges, by number from 1, with room that is reserved before rows are added: a place for each row, and an
+/// allocation for what its exchange has.
 #[derive(Drop)]
 pub struct Rows {
+    alloc: Global,
     rows: Vec<Row>,
+    // Where exchanges that are born find room for what they have.
+    rooms: Vec<Boxed<Live>>,
 }
 
 impl Model for Rows {
-    ghost use Rattle.std.specs.Prelude.{vec_capacity, vec_len, ◌-◌};
+    ghost use Rattle.std.specs.Prelude.{vec_capacity, vec_len, ◌-◌, length, min};
     ghost use Rattle.eip_tables.specs.Numbers.{TableView};
-    ghost use Rattle.eip_tables.specs.declared.row.Row.{Row as TheRow};
+    ghost use Rattle.eip_tables.specs.Row.{Row as TheRow};
 
     ghost Value = { TableView TheRow };
 
-    ghost view = { λ r. record { items = r.rows.items; spare = vec_capacity r.rows - vec_len r.rows } };
-}
-
-/// An item goes behind the others, into room that was reserved. For items of every type, since what a row is would be looked at
-/// here for nothing.
-fn put_behind<T: Drop>(items: &mut Vec<T>, item: T)
-    requires { 0 < vec_capacity items.old - vec_len items.old }
-    ensures items { items.new.items ≡ items.old.items ++ item ∷ [] }
-    ensures spare { vec_capacity items.old - vec_len items.old ≤ vec_capacity items.new - vec_len items.new + 1 }
-{
-    items.push_reserved(item);
+    ghost view = { λ r. record { items = r.rows.items; spare = min (vec_capacity r.rows - vec_len r.rows) (length r.rooms.items) } };
 }
 
 impl Rows {
@@ -57,7 +53,9 @@ impl Rows {
         ensures { result.items ≡ [] }
     {
         Rows {
+            alloc,
             rows: Vec::new(alloc),
+            rooms: Vec::new(alloc),
         }
     }
 
@@ -74,16 +72,17 @@ impl Rows {
         ensures ok { OnOk result (count ≤ self.new.spare) }
         ensures spare { self.old.spare ≤ self.new.spare }
     {
-        Ok(self.rows.reserve(count)?)
+        self.rows.reserve(count)?;
+        make_rooms(self.alloc, &mut self.rooms, count)
     }
 
     /// The row of a newborn goes behind the others, into room that was reserved.
-    pub fn put_last(&mut self, row: Row)
+    pub fn put_last(&mut self, newborn: Newborn)
         requires { 0 < self.old.spare }
-        ensures items { self.new.items ≡ self.old.items ++ row ∷ [] }
+        ensures items { self.new.items ≡ self.old.items ++ newborn ∷ [] }
         ensures spare { self.old.spare ≤ self.new.spare + 1 }
     {
-        put_behind(&mut self.rows, row);
+        put_newborn(&mut self.rows, &mut self.rooms, newborn);
     }
 
     /// The row of an exchange.
@@ -106,13 +105,14 @@ impl Rows {
     }
 
     /// The exchange has this first cursor, and asks this.
-    pub fn begin(&mut self, number: u64, cursor: Boxed<Cursor>, request: Request)
+    pub fn begin(&mut self, number: u64, live: Boxed<Live>)
         requires above { 0 < number }
         requires within { number ≤ length self.old.items }
-        ensures items { (r : ARow) → slice_get self.old.items (number - 1) ≡ Some r → self.new.items ≡ slice_set self.old.items (number - 1) (begun cursor request r) }
+        requires first { (c : ACursor) × (q : ARequest) × (live ≡ asking c q) }
+        ensures items { (c : ACursor) (q : ARequest) (r : ARow) → live ≡ asking c q → slice_get self.old.items (number - 1) ≡ Some r → self.new.items ≡ slice_set self.old.items (number - 1) (begun c q r) }
         ensures spare { self.old.spare ≤ self.new.spare }
     {
-        row::begin(&mut self.rows[(number - 1) as usize], cursor, request);
+        row::begin(&mut self.rows[(number - 1) as usize], live);
     }
 
     /// Gives the exchange's cursor an answer, behind which it goes on. On `NoMemory` the rows are as before.
@@ -186,7 +186,7 @@ impl Rows {
         ensures items { self.new.items ≡ self.old.items ++ seed_rows parent (length self.old.items + 1) parent.at.index seeds.items }
         ensures spare { self.old.spare ≤ self.new.spare + length seeds.items }
     {
-        parts::put_parts(&mut self.rows, parent, seeds, faults);
+        parts::put_parts(&mut self.rows, &mut self.rooms, parent, seeds, faults);
     }
 
     /// The rows of the exchanges of groups that close together go behind the others, into room that was reserved.
@@ -196,7 +196,7 @@ impl Rows {
         ensures items { self.new.items ≡ self.old.items ++ group_rows set.now (length self.old.items + 1) closed.items }
         ensures spare { self.old.spare ≤ self.new.spare + length closed.items }
     {
-        groups::put_groups(&mut self.rows, set, closed);
+        groups::put_groups(&mut self.rows, &mut self.rooms, set, closed);
     }
 
     /// What the exchange has waited for has come: the last of its parts has ended, or its moment is there.
@@ -229,17 +229,23 @@ impl Rows {
         ensures ended { (r : ARow) → slice_get self.old.items (number - 1) ≡ Some r → result ≡ ended_with told (last_message r.request) }
         ensures spare { self.old.spare ≤ self.new.spare }
     {
-        row::finish_asked(&mut self.rows[(number - 1) as usize], told)
+        row::finish_asked(&mut self.rows[(number - 1) as usize], self.alloc, told)
     }
 
     /// The exchange ends by this end, as its source took it.
     pub fn end_by(&mut self, number: u64, end: End, answer: &Answer)
         requires above { 0 < number }
         requires within { number ≤ length self.old.items }
+        requires lives { (r : ARow) → slice_get self.old.items (number - 1) ≡ Some r → IsSome r.cursor }
         ensures items { (r : ARow) → slice_get self.old.items (number - 1) ≡ Some r → self.new.items ≡ slice_set self.old.items (number - 1) (ended_by end answer.now r) }
         ensures spare { self.old.spare ≤ self.new.spare }
     {
-        row::end_by(&mut self.rows[(number - 1) as usize], end, answer);
+        row::end_by(
+            &mut self.rows[(number - 1) as usize],
+            self.alloc,
+            end,
+            answer,
+        );
     }
 
     /// The first of these numbers whose exchange is known to ask somebody outside, or is not, as it is wanted.

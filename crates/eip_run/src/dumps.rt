@@ -78,7 +78,7 @@ pub fn judge<F: Files>(
     ensures judged { Judges set path.now (F.files files.old) (F.files_faults files.old) (F.files_faults files.new) result }
 {
     match files.read(&path.folder, &path.name, DUMP_LIMIT)? {
-        FileRead::Bytes(bytes) => Ok(audit_dump(alloc, set, bytes.items())?),
+        FileRead::Bytes(bytes) => Ok(audit_dump(alloc, set, bytes.into_vec())?),
         FileRead::Missing | FileRead::TooLong => {
             drop(set);
             Err(DumpRefusal::BadDump(0))

@@ -9,7 +9,7 @@ use crate::prepare::Refusal;
 use crate::report::Outcome;
 use eip_audit::Verdict;
 use eip_command::fault_line;
-use eip_endbook::{book_text, log_text, summary_text};
+use eip_endbook::{push_book, push_log, summary_text};
 use eip_endpoint::{FilesFault, Sink, SinkFault};
 use eip_hub::Hub;
 use eip_ledger::Stop;
@@ -17,6 +17,12 @@ use eip_route::RouteSet;
 use eip_route_print::print_routes;
 use eip_text::{NoMemory, Text, decimal};
 use std::alloc::Global;
+
+/// How many bytes a line of the log or of the book is likely to have.
+const LIKELY_LINE: usize = 48;
+
+/// For how many lines of either room is made at once.
+const LIKELY_LINES: usize = 1_000_000;
 
 /// What is told of a run.
 #[derive(Clone, Copy)]
@@ -167,14 +173,24 @@ pub fn tell_migration<O: Sink>(
     }
 }
 
+/// How long the log and the book are likely to be, in bytes: so that most need not grow.
+fn likely_length(hub: &Hub) -> usize {
+    let notes = hub.notes().len().min(LIKELY_LINES);
+    let exchanges = hub.total().min(LIKELY_LINES as u64) as usize;
+    (notes + exchanges) * LIKELY_LINE
+}
+
 /// The log, and behind it the book.
 fn whole_text(alloc: Global, hub: &Hub, stop: Stop) -> Result<Text, NoMemory>
     ensures { IfOk result (λ t. t ≡ run_text hub.now.set hub.now.journal.past stop) }
 {
-    let log = log_text(alloc, hub)?;
-    let book = book_text(alloc, hub, &stop)?;
-    let mut text = String::from_str(alloc, log.as_str())?;
-    text.push_str(book.as_str())?;
+    // Where there is no room for all at once, the text asks for it piece by piece.
+    let mut text = match String::with_capacity(alloc, likely_length(hub)) {
+        Ok(text) => text,
+        Err(_) => String::new(alloc),
+    };
+    push_log(&mut text, hub)?;
+    push_book(&mut text, hub, &stop)?;
     Ok(Text::of(text))
 }
 

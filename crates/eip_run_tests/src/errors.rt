@@ -257,13 +257,14 @@ pub fn runs_so<W: AllocGlobal + Threads + Wait + Sync>(
     let alloc = rt.alloc();
     let report = reported(rt, given);
     let entries = report.journal.entries();
-    let answered = letters_of(alloc, entries)?;
-    let ticked = ticks_of(alloc, entries)?;
+    let (answered, ticked) = (letters_of(alloc, entries), ticks_of(alloc, entries));
+    let status = report.status;
+    drop(report);
     Ok(
-        report.status == 0
+        status == 0
             && given.out.bytes() == text.as_bytes()
-            && answered.as_str() == letters
-            && ticked.as_str() == ticks,
+            && answered?.as_str() == letters
+            && ticked?.as_str() == ticks,
     )
 }
 

@@ -39,11 +39,11 @@ fn is_drained<W: AllocGlobal + Threads + Wait + Sync>(
 ) -> Result<bool, NoMemory> {
     let alloc = rt.alloc();
     let routes = route_of(alloc, steps)?;
-    let mut given = given_with(alloc, &DRAIN, routes.as_str(), &[line], SOUND)?;
     let name = Text::of_str(alloc, "lane:w")?;
     let object = WantingLane {};
     let mut lanes = vec![in alloc; Lane { name, object }]?;
     let mut patterns = CratePatterns::new(Vec::new(alloc));
+    let mut given = given_with(alloc, &DRAIN, routes.as_str(), &[line], SOUND)?;
     let report: Report = run(
         rt,
         alloc,

@@ -37,11 +37,11 @@ pub fn fault_of(
         (Request::Send { target, .. }, Answer::Exists) => {
             Ok(Some(target_fault(alloc, "FileExists", target)?))
         }
-        (Request::Process { .. }, Answer::Raised(fault)) => Ok(Some(fault.copy()?)),
+        (Request::Process { .. }, Answer::Raised(fault)) => Ok(Some(fault.get().copy()?)),
         (Request::Offer { queue, .. }, Answer::Full(held)) => {
             Ok(Some(queue_full(alloc, set, *queue, *held)?))
         }
-        (Request::Arrive { .. }, Answer::Unfit(fault)) => Ok(Some(fault.copy()?)),
+        (Request::Arrive { .. }, Answer::Unfit(fault)) => Ok(Some(fault.get().copy()?)),
         _ => Ok(None),
     }
 }
@@ -213,7 +213,7 @@ fn became(alloc: Global, message: Message, answer: &Answer) -> Result<Tried, NoM
     ensures { IfOk result (λ t. t ≡ Tried.Goes (became message answer.now)) }
 {
     match answer {
-        Answer::Became(new) => Ok(Tried::Goes(new.copy(alloc)?)),
+        Answer::Became(new) => Ok(Tried::Goes(new.get().copy(alloc)?)),
         _ => Ok(Tried::Goes(message)),
     }
 }

@@ -10,7 +10,7 @@ use Rattle.eip_exchange.specs.declared.birth.Birth.{Birth}
 use Rattle.eip_history.proofs.Lists.{filter-length}
 use Rattle.eip_history.proofs.Limit.{legal-within}
 use Rattle.eip_plan.specs.Plan.{plan_of}
-use Rattle.eip_tables.specs.declared.row.Row.{Row}
+use Rattle.eip_tables.specs.Row.{Row}
 use Rattle.eip_tables.specs.Numbers.{row_numbers, row_count}
 use Rattle.eip_tables.specs.State.{State, state_of}
 use Rattle.eip_tables.specs.State as state

@@ -19,7 +19,7 @@ use Rattle.eip_plan.specs.Plan.{plan_of}
 use Rattle.eip_progress.specs.declared.cursor.Cursor.{Cursor}
 use Rattle.eip_tables.specs.declared.row.Stage.{Stage}
 use Rattle.eip_tables.specs.declared.row.Stage.TheVariants as stage
-use Rattle.eip_tables.specs.declared.row.Row.{Row}
+use Rattle.eip_tables.specs.Row.{Row}
 use Rattle.eip_tables.specs.Moves.{started}
 use Rattle.eip_tables.specs.State.{State, state_of, state_by, asks_outside, row_outside}
 use Rattle.eip_tables.specs.State as state

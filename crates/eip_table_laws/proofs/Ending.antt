@@ -27,7 +27,7 @@ use Rattle.eip_plan.proofs.Items.{simple_births}
 use Rattle.eip_progress.specs.declared.cursor.Cursor.{Cursor}
 use Rattle.eip_tables.specs.declared.row.Stage.{Stage}
 use Rattle.eip_tables.specs.declared.row.Stage.TheVariants as stage
-use Rattle.eip_tables.specs.declared.row.Row.{Row}
+use Rattle.eip_tables.specs.Row.{Row}
 use Rattle.eip_tables.specs.Moves.{woken, woken_stage}
 use Rattle.eip_tables.specs.Numbers.{row_numbers}
 use Rattle.eip_tables.specs.State.{State, state_of, state_by, asks_outside, row_outside}

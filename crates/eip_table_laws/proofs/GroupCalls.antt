@@ -16,7 +16,7 @@ use Rattle.eip_ledger.specs.declared.place.Place.TheVariants as place_is
 use Rattle.eip_strategy.specs.Adding.{added}
 use Rattle.eip_strategy.specs.declared.fault.StrategyFault.{StrategyFault}
 use Rattle.eip_aggregator.specs.Arrivals as table
-use Rattle.eip_aggregator.specs.Arrivals.{Call, Came, parts_of, number_of, begun, next_number, cause_of, group_of}
+use Rattle.eip_aggregator.specs.Arrivals.{Came, parts_of, number_of, begun, next_number, cause_of, group_of}
 use Rattle.eip_aggregator.specs.Tables as tables
 use Rattle.eip_aggregator.specs.Tables.{Table, added_at as added_by, answer_at, closed_by, closed_as}
 use Rattle.eip_aggregator.specs.declared.closed.Arrived.{Arrived}
@@ -36,7 +36,7 @@ use Rattle.eip_meaning.specs.Parts.{fault_of_strategy}
 use Rattle.eip_meaning.specs.Values.{id_of}
 use Rattle.eip_plan.specs.Plan.{plan_of, setting_of, added_one}
 use Rattle.eip_progress.specs.declared.cursor.Cursor.{Cursor}
-use Rattle.eip_tables.specs.declared.row.Row.{Row}
+use Rattle.eip_tables.specs.Row.{Row}
 use Rattle.eip_tables.specs.Moves.{answered}
 use Rattle.eip_tables.specs.Offers.{hops_by}
 use Rattle.eip_tables.specs.Parts.{at_by}

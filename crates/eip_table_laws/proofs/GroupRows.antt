@@ -4,7 +4,7 @@ use Rattle.std.specs.List.{slice_get}
 use Rattle.std.proofs.lemmas.List.{append-nil}
 use Rattle.eip_route.specs.declared.route.RouteSet.{RouteSet}
 use Rattle.eip_aggregator.specs.declared.closed.Closed.{Closed}
-use Rattle.eip_tables.specs.declared.row.Row.{Row}
+use Rattle.eip_tables.specs.Row.{Row}
 use Rattle.eip_tables.specs.Numbers.{row_numbers, row_count, numbers_from}
 use Rattle.eip_tables.specs.State.{row_outside}
 use Rattle.eip_tables.specs.Groups.{group_rows}

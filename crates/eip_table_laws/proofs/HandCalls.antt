@@ -1,5 +1,5 @@
 -- The tables behind each entry of an exchange that waits for somebody outside.
-use Rattle.std.proofs.Common.{◌≡◌, ℕ, suc, ◌+◌, ◌-◌, ◌≤◌, Bool, true, false, ◌&&◌, not, List, [], ◌∷◌, length, filter, set as put_at, Option, Some, None, is_some, refl, sym, ap, subst, ◌∙◌, arith, add-zero, inr, eq-eqb, ◌<◌}
+use Rattle.std.proofs.Common.{◌≡◌, ℕ, suc, ◌+◌, ◌-◌, ◌≤◌, Bool, true, false, ◌&&◌, not, List, [], ◌∷◌, length, filter, set as put_at, Option, Some, None, IsSome, is_some, refl, sym, ap, subst, ◌∙◌, arith, add-zero, inr, eq-eqb, ◌<◌}
 use Rattle.std.specs.List.{slice_get}
 use Rattle.std.proofs.lemmas.List.{append-nil}
 use Rattle.std.proofs.lemmas.Option.{slice_get_within}
@@ -45,7 +45,7 @@ use Rattle.eip_join.specs.Parts.{Open}
 use Rattle.eip_tables.specs.declared.row.Born.TheVariants as made
 use Rattle.eip_tables.specs.declared.row.Stage.{Stage}
 use Rattle.eip_tables.specs.declared.row.Stage.TheVariants as stage
-use Rattle.eip_tables.specs.declared.row.Row.{Row}
+use Rattle.eip_tables.specs.Row.{Row}
 use Rattle.eip_tables.specs.Moves.{answered, held, closed, finished, end_asked, ended_by, starved_end}
 use Rattle.eip_tables.specs.Closing.{Closing}
 use Rattle.eip_tables.specs.Closing as closing
@@ -367,6 +367,10 @@ module _ {routes : RouteSet} {workers limit : ℕ} {past : Past} (t : Tables) (w
 
     pub held-not-outside : row_outside r ≡ false
     held-not-outside = (held-fields r.stage r.cursor r.request r.fault in-hand.0 w in-hand.1).1
+
+    -- it has a cursor
+    pub held-cursor : IsSome r.cursor
+    held-cursor = let f = held-fields r.stage r.cursor r.request r.fault in-hand.0 w in-hand.1 in rw f.0 refl
 
     -- its newest request is the one that the ticket has
     record HeldAsks (q : Request) : Type 0 where

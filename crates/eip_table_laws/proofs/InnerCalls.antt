@@ -11,7 +11,7 @@ use Rattle.eip_history.specs.Rules.{outside_asked}
 use Rattle.eip_plan.specs.Plan.{plan_of}
 use Rattle.eip_ledger.specs.declared.place.Place.TheVariants as place_is
 use Rattle.eip_history.specs.Place.{place}
-use Rattle.eip_tables.specs.declared.row.Row.{Row}
+use Rattle.eip_tables.specs.Row.{Row}
 use Rattle.eip_tables.specs.State.{known_of}
 use Rattle.eip_tables.specs.Stands.{Tables, Stands}
 use Rattle.eip_table_laws.proofs.LookCalls.{known-state}

@@ -1,5 +1,5 @@
 -- The tables behind the answer to an exchange that offers a key.
-use Rattle.std.proofs.Common.{◌≡◌, ℕ, ◌+◌, ◌-◌, ◌≤◌, Bool, List, [], ◌∷◌, ◌++◌, length, set as put_at, Some, None, refl, ap, ◌∙◌}
+use Rattle.std.proofs.Common.{◌≡◌, ℕ, ◌+◌, ◌-◌, ◌≤◌, Bool, List, [], ◌∷◌, length, set as put_at, Some, None, refl, ◌∙◌}
 use Rattle.std.specs.List.{slice_get}
 use Rattle.std.proofs.lemmas.List.{append-nil}
 use Rattle.eip_route.specs.declared.route.RouteSet.{RouteSet}
@@ -14,12 +14,12 @@ use Rattle.eip_idempotent.specs.declared.repo.Offered.{Offered}
 use Rattle.eip_idempotent.specs.declared.repo.Offered.TheVariants as offered
 use Rattle.eip_history.specs.Own.{Past}
 use Rattle.eip_history.specs.Births.{Asked, asked}
-use Rattle.eip_history.specs.Place.{place, ended, end_of}
+use Rattle.eip_history.specs.Place.{place, ended}
 use Rattle.eip_history.specs.Rules.{IsBelow}
 use Rattle.eip_history.proofs.Places.{ended-is}
 use Rattle.eip_plan.specs.Plan.{plan_of}
 use Rattle.eip_progress.specs.declared.cursor.Cursor.{Cursor}
-use Rattle.eip_tables.specs.declared.row.Row.{Row}
+use Rattle.eip_tables.specs.Row.{Row}
 use Rattle.eip_tables.specs.Keys.{Offers, key_answer}
 use Rattle.eip_tables.specs.Moves.{answered}
 use Rattle.eip_tables.specs.State as state

@@ -15,10 +15,10 @@ use Rattle.eip_plan.specs.Plan.{plan_of}
 use Rattle.eip_progress.specs.declared.cursor.Cursor.{Cursor}
 use Rattle.eip_tables.specs.declared.row.Stage.{Stage}
 use Rattle.eip_tables.specs.declared.row.Stage.TheVariants as stage
-use Rattle.eip_tables.specs.declared.row.Row.{Row}
+use Rattle.eip_tables.specs.Row.{Row}
 use Rattle.eip_tables.specs.Moves.{begun, new_row}
 use Rattle.eip_tables.specs.State as state
-use Rattle.eip_tables.specs.State.{state_of, state_by, known_of, asks_outside, row_outside}
+use Rattle.eip_tables.specs.State.{state_by, known_of, asks_outside, row_outside}
 use Rattle.eip_tables.specs.Numbers.{row_numbers}
 use Rattle.eip_tables.specs.Outside.{outside_looked}
 use Rattle.eip_tables.specs.Stands.{Tables, Stands}

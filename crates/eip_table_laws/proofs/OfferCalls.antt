@@ -30,7 +30,7 @@ use Rattle.eip_plan.specs.Plan.{plan_of}
 use Rattle.eip_plan.specs.Simple.{AnswersSimply}
 use Rattle.eip_plan.proofs.Items.{simple_births, births-simply}
 use Rattle.eip_progress.specs.declared.cursor.Cursor.{Cursor}
-use Rattle.eip_tables.specs.declared.row.Row.{Row}
+use Rattle.eip_tables.specs.Row.{Row}
 use Rattle.eip_tables.specs.Offers.{AsksOffer, offer_asked}
 use Rattle.eip_tables.specs.State.{state_of, known_of}
 use Rattle.eip_tables.specs.State as state

@@ -18,7 +18,7 @@ use Rattle.eip_tables.specs.declared.row.Born.{Born}
 use Rattle.eip_tables.specs.declared.row.Born.TheVariants as made
 use Rattle.eip_tables.specs.declared.row.Stage.{Stage}
 use Rattle.eip_tables.specs.declared.row.Stage.TheVariants as stage
-use Rattle.eip_tables.specs.declared.row.Row.{Row}
+use Rattle.eip_tables.specs.Row.{Row}
 use Rattle.eip_tables.specs.State.{state_by}
 use Rattle.eip_tables.specs.Rows.{ComesFrom, RowStands, entry_at}
 use Rattle.eip_tables.specs.Stands.{Tables, Stands}

@@ -53,7 +53,7 @@ use Rattle.eip_tables.specs.declared.row.Born.{Born}
 use Rattle.eip_tables.specs.declared.row.Born.TheVariants as made
 use Rattle.eip_tables.specs.declared.row.Stage.{Stage}
 use Rattle.eip_tables.specs.declared.row.Stage.TheVariants as stage
-use Rattle.eip_tables.specs.declared.row.Row.{Row}
+use Rattle.eip_tables.specs.Row.{Row}
 use Rattle.eip_tables.specs.Moves.{answered, copy_row, finished, last_message, part_end, ended_with, starved_end, closed as closed_row}
 use Rattle.eip_tables.specs.Offers.{hops_by, copy_birth, refusal}
 use Rattle.eip_tables.specs.Closing as closing

@@ -30,7 +30,7 @@ use Rattle.eip_plan.specs.Simple.{IsSimpleAnswer, IsSimpleEntry}
 use Rattle.eip_plan.proofs.Items.{simple_births}
 use Rattle.eip_seda.specs.Consuming.{QueueView}
 use Rattle.eip_join.specs.Parts.{Open}
-use Rattle.eip_tables.specs.declared.row.Row.{Row}
+use Rattle.eip_tables.specs.Row.{Row}
 use Rattle.eip_tables.specs.Numbers.{row_numbers, row_count}
 use Rattle.eip_tables.specs.Queues.{QueuesStand}
 use Rattle.eip_tables.specs.Joins.{JoinsStand}

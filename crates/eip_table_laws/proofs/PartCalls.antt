@@ -15,7 +15,7 @@ use Rattle.eip_ledger.specs.declared.entry.Entry.{Entry}
 use Rattle.eip_ledger.specs.declared.entry.Kind.TheVariants.{Answer}
 use Rattle.eip_ledger.specs.declared.place.Place.TheVariants as place_is
 use Rattle.eip_join.specs.Parts as join
-use Rattle.eip_join.specs.Parts.{Call, Began, Open, IsPart, IsFree, AreNew, join_over}
+use Rattle.eip_join.specs.Parts.{Call, Began, Open, IsFree, AreNew, join_over}
 use Rattle.eip_join.proofs.Standing.{length-ends}
 use Rattle.eip_meaning.proofs.Scripts.{AreFew}
 use Rattle.eip_progress.specs.declared.cursor.Cursor.{Cursor}
@@ -32,7 +32,7 @@ use Rattle.eip_history.proofs.Acting.{ended-beside}
 use Rattle.eip_plan.proofs.Laws.{plan-laws}
 use Rattle.eip_plan.specs.Plan.{plan_of}
 use Rattle.eip_tables.specs.declared.parts.Parent.{Parent}
-use Rattle.eip_tables.specs.declared.row.Row.{Row}
+use Rattle.eip_tables.specs.Row.{Row}
 use Rattle.eip_tables.specs.Moves.{joining, part_row}
 use Rattle.eip_tables.specs.Numbers.{row_numbers, row_count, numbers_from}
 use Rattle.eip_tables.specs.Offers.{hops_by}

@@ -35,7 +35,7 @@ use Rattle.eip_tables.specs.State.{State, state_of}
 use Rattle.eip_tables.specs.State as state
 use Rattle.eip_tables.specs.declared.row.Born.{Born}
 use Rattle.eip_tables.specs.declared.row.Born.TheVariants as made
-use Rattle.eip_tables.specs.declared.row.Row.{Row}
+use Rattle.eip_tables.specs.Row.{Row}
 use Rattle.eip_tables.specs.Rows.{entry_at, IsBornAt, ComesFrom, Keeps, has_left, pause_place, Follows, IsAsking, HasAnswer, StateStands, RowStands, closed_end, row_ready, row_held, row_live, state_ready, state_held, state_live}
 
 -- the meaning of a set is that of its plan

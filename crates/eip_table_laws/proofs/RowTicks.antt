@@ -24,7 +24,7 @@ use Rattle.eip_plan.specs.Plan.{plan_of}
 use Rattle.eip_progress.specs.declared.cursor.Cursor.{Cursor}
 use Rattle.eip_tables.specs.declared.row.Stage.{Stage}
 use Rattle.eip_tables.specs.declared.row.Stage.TheVariants as stage
-use Rattle.eip_tables.specs.declared.row.Row.{Row}
+use Rattle.eip_tables.specs.Row.{Row}
 use Rattle.eip_tables.specs.Moves.{woken}
 use Rattle.eip_tables.specs.Numbers.{row_count, row_numbers}
 use Rattle.eip_tables.specs.State.{State, state_of, state_by, row_outside}

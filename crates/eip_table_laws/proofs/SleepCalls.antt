@@ -20,11 +20,11 @@ use Rattle.eip_history.specs.Tables.{without}
 use Rattle.eip_history.proofs.Places.{clock-same}
 use Rattle.eip_plan.specs.Plan.{plan_of}
 use Rattle.eip_progress.specs.declared.cursor.Cursor.{Cursor}
-use Rattle.eip_tables.specs.declared.row.Row.{Row}
+use Rattle.eip_tables.specs.Row.{Row}
 use Rattle.eip_tables.specs.Moves.{answered, sleeping, ticks_asked}
 use Rattle.eip_tables.specs.Sleepers.{due_moment}
 use Rattle.eip_tables.specs.State as state
-use Rattle.eip_tables.specs.State.{State, state_of}
+use Rattle.eip_tables.specs.State.{state_of}
 use Rattle.eip_tables.specs.Rows.{RowStands, IsAsking, HasAnswer, row_ready, row_held, row_live, state_ready, state_held, state_live}
 use Rattle.eip_tables.specs.Stands.{Tables, Stands}
 use Rattle.eip_table_laws.proofs.RowNumbers.{numbers-stay, numbers-leave}

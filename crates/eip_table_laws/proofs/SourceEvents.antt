@@ -30,7 +30,7 @@ use Rattle.eip_history.proofs.Moves.{ends-nobody}
 use Rattle.eip_plan.specs.Plan.{plan_of}
 use Rattle.eip_plan.specs.Simple.{IsSimpleEntry, AnswersSimply}
 use Rattle.eip_plan.proofs.Items.{simple_births, births-simply}
-use Rattle.eip_tables.specs.declared.row.Row.{Row}
+use Rattle.eip_tables.specs.Row.{Row}
 use Rattle.eip_tables.specs.Moves.{new_row}
 use Rattle.eip_tables.specs.declared.row.SourceState.{SourceState as Kept}
 use Rattle.eip_tables.specs.declared.row.SourceState.TheVariants as kept

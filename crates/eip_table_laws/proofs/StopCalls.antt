@@ -16,7 +16,7 @@ use Rattle.eip_meaning.specs.Meaning.{item_of}
 use Rattle.eip_progress.specs.declared.cursor.Cursor.{Cursor}
 use Rattle.eip_history.specs.Plan.{Plan}
 use Rattle.eip_history.specs.Own as own_of
-use Rattle.eip_history.specs.Own.{Past, numbers_below, numbered, source_state, is_done, Idle}
+use Rattle.eip_history.specs.Own.{Past, numbers_below, source_state, is_done, Idle}
 use Rattle.eip_history.specs.Births.{births, groups}
 use Rattle.eip_history.specs.Place.{place, place_of, count_at, is_ended}
 use Rattle.eip_history.specs.Rules.{unfinished, any_group}
@@ -28,7 +28,7 @@ use Rattle.eip_tables.specs.declared.row.Born.{Born}
 use Rattle.eip_tables.specs.declared.row.Born.TheVariants as made
 use Rattle.eip_tables.specs.declared.row.Stage.{Stage}
 use Rattle.eip_tables.specs.declared.row.Stage.TheVariants as stage
-use Rattle.eip_tables.specs.declared.row.Row.{Row}
+use Rattle.eip_tables.specs.Row.{Row}
 use Rattle.eip_tables.specs.declared.row.SourceState.{SourceState}
 use Rattle.eip_tables.specs.declared.row.SourceState.TheVariants as source
 use Rattle.eip_tables.specs.State.{state_by}

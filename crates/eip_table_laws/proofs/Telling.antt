@@ -36,7 +36,7 @@ use Rattle.eip_plan.proofs.Laws.{plan-laws}
 use Rattle.eip_tables.specs.declared.row.Born.{Born}
 use Rattle.eip_tables.specs.declared.row.Born.TheVariants as made
 use Rattle.eip_tables.specs.Joins.{JoinsStand, MayTell, Tells, Wakes, closing}
-use Rattle.eip_tables.specs.declared.row.Row.{Row}
+use Rattle.eip_tables.specs.Row.{Row}
 use Rattle.eip_tables.specs.Moves.{starved_end}
 use Rattle.eip_tables.specs.Rows.{ComesFrom, Keeps, RowStands}
 use Rattle.eip_tables.specs.Stands.{Tables, Stands}

@@ -26,7 +26,7 @@ use Rattle.eip_history.proofs.Places.{clock-same}
 use Rattle.eip_history.proofs.Unborn.{newborn-own}
 use Rattle.eip_plan.specs.Plan.{plan_of}
 use Rattle.eip_plan.proofs.Items.{births-simply}
-use Rattle.eip_tables.specs.declared.row.Row.{Row}
+use Rattle.eip_tables.specs.Row.{Row}
 use Rattle.eip_tables.specs.Numbers.{row_numbers, row_count, numbers_from}
 use Rattle.eip_tables.specs.Groups.{settings, group_calls, group_rows}
 use Rattle.eip_tables.specs.Rows.{RowStands, row_ready, row_held, row_live}

@@ -6,3 +6,4 @@ pub mod PutParts
 pub mod PutGroups
 pub mod AnyNumber
 pub mod Outermost
+pub mod Lent

@@ -2,7 +2,7 @@
 use Rattle.std.proofs.Common.{◌≡◌, ◌+◌, List, [], ◌∷◌, ◌++◌, length, sym, ap, ◌∙◌, arith, append_assoc, length-append}
 use Rattle.eip_aggregator.specs.declared.closed.Closed.{Closed}
 use Rattle.eip_route.specs.declared.route.RouteSet.{RouteSet}
-use Rattle.eip_tables.specs.declared.row.Row.{Row}
+use Rattle.eip_tables.specs.Row.{Row}
 use Rattle.eip_tables.specs.Groups.{group_row, group_rows}
 
 pub one-more-group : (set : RouteSet) (x : Closed) (old rest : List Closed) (rows new all : List Row) (row : Row) → old ≡ x ∷ rest → row ≡ group_row set (length rows + 1) x → new ≡ rows ++ row ∷ []

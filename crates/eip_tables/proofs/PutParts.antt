@@ -4,7 +4,7 @@ use Rattle.std.proofs.lemmas.List.{replicate-append-replicate}
 use Rattle.eip_exchange.specs.declared.end.Fault.{Fault}
 use Rattle.eip_frames.specs.declared.request.Seed.{Seed}
 use Rattle.eip_tables.specs.declared.parts.Parent.{Parent}
-use Rattle.eip_tables.specs.declared.row.Row.{Row}
+use Rattle.eip_tables.specs.Row.{Row}
 use Rattle.eip_tables.specs.Moves.{part_row, starving}
 use Rattle.eip_tables.specs.Numbers.{numbers_from}
 use Rattle.eip_tables.specs.Parts.{seed_birth, seed_rows, starving_faults}

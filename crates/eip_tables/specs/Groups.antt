@@ -24,7 +24,7 @@ use Rattle.eip_history.specs.Own.{Past, turns}
 use Rattle.eip_history.specs.Groups.{Arrival, Group, greatest_hops, property}
 use Rattle.eip_history.specs.Births.{Asked, arrival_of, asked, groups, name_of}
 use Rattle.eip_plan.specs.Plan.{plan_of, setting_of, route_around}
-use Rattle.eip_tables.specs.declared.row.Row.{Row}
+use Rattle.eip_tables.specs.Row.{Row}
 use Rattle.eip_tables.specs.Moves.{grouped_row}
 use Rattle.eip_tables.specs.Offers.{hops_by}
 use Rattle.eip_tables.specs.Parts.{at_by}

@@ -1,4 +1,5 @@
 pub mod Numbers
+pub mod Row
 pub mod Moves
 pub mod Offers
 pub mod Parts

@@ -11,7 +11,7 @@ use Rattle.eip_progress.specs.declared.cursor.Cursor.{Cursor}
 use Rattle.eip_progress.specs.Rest.{asked_at}
 use Rattle.eip_history.specs.Tables.{put_in}
 use Rattle.eip_tables.specs.declared.parts.Parent.{Parent}
-use Rattle.eip_tables.specs.declared.row.Row.{Row}
+use Rattle.eip_tables.specs.Row.{Row}
 use Rattle.eip_tables.specs.Moves.{part_row, woken, starving}
 use Rattle.eip_tables.specs.Offers.{hops_by}
 

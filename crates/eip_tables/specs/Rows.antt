@@ -39,7 +39,7 @@ use Rattle.eip_tables.specs.State.{State, state_of}
 use Rattle.eip_tables.specs.State as state
 use Rattle.eip_tables.specs.declared.row.Born.{Born}
 use Rattle.eip_tables.specs.declared.row.Born.TheVariants as born
-use Rattle.eip_tables.specs.declared.row.Row.{Row}
+use Rattle.eip_tables.specs.Row.{Row}
 use Rattle.eip_tables.specs.declared.row.SourceState.{SourceState}
 use Rattle.eip_tables.specs.declared.row.SourceState.TheVariants as source
 

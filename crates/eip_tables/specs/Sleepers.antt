@@ -6,7 +6,7 @@ use Rattle.eip_redelivery.specs.Sleep.{Call}
 use Rattle.eip_history.specs.Own.{Past, numbered}
 use Rattle.eip_history.specs.TableWords.{sleeps}
 use Rattle.eip_plan.specs.Plan.{plan_of}
-use Rattle.eip_tables.specs.declared.row.Row.{Row}
+use Rattle.eip_tables.specs.Row.{Row}
 use Rattle.eip_tables.specs.Moves.{woken}
 use Rattle.eip_tables.specs.State.{State, state_of}
 use Rattle.eip_tables.specs.State as state

@@ -15,7 +15,7 @@ use Rattle.eip_seda.specs.Consuming.{QueueView}
 use Rattle.eip_join.specs.Parts.{Open}
 use Rattle.eip_aggregator.specs.Tables.{Table}
 use Rattle.eip_idempotent.specs.Keys.{Table as KeyTable}
-use Rattle.eip_tables.specs.declared.row.Row.{Row}
+use Rattle.eip_tables.specs.Row.{Row}
 use Rattle.eip_tables.specs.declared.row.SourceState.{SourceState}
 use Rattle.eip_tables.specs.Numbers.{row_numbers, row_count}
 use Rattle.eip_tables.specs.Queues.{QueuesStand}

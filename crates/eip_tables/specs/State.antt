@@ -6,7 +6,7 @@ use Rattle.eip_frames.specs.Fits.{is_outside}
 use Rattle.eip_progress.specs.declared.cursor.Cursor.{Cursor}
 use Rattle.eip_tables.specs.declared.row.Stage.{Stage}
 use Rattle.eip_tables.specs.declared.row.Stage.TheVariants as stage
-use Rattle.eip_tables.specs.declared.row.Row.{Row}
+use Rattle.eip_tables.specs.Row.{Row}
 use Rattle.eip_tables.specs.Closing.{Closing}
 use Rattle.eip_tables.specs.Closing as closing
 

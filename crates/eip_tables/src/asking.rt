@@ -2,6 +2,7 @@ ghost use Rattle.std.specs.Prelude.{◌≡◌, ℕ, Some};
 ghost use Rattle.eip_frames.specs.declared.request.Request.{Request as ARequest};
 ghost use Rattle.eip_tables.specs.Asking.{asked_kind};
 
+use crate::row::Row;
 use eip_frames::{Request, is_outside};
 
 /// What kind of answer an exchange waits for.
@@ -58,11 +59,11 @@ fn kind_of(request: &Request) -> Asked
     }
 }
 
-/// The kind of a request, where there is one.
-pub fn asked_of(request: &Option<Request>) -> Asked
-    ensures { (q : ARequest) → request.now ≡ Some q → result ≡ asked_kind q }
+/// The kind of what an exchange asks, where it asks.
+pub fn asked_of(row: &Row) -> Asked
+    ensures { (q : ARequest) → row.now.request ≡ Some q → result ≡ asked_kind q }
 {
-    match request {
+    match row.request() {
         Some(request) => kind_of(request),
         None => Asked::Unknown,
     }

@@ -1,6 +1,7 @@
 ghost use Rattle.std.specs.Prelude.{◌≡◌, IfOk, OnErr};
 ghost use Rattle.eip_tables.specs.Keys.{IsOffering, OffersAsked, ending_asked, ending_by, key_answer};
 
+use crate::row::Row;
 use eip_exchange::{End, Ending};
 use eip_frames::{Answer, Request};
 use eip_idempotent::{Offered, Repo};
@@ -10,16 +11,12 @@ use eip_text::NoMemory;
 // offers and is answered, and how its claims are settled.
 
 /// An exchange that hasn't ended offers the key that it asks to offer.
-pub fn offer_key(
-    keys: &mut Repo,
-    request: &Option<Request>,
-    number: u64,
-) -> Result<Offered, NoMemory>
-    requires { IsOffering request.now }
-    ensures ok { IfOk result (λ answer. OffersAsked request.now number keys.old keys.new answer) }
+pub fn offer_key(keys: &mut Repo, row: &Row, number: u64) -> Result<Offered, NoMemory>
+    requires { IsOffering row.now.request }
+    ensures ok { IfOk result (λ answer. OffersAsked row.now.request number keys.old keys.new answer) }
     ensures err { OnErr result (keys.new ≡ keys.old) }
 {
-    let Some(request) = request else {
+    let Some(request) = row.request() else {
         unreachable!()
     };
     let Request::Idem {
@@ -45,10 +42,10 @@ pub fn key_answer(offered: Offered) -> Answer
 }
 
 /// How an exchange asks to end; None for any other request.
-pub fn ending_asked(request: &Option<Request>) -> Option<Ending>
-    ensures { result ≡ ending_asked request.now }
+pub fn ending_asked(row: &Row) -> Option<Ending>
+    ensures { result ≡ ending_asked row.now.request }
 {
-    match request {
+    match row.request() {
         Some(Request::Finish { end, .. }) => Some(end.ending()),
         _ => None,
     }

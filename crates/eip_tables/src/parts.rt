@@ -2,10 +2,11 @@ ghost use Rattle.std.specs.Prelude.{◌≡◌, ◌+◌, ◌<◌, ◌≤◌, ◌-
 ghost use Rattle.eip_tables.specs.Moves.{starving, part_row};
 ghost use Rattle.eip_tables.specs.Parts.{seed_birth, seed_rows, parent_of, starving_faults};
 
-use crate::row::Row;
+use crate::live::Live;
+use crate::row::{Newborn, Row, put_newborn};
 use eip_exchange::{Birth, Fault, Origin};
 use eip_frames::{At, Seed};
-use eip_text::{NoMemory, Text};
+use eip_text::{Boxed, NoMemory, Text};
 use std::alloc::Global;
 use std::collections::VecDeque;
 
@@ -72,24 +73,22 @@ fn birth_of(parent: Parent, number: u64, index: u32, seed: Seed) -> Birth
     }
 }
 
-/// An item goes behind the others, into room that was reserved. For items of every type, since what a row is would be looked at
-/// here for nothing.
-pub fn put_behind<T: Drop>(items: &mut Vec<T>, item: T)
-    requires { vec_len items.old < vec_capacity items.old }
-    ensures items { items.new.items ≡ items.old.items ++ item ∷ [] }
-    ensures room { vec_capacity items.old ≤ vec_capacity items.new }
-{
-    items.push_reserved(item);
-}
-
 /// The rows of the parts that these seeds make go behind the others, into room that was reserved, each with a fault for the case that
 /// it is starved. The first one has the number behind the others, and the index at which the parent asks for it.
-pub fn put_parts(rows: &mut Vec<Row>, parent: Parent, seeds: Vec<Seed>, mut faults: Vec<Fault>)
+pub fn put_parts(
+    rows: &mut Vec<Row>,
+    rooms: &mut Vec<Boxed<Live>>,
+    parent: Parent,
+    seeds: Vec<Seed>,
+    mut faults: Vec<Fault>,
+)
     requires room { vec_len rows.old + length seeds.items ≤ vec_capacity rows.old }
+    requires rooms { length seeds.items ≤ length rooms.old.items }
     requires indexes { parent.at.index + length seeds.items ≤ 4294967296 }
     requires faults { faults.items ≡ starving_faults (length seeds.items) }
     ensures items { rows.new.items ≡ rows.old.items ++ seed_rows parent (length rows.old.items + 1) parent.at.index seeds.items }
     ensures room { vec_capacity rows.old ≤ vec_capacity rows.new }
+    ensures rooms { length rooms.old.items ≤ length rooms.new.items + length seeds.items }
 {
     let mut rest = VecDeque::from_vec(seeds);
     let mut done: usize = 0;
@@ -100,7 +99,8 @@ pub fn put_parts(rows: &mut Vec<Row>, parent: Parent, seeds: Vec<Seed>, mut faul
         let number = rows.len() as u64 + 1;
         let index = parent.at.index + done as u32;
         let birth = birth_of(parent, number, index, seed);
-        put_behind(rows, Row::part(parent.number, index, birth, fault));
+        let part = Newborn::part(parent.number, index, birth, fault);
+        put_newborn(rows, rooms, part);
         done += 1;
     }
 }

@@ -41,11 +41,11 @@ fn queue_place(born: Born) -> Place
     }
 }
 
-/// The place of an exchange that failed with this fault.
-fn failed(fault: &Option<Fault>) -> Result<Place, NoMemory>
-    ensures { IfOk result (λ p. p ≡ failed_place fault.now) }
+/// The place of an exchange that failed.
+fn failed(row: &Row) -> Result<Place, NoMemory>
+    ensures { IfOk result (λ p. p ≡ failed_place row.now.fault) }
 {
-    match fault {
+    match row.fault() {
         Some(fault) => Ok(Place::Ended(End::Failed(fault.copy()?))),
         None => Ok(Place::Ready),
     }
@@ -63,21 +63,21 @@ fn fault_of(alloc: Global, kind: &str, text: Text) -> Result<Fault, NoMemory>
 pub fn place_of(alloc: Global, row: &Row, entries: &[Entry]) -> Result<Place, NoMemory>
     ensures { IfOk result (λ p. p ≡ shown entries.now row.now) }
 {
-    match row.stage {
-        Stage::Queued => Ok(queue_place(row.born)),
+    match row.stage() {
+        Stage::Queued => Ok(queue_place(row.born())),
         Stage::Held(worker) => Ok(Place::InHand(worker)),
         Stage::Joining(_) => Ok(Place::Joining),
         Stage::Asleep { due, .. } => Ok(Place::Retry(due)),
         Stage::Completed => Ok(Place::Ended(End::Completed)),
         Stage::Handled => Ok(Place::Ended(End::Handled)),
-        Stage::Failed => failed(&row.fault),
+        Stage::Failed => failed(row),
         Stage::Starved => {
             let text = Text::of_str(alloc, "")?;
             let fault = fault_of(alloc, "OutOfMemory", text)?;
             Ok(Place::Ended(End::Failed(fault)))
         }
         Stage::NotCommitted => {
-            let item = item_born(alloc, entries, row.born)?;
+            let item = item_born(alloc, entries, row.born())?;
             let fault = fault_of(alloc, "CommitFailed", item)?;
             Ok(Place::Ended(End::Failed(fault)))
         }

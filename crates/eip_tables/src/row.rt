@@ -1,13 +1,18 @@
-ghost use Rattle.std.specs.Prelude.{◌≡◌, Some, None, IfOk, option_map};
-ghost use Rattle.eip_tables.specs.Moves.{new_row, copy_row, part_row, grouped_row, starving, started, begun, answered, held, joining, sleeping, woken, closed, starved_end, stage_of, fault_of, finished, end_asked, last_message, part_end, ended_with, ticks_asked, line_asked, finished_asked, ended_by};
+ghost use Rattle.std.specs.Prelude.{◌≡◌, ◌<◌, ◌≤◌, ◌+◌, ◌++◌, ◌∷◌, [], Some, None, IfOk, OnOk, IsSome, MatchOption, length, option_map, vec_len, vec_capacity};
+ghost use Rattle.eip_tables.specs.declared.row.Stage.TheVariants.{Asks};
+ghost use Rattle.eip_tables.specs.Row.{with_live};
+ghost use Rattle.eip_tables.specs.Moves.{new_row, copy_row, part_row, grouped_row, starving, started, answered, held, joining, sleeping, woken, closed, starved_end, stage_of, fault_of, finished, end_asked, last_message, part_end, ended_with, ticks_asked, line_asked, finished_asked, ended_by};
 ghost use Rattle.eip_tables.specs.State.{row_outside};
 ghost use Rattle.eip_tables.specs.Offers.{hops_by, offer_asked, offered_message};
 ghost use Rattle.eip_tables.specs.Parts.{at_by, seeds_asked, count_asked};
 
+use crate::live::{Kept, Live, left_by};
 use eip_exchange::{Birth, End, Ended, Fault, Message};
 use eip_frames::{Answer, At, Completion, Request, Seed, is_outside};
-use eip_progress::{Boxed, Cursor};
-use eip_text::{NoMemory, Text};
+use eip_progress::Cursor;
+use eip_text::{Boxed, NoMemory, Text};
+use std::alloc::Global;
+use std::marker::Model;
 use std::mem;
 
 /// What made an exchange.
@@ -50,19 +55,39 @@ pub enum Stage {
     NotCommitted,
 }
 
-/// What the books keep of one exchange.
+/// What the books keep of one exchange. It is small; what a live exchange has lies in an allocation of its own, which is given up at
+/// its end.
 #[derive(Drop)]
 pub struct Row {
-    pub born: Born,
-    pub stage: Stage,
-    /// What a copy, a part or a closed group's exchange was born as, until it has ended; an item's birth is read from the journal.
-    pub birth: Option<Birth>,
-    /// Its cursor, from the first look until it has ended.
-    pub cursor: Option<Boxed<Cursor>>,
-    /// What it asks, while it asks.
-    pub request: Option<Request>,
-    /// What it failed with, and while a part lives, what it would fail with if it were starved.
-    pub fault: Option<Fault>,
+    born: Born,
+    stage: Stage,
+    kept: Kept,
+}
+
+impl Model for Row {
+    ghost use Rattle.eip_tables.specs.Row.{Row as Known, row_of};
+
+    ghost Value = { Known };
+
+    ghost view = { λ r. row_of r.born r.stage r.kept };
+}
+
+/// An exchange that is born, as its row will show it.
+#[derive(Drop)]
+pub struct Newborn {
+    born: Born,
+    stage: Stage,
+    birth: Option<Birth>,
+    fault: Option<Fault>,
+}
+
+impl Model for Newborn {
+    ghost use Rattle.std.specs.Prelude.{None};
+    ghost use Rattle.eip_tables.specs.Row.{Row as Known};
+
+    ghost Value = { Known };
+
+    ghost view = { λ n. record { born = n.born; stage = n.stage; birth = n.birth; cursor = None; request = None; fault = n.fault } };
 }
 
 /// Where the source of a route stands.
@@ -78,69 +103,122 @@ pub enum SourceState {
     Done,
 }
 
-impl Row {
-    /// The row of an exchange whose item this journal entry accepted.
-    pub fn new(entry: usize) -> Row
+impl Newborn {
+    /// An exchange whose item this journal entry accepted.
+    pub fn of_item(entry: usize) -> Newborn
         ensures { result ≡ new_row entry }
     {
-        Row {
+        Newborn {
             born: Born::Item(entry),
             stage: Stage::New,
             birth: None,
-            cursor: None,
-            request: None,
             fault: None,
         }
     }
 
-    /// The row of a copy that waits in the queue of this route.
-    pub fn queued(queue: u32, birth: Birth) -> Row
+    /// A copy that waits in the queue of this route.
+    pub fn queued(queue: u32, birth: Birth) -> Newborn
         ensures { result ≡ copy_row queue birth }
     {
-        Row {
+        Newborn {
             born: Born::Copy(queue),
             stage: Stage::Queued,
             birth: Some(birth),
-            cursor: None,
-            request: None,
             fault: None,
         }
     }
 
-    /// The row of a part with this birth, and with a fault for the case that it is starved.
-    pub fn part(parent: u64, index: u32, birth: Birth, fault: Fault) -> Row
+    /// A part with this birth, and with a fault for the case that it is starved.
+    pub fn part(parent: u64, index: u32, birth: Birth, fault: Fault) -> Newborn
         requires { fault ≡ starving }
         ensures { result ≡ part_row parent index birth }
     {
-        Row {
+        Newborn {
             born: Born::Part { parent, index },
             stage: Stage::New,
             birth: Some(birth),
-            cursor: None,
-            request: None,
             fault: Some(fault),
         }
     }
 
-    /// The row of the exchange of a group that closed by this cause, with this birth.
-    pub fn grouped(group: u64, cause: Completion, birth: Birth) -> Row
+    /// The exchange of a group that closed by this cause, with this birth.
+    pub fn grouped(group: u64, cause: Completion, birth: Birth) -> Newborn
         ensures { result ≡ grouped_row group cause birth }
     {
-        Row {
+        Newborn {
             born: Born::Group { group, cause },
             stage: Stage::New,
             birth: Some(birth),
-            cursor: None,
-            request: None,
             fault: None,
         }
+    }
+
+    /// Its row. What it was born as goes into one of the rooms; an item, of whose birth nothing is kept, needs none.
+    fn into_row(self, rooms: &mut Vec<Boxed<Live>>) -> Row
+        requires { 0 < length rooms.old.items }
+        ensures row { result ≡ self }
+        ensures rooms { length rooms.old.items ≤ length rooms.new.items + 1 }
+    {
+        let Newborn {
+            born,
+            stage,
+            birth,
+            fault,
+        } = self;
+        let kept = match (birth, fault) {
+            (None, None) => Kept::Nothing,
+            (birth, fault) => {
+                let Some(room) = rooms.pop() else {
+                    unreachable!()
+                };
+                Kept::born(room, birth, fault)
+            }
+        };
+        Row { born, stage, kept }
+    }
+}
+
+impl Row {
+    /// What made it.
+    pub fn born(&self) -> Born
+        ensures { result ≡ self.now.born }
+    {
+        self.born
+    }
+
+    /// How far it is.
+    pub fn stage(&self) -> Stage
+        ensures { result ≡ self.now.stage }
+    {
+        self.stage
+    }
+
+    /// What is kept of its birth.
+    pub fn birth(&self) -> Option<&Birth>
+        ensures { MatchOption result (self.now.birth ≡ None) (λ b. self.now.birth ≡ Some b.now) }
+    {
+        self.kept.birth()
+    }
+
+    /// What it asks, while it asks.
+    pub fn request(&self) -> Option<&Request>
+        ensures { MatchOption result (self.now.request ≡ None) (λ q. self.now.request ≡ Some q.now) }
+    {
+        self.kept.request()
+    }
+
+    /// What it failed with, or would fail with if it were starved.
+    pub fn fault(&self) -> Option<&Fault>
+        ensures { MatchOption result (self.now.fault ≡ None) (λ f. self.now.fault ≡ Some f.now) }
+    {
+        self.kept.fault()
     }
 
     /// How many queues its lineage has passed.
     pub fn hops(&self) -> u32
         ensures { result ≡ hops_by self.now.born self.now.birth }
     {
-        match (self.born, &self.birth) {
+        match (self.born, self.kept.birth()) {
             (Born::Copy(_) | Born::Part { .. } | Born::Group { .. }, Some(birth)) => birth.hops,
             _ => 0,
         }
@@ -150,8 +228,8 @@ impl Row {
     pub fn at(&self) -> At
         ensures { result ≡ at_by self.now.cursor }
     {
-        match &self.cursor {
-            Some(cursor) => cursor.get().at(),
+        match self.kept.cursor() {
+            Some(cursor) => cursor.at(),
             None => At {
                 route: 0,
                 depth: 0,
@@ -164,11 +242,44 @@ impl Row {
     pub fn asks_outside(&self) -> bool
         ensures { result ≡ row_outside self.now }
     {
-        match (self.stage, &self.request) {
+        match (self.stage, self.kept.request()) {
             (Stage::Asks, Some(request)) => is_outside(request),
             _ => false,
         }
     }
+}
+
+/// An item goes behind the others, into room that was reserved. For items of every type, since what a row is would be looked at
+/// here for nothing.
+pub fn put_behind<T: Drop>(items: &mut Vec<T>, item: T)
+    requires { vec_len items.old < vec_capacity items.old }
+    ensures items { items.new.items ≡ items.old.items ++ item ∷ [] }
+    ensures room { vec_capacity items.old ≤ vec_capacity items.new }
+{
+    items.push_reserved(item);
+}
+
+/// The row of a newborn goes behind the others, into room that was reserved.
+pub fn put_newborn(rows: &mut Vec<Row>, rooms: &mut Vec<Boxed<Live>>, newborn: Newborn)
+    requires rows { vec_len rows.old < vec_capacity rows.old }
+    requires rooms { 0 < length rooms.old.items }
+    ensures items { rows.new.items ≡ rows.old.items ++ newborn ∷ [] }
+    ensures room { vec_capacity rows.old ≤ vec_capacity rows.new }
+    ensures rooms { length rooms.old.items ≤ length rooms.new.items + 1 }
+{
+    let row = newborn.into_row(rooms);
+    put_behind(rows, row);
+}
+
+/// Rooms for so many exchanges that are to be born, with those that are there.
+pub fn make_rooms(alloc: Global, rooms: &mut Vec<Boxed<Live>>, count: usize) -> Result<(), NoMemory>
+    ensures more { length rooms.old.items ≤ length rooms.new.items }
+    ensures ok { OnOk result (count ≤ length rooms.new.items) }
+{
+    for _index in rooms.len()..count {
+        rooms.push(Live::room(alloc)?)?;
+    }
+    Ok(())
 }
 
 /// A copy leaves its queue.
@@ -178,12 +289,41 @@ pub fn start(row: &mut Row)
     row.stage = Stage::New;
 }
 
-/// A first cursor and what it asks.
-pub fn begin(row: &mut Row, cursor: Boxed<Cursor>, request: Request)
-    ensures { row.new ≡ begun cursor request row.old }
+/// An exchange goes on with its first cursor and what that asks.
+pub fn begin(row: &mut Row, live: Boxed<Live>)
+    requires birth { live.birth ≡ None }
+    requires fault { live.fault ≡ None }
+    ensures { row.new ≡ record row.old { stage = Asks; cursor = live.cursor; request = live.request } }
 {
-    drop(mem::replace(&mut row.cursor, Some(cursor)));
-    drop(mem::replace(&mut row.request, Some(request)));
+    row.kept.begin(live);
+    row.stage = Stage::Asks;
+}
+
+/// What an exchange has while it lives is taken out, to be put back.
+pub fn take_live(row: &mut Row) -> Option<Boxed<Live>>
+    ensures { MatchOption result (row.old.cursor ≡ None) (λ l. row.old ≡ with_live l row.new) }
+{
+    match mem::replace(&mut row.kept, Kept::Nothing) {
+        Kept::Live(live) => Some(live),
+        other => {
+            drop(mem::replace(&mut row.kept, other));
+            None
+        }
+    }
+}
+
+/// What an exchange has while it lives is put back.
+pub fn put_live(row: &mut Row, live: Boxed<Live>)
+    ensures { row.new ≡ with_live live row.old }
+{
+    drop(mem::replace(&mut row.kept, Kept::Live(live)));
+}
+
+/// The exchange goes on, and asks what is put back with what it has.
+pub fn ask(row: &mut Row, live: Boxed<Live>)
+    ensures { row.new ≡ record (with_live live row.old) { stage = Asks } }
+{
+    drop(mem::replace(&mut row.kept, Kept::Live(live)));
     row.stage = Stage::Asks;
 }
 
@@ -193,7 +333,7 @@ pub fn answer(row: &mut Row, entry: usize) -> Option<Request>
     ensures request { result ≡ row.old.request }
 {
     row.stage = Stage::Answered(entry);
-    row.request.take()
+    row.kept.take_request()
 }
 
 /// The worker takes the exchange in hand; its request is handed out.
@@ -202,7 +342,7 @@ pub fn hold(row: &mut Row, worker: u32) -> Option<Request>
     ensures request { result ≡ row.old.request }
 {
     row.stage = Stage::Held(worker);
-    row.request.take()
+    row.kept.take_request()
 }
 
 /// The exchange waits until its parts, which this journal entry made, have ended; its request is handed out.
@@ -211,7 +351,7 @@ pub fn join(row: &mut Row, entry: usize) -> Option<Request>
     ensures request { result ≡ row.old.request }
 {
     row.stage = Stage::Joining(entry);
-    row.request.take()
+    row.kept.take_request()
 }
 
 /// The exchange sleeps until this moment, by the answer of this journal entry; its request is handed out.
@@ -220,7 +360,7 @@ pub fn sleep(row: &mut Row, entry: usize, due: u64) -> Option<Request>
     ensures request { result ≡ row.old.request }
 {
     row.stage = Stage::Asleep { entry, due };
-    row.request.take()
+    row.kept.take_request()
 }
 
 /// What it has waited for has come: the last of its parts has ended, or its moment is there.
@@ -238,10 +378,7 @@ pub fn close(row: &mut Row, stage: Stage)
     ensures { row.new ≡ closed stage row.old }
 {
     row.stage = stage;
-    drop(row.birth.take());
-    drop(row.cursor.take());
-    drop(row.request.take());
-    drop(row.fault.take());
+    drop(mem::replace(&mut row.kept, Kept::Nothing));
 }
 
 /// The exchange is ended for want of memory; the end of a part is handed out, with the message that it was born with. It takes no
@@ -250,22 +387,8 @@ pub fn starve(row: &mut Row) -> Option<Ended>
     ensures row { row.new ≡ closed (Stage.Starved) row.old }
     ensures ended { result ≡ starved_end row.old.birth row.old.fault }
 {
-    let birth = row.birth.take();
-    let fault = row.fault.take();
-    close(row, Stage::Starved);
-    starved_end(birth, fault)
-}
-
-/// The end of a part that is starved, by its birth and its fault.
-fn starved_end(birth: Option<Birth>, fault: Option<Fault>) -> Option<Ended>
-    ensures { result ≡ starved_end birth fault }
-{
-    let Birth { message, .. } = birth?;
-    let fault = fault?;
-    Some(Ended {
-        end: End::Failed(fault),
-        message,
-    })
+    row.stage = Stage::Starved;
+    mem::replace(&mut row.kept, Kept::Nothing).starved()
 }
 
 /// The stage of an end, and its fault.
@@ -280,16 +403,13 @@ fn ended(end: End) -> (Stage, Option<Fault>)
     }
 }
 
-/// The exchange ends by this end.
-pub fn finish(row: &mut Row, end: End)
+/// A live exchange ends by this end, and gives up what it had.
+fn finish(row: &mut Row, alloc: Global, live: Boxed<Live>, end: End)
     ensures { row.new ≡ finished end row.old }
 {
     let (stage, fault) = ended(end);
     row.stage = stage;
-    drop(mem::replace(&mut row.fault, fault));
-    drop(row.birth.take());
-    drop(row.cursor.take());
-    drop(row.request.take());
+    drop(mem::replace(&mut row.kept, left_by(alloc, live, fault)));
 }
 
 /// The end that an exchange asks for, handed out; any other request is dropped.
@@ -322,20 +442,20 @@ pub fn line_asked(request: Option<Request>) -> Option<(Text, Text)>
 }
 
 /// How many ticks an exchange asks to wait; None for any other request.
-pub fn ticks_asked(request: &Option<Request>) -> Option<u64>
-    ensures { result ≡ ticks_asked request.now }
+pub fn ticks_asked(row: &Row) -> Option<u64>
+    ensures { result ≡ ticks_asked row.now.request }
 {
-    match request {
+    match row.kept.request() {
         Some(Request::Wait { ticks }) => Some(*ticks),
         _ => None,
     }
 }
 
 /// The queue that is offered to, and whether the copy is dropped where the queue is full; None for any other request.
-pub fn offer_asked(request: &Option<Request>) -> Option<(u32, bool)>
-    ensures { result ≡ offer_asked request.now }
+pub fn offer_asked(row: &Row) -> Option<(u32, bool)>
+    ensures { result ≡ offer_asked row.now.request }
 {
-    match request {
+    match row.kept.request() {
         Some(Request::Offer { queue, discard, .. }) => Some((*queue, *discard)),
         _ => None,
     }
@@ -358,7 +478,7 @@ pub fn offered_message(request: Option<Request>) -> Option<Message>
 pub fn part_end(row: &Row) -> Result<Option<End>, NoMemory>
     ensures { IfOk result (λ e. e ≡ part_end row.now.born row.now.request) }
 {
-    match (row.born, &row.request) {
+    match (row.born, row.kept.request()) {
         (Born::Part { .. }, Some(Request::Finish { end, .. })) => Ok(Some(end.copy()?)),
         _ => Ok(None),
     }
@@ -388,22 +508,31 @@ fn ended_with(end: Option<End>, message: Option<Message>) -> Option<Ended>
 }
 
 /// The exchange ends by the end that it asks for; its message is handed out with the end that its parent is told, where there is one.
-pub fn finish_asked(row: &mut Row, told: Option<End>) -> Option<Ended>
+pub fn finish_asked(row: &mut Row, alloc: Global, told: Option<End>) -> Option<Ended>
     ensures row { row.new ≡ finished_asked row.old }
     ensures ended { result ≡ ended_with told (last_message row.old.request) }
 {
-    let (end, message) = finish_parts(row.request.take());
-    if let Some(end) = end {
-        finish(row, end);
+    match mem::replace(&mut row.kept, Kept::Nothing) {
+        Kept::Live(mut live) => {
+            let (end, message) = finish_parts(live.get_mut().take_request());
+            match end {
+                Some(end) => finish(row, alloc, live, end),
+                None => drop(mem::replace(&mut row.kept, Kept::Live(live))),
+            }
+            ended_with(told, message)
+        }
+        other => {
+            drop(mem::replace(&mut row.kept, other));
+            ended_with(told, None)
+        }
     }
-    ended_with(told, message)
 }
 
 /// How many parts are asked for.
-pub fn count_asked(request: &Option<Request>) -> usize
-    ensures { result ≡ count_asked request.now }
+pub fn count_asked(row: &Row) -> usize
+    ensures { result ≡ count_asked row.now.request }
 {
-    match request {
+    match row.kept.request() {
         Some(Request::Spawn { parts }) => parts.items().len(),
         _ => 0,
     }
@@ -423,11 +552,15 @@ pub fn seeds_asked(request: Option<Request>) -> Option<Vec<Seed>>
 }
 
 /// The exchange ends by this end, as its source took it.
-pub fn end_by(row: &mut Row, end: End, answer: &Answer)
+pub fn end_by(row: &mut Row, alloc: Global, end: End, answer: &Answer)
+    requires { IsSome row.old.cursor }
     ensures { row.new ≡ ended_by end answer.now row.old }
 {
     match answer {
         Answer::CommitFailed => close(row, Stage::NotCommitted),
-        _ => finish(row, end),
+        _ => match mem::replace(&mut row.kept, Kept::Nothing) {
+            Kept::Live(live) => finish(row, alloc, live, end),
+            Kept::Nothing | Kept::Failed(_) => unreachable!(),
+        },
     }
 }

@@ -1,6 +1,7 @@
 // Texts and lists as the engine keeps them, JSON trees, and how texts are shown.
 #![tactic(auto)]
 
+pub mod boxed;
 pub mod counts;
 pub mod cuts;
 pub mod escapes;
@@ -14,6 +15,7 @@ pub mod split;
 pub mod text;
 pub mod tree;
 
+pub use boxed::Boxed;
 pub use counts::read_count;
 pub use escapes::{escape, push_escaped, push_quoted, quote};
 pub use json_printer::print_json;

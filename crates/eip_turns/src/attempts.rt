@@ -16,10 +16,10 @@ use crate::handling::{faulted, kept_or, number_of_try};
 use eip_exchange::Message;
 use eip_meaning::Context;
 use eip_parts::messages::redelivered;
-use eip_progress::{Boxed, Now, Task, Tried, Wait};
+use eip_progress::{Now, Task, Tried, Wait};
 use eip_route::{RouteSet, Step};
 use eip_steps::{try_step, try_to};
-use eip_text::NoMemory;
+use eip_text::{Boxed, NoMemory};
 use eip_uri::Uri;
 use std::alloc::Global;
 

@@ -2,7 +2,7 @@ ghost use Rattle.std.specs.Prelude.{◌≡◌, IfOk};
 
 use eip_copies::copy_ended;
 use eip_frames::Answer;
-use eip_text::{NoMemory, Series};
+use eip_text::{Boxed, NoMemory, Series};
 use std::alloc::Global;
 
 /// The same answer.
@@ -13,8 +13,11 @@ pub fn copy_answer(alloc: Global, answer: &Answer) -> Result<Answer, NoMemory>
         Answer::Done => Ok(Answer::Done),
         Answer::SendFailed => Ok(Answer::SendFailed),
         Answer::Exists => Ok(Answer::Exists),
-        Answer::Became(message) => Ok(Answer::Became(message.copy(alloc)?)),
-        Answer::Raised(fault) => Ok(Answer::Raised(fault.copy()?)),
+        Answer::Became(message) => Ok(Answer::Became(Boxed::of(
+            alloc,
+            message.get().copy(alloc)?,
+        )?)),
+        Answer::Raised(fault) => Ok(Answer::Raised(Boxed::of(alloc, fault.get().copy()?)?)),
         Answer::Holds(holds) => Ok(Answer::Holds(*holds)),
         Answer::Queued(number) => Ok(Answer::Queued(*number)),
         Answer::Full(size) => Ok(Answer::Full(*size)),
@@ -35,7 +38,7 @@ pub fn copy_answer(alloc: Global, answer: &Answer) -> Result<Answer, NoMemory>
             cause: *cause,
             number: *number,
         }),
-        Answer::Unfit(fault) => Ok(Answer::Unfit(fault.copy()?)),
+        Answer::Unfit(fault) => Ok(Answer::Unfit(Boxed::of(alloc, fault.get().copy()?)?)),
         Answer::Fresh => Ok(Answer::Fresh),
         Answer::Duplicate(holder) => Ok(Answer::Duplicate(*holder)),
         Answer::Slept(moment) => Ok(Answer::Slept(*moment)),

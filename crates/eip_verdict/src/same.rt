@@ -130,9 +130,12 @@ pub fn same_answer(one: &Answer, other: &Answer) -> bool
         | (Answer::CommitFailed, Answer::CommitFailed) => true,
         (Answer::Holds(true), Answer::Holds(true)) | (Answer::Holds(false), Answer::Holds(false)) =>
             true,
-        (Answer::Became(message), Answer::Became(other)) => same_message(message, other),
-        (Answer::Raised(fault), Answer::Raised(other)) => same_fault(fault, other),
-        (Answer::Unfit(fault), Answer::Unfit(other)) => same_fault(fault, other),
+        (Answer::Became(message), Answer::Became(other)) => same_message(
+            message.get(),
+            other.get(),
+        ),
+        (Answer::Raised(fault), Answer::Raised(other)) => same_fault(fault.get(), other.get()),
+        (Answer::Unfit(fault), Answer::Unfit(other)) => same_fault(fault.get(), other.get()),
         (Answer::Joined(parts), Answer::Joined(others)) => same_parts(
             parts.items(),
             others.items(),

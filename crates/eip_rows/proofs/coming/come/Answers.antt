@@ -19,7 +19,7 @@ returns-in-Some-aggregator_among-clause-ok c =
     let number = c.args.number in
     let clock = c.args.clock in
     let same = of-blocks asks.aggregator set.blocks c.in-Some-aggregator_among.setting.now (rw c.items.ensures at c.in-Some-aggregator_among.ensures) in
-    let one = c.in-Some.is in
+    let one = c.in-Some.ensures in
     let asked = asks.is in
     let is : row.request ≡ Some (Arrive block asks.key asks.message) = cc in
     IfOk-weaker c.arrive.result (λ (came : Coming). Comes set row block asks.key asks.message number clock c.args.groups.now c.arrive.new.groups came) (λ (came : Coming). ComesTo set row number clock c.args.groups.now c.arrive.new.groups came)

@@ -11,6 +11,8 @@ invariant-loop-seed l = record {
   faults : l.faults.items ≡ starving_faults (length l.rest.items);
   room : length l.rows.items + length l.rest.items ≤ vec_capacity l.rows;
   grows : vec_capacity l.fn.rows ≤ vec_capacity l.rows;
+  rooms : length l.rest.items ≤ length l.rooms.items;
+  fewer : length l.fn.rooms.items + length l.rest.items ≤ length l.rooms.items + length l.fn.seeds.items;
 }
 
 abbrev pub decreases-loop-seed : goal.decreases-loop-seed

@@ -14,8 +14,8 @@ set-requires c =
     let may = rw (← c.self.view_is) at c.requires.may in
     source-within (tables_of c.self.inside) c.args.worker c.args.source c.self.invariant.stands (rw (← c.self.view_is) at c.requires.worker) may.0.0
 
-pub append_reserved-requires : goal.append_reserved-requires
-append_reserved-requires c =
+pub accept_reserved-requires : goal.accept_reserved-requires
+accept_reserved-requires c =
     let may = rw (← c.self.view_is) at c.requires.may in
     omega (arith, out-pulled (tables_of c.self.inside) c.args.worker c.args.source c.self.invariant.stands (rw (← c.self.view_is) at c.requires.worker) may.0.0 may.1)
 
@@ -23,10 +23,10 @@ pub invariant_of-self : goal.invariant_of-self
 invariant_of-self c =
     let may = rw (← c.self.view_is) at c.requires.may in
     let out = out-pulled (tables_of c.self.inside) c.args.worker c.args.source c.self.invariant.stands (rw (← c.self.view_is) at c.requires.worker) may.0.0 may.1 in
-    let born : c.new.result ≡ new_row (length c.self.inside.journal.past) = c.new.ensures ∙ ap new_row (ap length c.entries-born.ensures ∙ length-reverse c.self.inside.journal.past) in
+    let born : c.of_item.result ≡ new_row (length c.self.inside.journal.past) = c.of_item.ensures ∙ ap new_row (ap length c.entries-born.ensures ∙ length-reverse c.self.inside.journal.past) in
     let number : c.len-number.result ≡ length c.self.inside.rows.items + 1 = c.len-number.ensures ∙ (ap length c.put_last.ensures.items ∙ length-append c.self.inside.rows.items _) in
     record {
-      stands = rw (c.append_reserved.ensures.past, c.append_reserved.ensures.workers, c.append_reserved.ensures.turns, c.put_last.ensures.items, c.put_last-2.ensures.numbers, c.set.ensures, number, born)
+      stands = rw (c.accept_reserved.ensures.past, c.accept_reserved.ensures.workers, c.accept_reserved.ensures.turns, c.put_last.ensures.items, c.put_last-2.ensures.numbers, c.set.ensures, number, born)
           (stands-accept c.self.inside.set c.self.inside.journal.workers c.self.inside.journal.turns c.self.inside.journal.past (tables_of c.self.inside) c.args.worker c.args.source c.args.item c.args.message c.self.invariant.stands (rw (← c.self.view_is) at c.requires.worker) may);
       few = c.self.invariant.few;
       room_small = c.self.invariant.room_small;
@@ -62,4 +62,4 @@ pub returns-clause-legal : goal.returns-clause-legal
 returns-clause-legal c = (invariant_of-self c).stands.legal
 
 pub returns-clause-outside : goal.returns-clause-outside
-returns-clause-outside c = rw (← c.self.view_is, c.put_last.ensures.items) (push-none row_outside c.self.inside.rows.items c.new.result (ap row_outside c.new.ensures))
+returns-clause-outside c = rw (← c.self.view_is, c.put_last.ensures.items) (push-none row_outside c.self.inside.rows.items c.of_item.result (ap row_outside c.of_item.ensures))

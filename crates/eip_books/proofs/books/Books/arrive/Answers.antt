@@ -157,7 +157,7 @@ invariant_of-self-in-Shut c =
     let number : c.in-Shut.closed.group ≡ shut.0 = closed-number (settings set) calls (group.aggregator, group.key) (coming set c.args.number c.self.inside.clock c.get-row.result.now group.message) (record { group = shut.0; closed = Some c.in-Shut.closed }) c.in-Shut.closed (joins.answers calls gs) refl in
     let next : c.len.result + 1 ≡ length c.self.inside.rows.items + 1 = ap (λ (n : ℕ). n + 1) (c.len.ensures ∙ ap length c.reserve.ensures.items) in
     record {
-      stands = rw (c.append_answer-in-Shut.ensures.past, c.append_answer-in-Shut.ensures.workers, c.append_answer-in-Shut.ensures.turns, c.make_room.ensures.past, c.make_room.ensures.workers, c.make_room.ensures.turns, c.make_room.ensures.items, c.put_last.ensures.items, c.row_of.ensures, rows, c.put_last-in-Shut.ensures.numbers, c.reserve-2.ensures.numbers, next)
+      stands = rw (c.append_answer-in-Shut.ensures.past, c.append_answer-in-Shut.ensures.workers, c.append_answer-in-Shut.ensures.turns, c.make_room.ensures.past, c.make_room.ensures.workers, c.make_room.ensures.turns, c.make_room.ensures.items, c.put_last.ensures.items, c.newborn_of.ensures, rows, c.put_last-in-Shut.ensures.numbers, c.reserve-2.ensures.numbers, next)
           (subst (λ (n : ℕ). Stands set c.self.inside.journal.workers c.self.inside.journal.turns ((record { worker = c.args.worker; kind = Answer c.args.number (reply.Closed n c.in-Shut.closed.cause (length c.self.inside.rows.items + 1)) }) ∷ c.self.inside.journal.past)
           (record (tables_of c.self.inside) {
             rows = put_at c.self.inside.rows.items (c.args.number - 1) (answered (length c.self.inside.journal.past) c.get-row.result.now) ++ (group_row set (length c.self.inside.rows.items + 1) c.in-Shut.closed) ∷ [];
@@ -192,7 +192,7 @@ returns-in-Open-clause-legal c = (invariant_of-self-in-Open c).stands.legal
 
 pub returns-in-Shut-clause-outside : goal.returns-in-Shut-clause-outside
 returns-in-Shut-clause-outside c =
-    rw (← c.self.view_is, c.put_last.ensures.items, c.row_of.ensures)
+    rw (← c.self.view_is, c.put_last.ensures.items, c.newborn_of.ensures)
     (groups-outside c.self.inside.set (c.len.result + 1) (c.in-Shut.closed ∷ []) c.answer.new.self.items
     ∙ rw (c.answer.ensures.items c.get-row.result.now c.get-row.ensures, c.reserve.ensures.items) (leave-at row_outside c.self.inside.rows.items c.args.number (answered (length c.entries-entry.result.now) c.get-row.result.now) (row-within (tables_of c.self.inside) c.args.number Ready c.self.invariant.stands (rw (← c.self.view_is) at c.requires.ready)).0 refl))
 

@@ -12,4 +12,4 @@ returns-then-number-len c = rw (← c.self.view_is) (ending-beyond (tables_of c.
 pub returns : goal.returns
 returns c =
     let above : 0 < c.args.number = let n = c.if-number-eq0.false in omega (arith, n) in
-    rw (← c.self.view_is) (c.ending_of.ensures ∙ ending-is (tables_of c.self.inside) c.self.invariant.stands c.args.number c.get.result.now above (let l = c.if-number-len.false in omega (arith, l, c.len.ensures)) c.get.ensures)
+    rw (← c.self.view_is) (c.ending_of.ensures ∙ rw c.stage.ensures (ending-is (tables_of c.self.inside) c.self.invariant.stands c.args.number c.get.result.now above (let l = c.if-number-len.false in omega (arith, l, c.len.ensures)) c.get.ensures))

@@ -21,7 +21,7 @@ get-row-requires-clause-within c = (row-within (tables_of c.self.inside) c.args.
 
 pub leave-requires : goal.leave-requires
 leave-requires c =
-    give-up-leaves (tables_of c.self.inside) c.args.ticket.worker c.args.ticket.number c.self.invariant.stands (rw (← c.self.view_is) at c.requires.worker) c.get-row.result.now c.get-row.ensures (rw (← c.self.view_is) at c.requires.place)
+    rw c.born-born.ensures (give-up-leaves (tables_of c.self.inside) c.args.ticket.worker c.args.ticket.number c.self.invariant.stands (rw (← c.self.view_is) at c.requires.worker) c.get-row.result.now c.get-row.ensures (rw (← c.self.view_is) at c.requires.place))
 
 pub starve-ended-requires-clause-above : goal.starve-ended-requires-clause-above
 starve-ended-requires-clause-above c = (row-within (tables_of c.self.inside) c.args.ticket.number (InHand c.args.ticket.worker) c.self.invariant.stands (rw (← c.self.view_is) at c.requires.place)).0
@@ -31,16 +31,16 @@ starve-ended-requires-clause-within c = (row-within (tables_of c.self.inside) c.
 
 pub tell-woken-requires : goal.tell-woken-requires
 tell-woken-requires c =
-    rw (c.starve-ended.ensures.ended c.get-row.result.now c.get-row.ensures)
+    rw (c.starve-ended.ensures.ended c.get-row.result.now c.get-row.ensures, c.born-born.ensures)
     (give-up-tells (tables_of c.self.inside) c.args.ticket.worker c.args.ticket.number c.self.invariant.stands (rw (← c.self.view_is) at c.requires.worker) c.get-row.result.now c.get-row.ensures (rw (← c.self.view_is) at c.requires.place))
 
 pub wake-requires-clause-within : goal.wake-requires-clause-within
 wake-requires-clause-within c =
-    let tells = rw (c.starve-ended.ensures.ended c.get-row.result.now c.get-row.ensures) at c.tell-woken.ensures.tells in
+    let tells = rw (c.starve-ended.ensures.ended c.get-row.result.now c.get-row.ensures, c.born-born.ensures) at c.tell-woken.ensures.tells in
     rw (c.starve-ended.ensures.items c.get-row.result.now c.get-row.ensures)
     (if-woken c.tell-woken.result c.self.inside.rows.items (c.args.ticket.number - 1) (closed stage.Starved c.get-row.result.now)
     (give-up-wakes (tables_of c.self.inside) c.args.ticket.worker c.args.ticket.number c.self.invariant.stands (rw (← c.self.view_is) at c.requires.worker) c.get-row.result.now c.get-row.ensures (rw (← c.self.view_is) at c.requires.place)
-    c.leave.new.queues c.tell-woken.new.joins c.tell-woken.result c.leave.ensures.leaves tells c.tell-woken.ensures.woken))
+    c.leave.new.queues c.tell-woken.new.joins c.tell-woken.result (rw c.born-born.ensures at c.leave.ensures.leaves) tells (rw c.born-born.ensures at c.tell-woken.ensures.woken)))
 
 pub wake-requires-clause-room : goal.wake-requires-clause-room
 wake-requires-clause-room c =
@@ -69,11 +69,11 @@ pub invariant_of-self : goal.invariant_of-self
 invariant_of-self c =
     let placed = rw (← c.self.view_is) at c.requires.place in
     let n = taken-above (tables_of c.self.inside) c.args.ticket.worker c.args.ticket.number c.self.invariant.stands (rw (← c.self.view_is) at c.requires.worker) c.get-row.result.now c.get-row.ensures placed in
-    let tells = rw (c.starve-ended.ensures.ended c.get-row.result.now c.get-row.ensures) at c.tell-woken.ensures.tells in
+    let tells = rw (c.starve-ended.ensures.ended c.get-row.result.now c.get-row.ensures, c.born-born.ensures) at c.tell-woken.ensures.tells in
     record {
       stands = rw (c.append_reserved.ensures.past, c.append_reserved.ensures.workers, c.append_reserved.ensures.turns, c.wake.ensures.rows, c.starve-ended.ensures.items c.get-row.result.now c.get-row.ensures, c.wake.ensures.numbers)
           (stands-give-up (tables_of c.self.inside) c.args.ticket.worker c.args.ticket.number c.self.invariant.stands (rw (← c.self.view_is) at c.requires.worker) c.get-row.result.now c.get-row.ensures placed
-          c.leave.new.queues c.tell-woken.new.joins c.tell-woken.result c.leave.ensures.leaves tells c.tell-woken.ensures.woken c.settle.new.self c.settle.ensures);
+          c.leave.new.queues c.tell-woken.new.joins c.tell-woken.result (rw c.born-born.ensures at c.leave.ensures.leaves) tells (rw c.born-born.ensures at c.tell-woken.ensures.woken) c.settle.new.self c.settle.ensures);
       few = c.self.invariant.few;
       room_small = c.self.invariant.room_small;
       room_journal = omega (arith, n, c.append_reserved.ensures.spare, c.self.invariant.room_journal);

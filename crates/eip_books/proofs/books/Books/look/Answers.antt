@@ -1,4 +1,4 @@
-use Rattle.std.proofs.Common.{arith, refl, subst, ⊎_elim, ◌≡◌, ◌-◌, ap}
+use Rattle.std.proofs.Common.{arith, refl, sym, subst, ⊎_elim, ◌≡◌, ◌-◌, ◌∙◌, ap}
 use Rattle.eip_ledger.specs.declared.place.Place.TheVariants.{Ready}
 use Rattle.eip_tables.specs.Moves.{begun}
 use Rattle.eip_tables.specs.State.{known_of}
@@ -19,6 +19,9 @@ get-row-requires-clause-within c = (row-within (tables_of c.self.inside) c.args.
 pub begin-requires-clause-above : goal.begin-requires-clause-above
 begin-requires-clause-above c = (row-within (tables_of c.self.inside) c.args.number Ready c.self.invariant.stands (rw (← c.self.view_is) at c.requires)).0
 
+pub begin-requires-clause-first : goal.begin-requires-clause-first
+begin-requires-clause-first c = let first = c.in_ok-first-in-New.ensures in (first.cursor, first.request, first.is)
+
 pub begin-requires-clause-within : goal.begin-requires-clause-within
 begin-requires-clause-within c = (row-within (tables_of c.self.inside) c.args.number Ready c.self.invariant.stands (rw (← c.self.view_is) at c.requires)).1
 
@@ -30,14 +33,15 @@ look-requires-clause-within c = (row-within (tables_of c.self.inside) c.args.num
 
 pub first_look-requires : goal.first_look-requires
 first_look-requires c =
-    let b = born-birth (tables_of c.self.inside) c.args.number c.get-row.result.now c.self.invariant.stands (rw (← c.self.view_is) at c.requires) c.get-row.ensures c.in-New.is in
+    let b = born-birth (tables_of c.self.inside) c.args.number c.get-row.result.now c.self.invariant.stands (rw (← c.self.view_is) at c.requires) c.get-row.ensures (sym c.stage.ensures ∙ c.in-New.is) in
     record { birth = b.0; made = rw c.entries.ensures b.1; lives = lives-first _ b.0 }
 
 pub invariant_of-self : goal.invariant_of-self
 invariant_of-self c =
+    let first = c.in_ok-first-in-New.ensures in
     record {
-      stands = rw (c.begin.ensures.items c.get-row.result.now c.get-row.ensures)
-          (new-looked (tables_of c.self.inside) c.args.number c.get-row.result.now c.self.invariant.stands (rw (← c.self.view_is) at c.requires) c.get-row.ensures c.in_ok-cursor-in-New.cursor c.in_ok-cursor-in-New.request c.in-New.is (rw c.entries.ensures at c.in_ok-cursor-in-New.ensures));
+      stands = rw (c.begin.ensures.items first.cursor first.request c.get-row.result.now first.is c.get-row.ensures)
+          (new-looked (tables_of c.self.inside) c.args.number c.get-row.result.now c.self.invariant.stands (rw (← c.self.view_is) at c.requires) c.get-row.ensures first.cursor first.request (sym c.stage.ensures ∙ c.in-New.is) (rw c.entries.ensures at first.looked));
       few = c.self.invariant.few;
       room_small = c.self.invariant.room_small;
       room_journal = c.self.invariant.room_journal;
@@ -46,7 +50,7 @@ invariant_of-self c =
     }
 
 pub bounds-entries-entry : goal.bounds-entries-entry
-bounds-entries-entry c = rw c.entries-in-Answered.ensures (answer-within (tables_of c.self.inside) c.args.number c.get-row.result.now c.self.invariant.stands (rw (← c.self.view_is) at c.requires) c.get-row.ensures c.in-Answered.entry c.in-Answered.is)
+bounds-entries-entry c = rw c.entries-in-Answered.ensures (answer-within (tables_of c.self.inside) c.args.number c.get-row.result.now c.self.invariant.stands (rw (← c.self.view_is) at c.requires) c.get-row.ensures c.in-Answered.entry (sym c.stage.ensures ∙ c.in-Answered.is))
 
 pub look-requires-clause-cursor : goal.look-requires-clause-cursor
 look-requires-clause-cursor c = λ r at.
@@ -54,14 +58,14 @@ look-requires-clause-cursor c = λ r at.
     let same : c.get-row.result.now ≡ r = cc in
     subst (HasCursor c.self.inside.set c.in-Answer.answer) same
     (answered-cursor (tables_of c.self.inside) c.args.number c.get-row.result.now c.self.invariant.stands (rw (← c.self.view_is) at c.requires) c.get-row.ensures
-    c.in-Answered.entry c.index-entries-entry.result.worker c.in-Answer.number c.in-Answer.answer c.in-Answered.is (answer-there c.self.inside.journal.past c.in-Answered.entry c.entries-in-Answered.result.now c.index-entries-entry.result c.in-Answer.number c.in-Answer.answer c.entries-in-Answered.ensures
-    (answer-within (tables_of c.self.inside) c.args.number c.get-row.result.now c.self.invariant.stands (rw (← c.self.view_is) at c.requires) c.get-row.ensures c.in-Answered.entry c.in-Answered.is)
+    c.in-Answered.entry c.index-entries-entry.result.worker c.in-Answer.number c.in-Answer.answer (sym c.stage.ensures ∙ c.in-Answered.is) (answer-there c.self.inside.journal.past c.in-Answered.entry c.entries-in-Answered.result.now c.index-entries-entry.result c.in-Answer.number c.in-Answer.answer c.entries-in-Answered.ensures
+    (answer-within (tables_of c.self.inside) c.args.number c.get-row.result.now c.self.invariant.stands (rw (← c.self.view_is) at c.requires) c.get-row.ensures c.in-Answered.entry (sym c.stage.ensures ∙ c.in-Answered.is))
     c.index-entries-entry.is c.in-Answer.is))
 
 pub unreachable-requires : goal.unreachable-requires
 unreachable-requires c =
     let a = answered-entry (tables_of c.self.inside) c.args.number c.get-row.result.now c.self.invariant.stands (rw (← c.self.view_is) at c.requires) c.get-row.ensures
-    c.in-Answered.entry c.entries-in-Answered.result.now c.index-entries-entry.result c.in-Answered.is c.entries-in-Answered.ensures c.index-entries-entry.is in
+    c.in-Answered.entry c.entries-in-Answered.result.now c.index-entries-entry.result (sym c.stage.ensures ∙ c.in-Answered.is) c.entries-in-Answered.ensures c.index-entries-entry.is in
     c.in_default-kind.not-Answer a.0 a.1.0 a.1.1
 
 pub invariant_of-self-in-Answer : goal.invariant_of-self-in-Answer
@@ -70,8 +74,8 @@ invariant_of-self-in-Answer c =
       stands = ⊎_elim
           (λ ok. let made = ok c.get-row.result.now c.get-row.ensures in
           rw made.1 (answer-looked (tables_of c.self.inside) c.args.number c.get-row.result.now c.self.invariant.stands (rw (← c.self.view_is) at c.requires) c.get-row.ensures
-          c.in-Answered.entry c.index-entries-entry.result.worker c.in-Answer.number c.in-Answer.answer made.0 c.in-Answered.is (answer-there c.self.inside.journal.past c.in-Answered.entry c.entries-in-Answered.result.now c.index-entries-entry.result c.in-Answer.number c.in-Answer.answer c.entries-in-Answered.ensures
-          (answer-within (tables_of c.self.inside) c.args.number c.get-row.result.now c.self.invariant.stands (rw (← c.self.view_is) at c.requires) c.get-row.ensures c.in-Answered.entry c.in-Answered.is)
+          c.in-Answered.entry c.index-entries-entry.result.worker c.in-Answer.number c.in-Answer.answer made.0 (sym c.stage.ensures ∙ c.in-Answered.is) (answer-there c.self.inside.journal.past c.in-Answered.entry c.entries-in-Answered.result.now c.index-entries-entry.result c.in-Answer.number c.in-Answer.answer c.entries-in-Answered.ensures
+          (answer-within (tables_of c.self.inside) c.args.number c.get-row.result.now c.self.invariant.stands (rw (← c.self.view_is) at c.requires) c.get-row.ensures c.in-Answered.entry (sym c.stage.ensures ∙ c.in-Answered.is))
           c.index-entries-entry.is c.in-Answer.is) made.2))
           (λ err. rw err c.self.invariant.stands)
           (one-of-both c.look.result _ _ c.look.ensures.ok c.look.ensures.err);
@@ -82,12 +86,13 @@ invariant_of-self-in-Answer c =
       room_ready = c.self.invariant.room_ready;
     }
 
-pub returns-in_ok-cursor-in-New-clause-known : goal.returns-in_ok-cursor-in-New-clause-known
-returns-in_ok-cursor-in-New-clause-known c = (
-  c.in_ok-cursor-in-New.request,
-  rw (c.begin.ensures.items c.get-row.result.now c.get-row.ensures)
-      (known-now c.self.inside.rows.items (c.args.number - 1) c.get-row.result.now (begun c.in_ok-cursor-in-New.cursor c.in_ok-cursor-in-New.request c.get-row.result.now) c.in_ok-cursor-in-New.request c.get-row.ensures refl),
-)
+pub returns-in_ok-first-in-New-clause-known : goal.returns-in_ok-first-in-New-clause-known
+returns-in_ok-first-in-New-clause-known c =
+    let first = c.in_ok-first-in-New.ensures in (
+      first.request,
+      rw (c.begin.ensures.items first.cursor first.request c.get-row.result.now first.is c.get-row.ensures)
+          (known-now c.self.inside.rows.items (c.args.number - 1) c.get-row.result.now (begun first.cursor first.request c.get-row.result.now) first.request c.get-row.ensures refl),
+    )
 
 pub returns-in-Answer-clause-known : goal.returns-in-Answer-clause-known
 returns-in-Answer-clause-known c =
@@ -98,13 +103,14 @@ returns-in-Answer-clause-known c =
     ))
     c.look.ensures.ok
 
-pub returns-in_ok-cursor-in-New-clause-outside : goal.returns-in_ok-cursor-in-New-clause-outside
-returns-in_ok-cursor-in-New-clause-outside c =
-    rw (← c.self.view_is, c.begin.ensures.items c.get-row.result.now c.get-row.ensures)
-    (looked-outside (tables_of c.self.inside) c.args.number c.get-row.result.now (begun c.in_ok-cursor-in-New.cursor c.in_ok-cursor-in-New.request c.get-row.result.now) c.in_ok-cursor-in-New.cursor c.in_ok-cursor-in-New.request
+pub returns-in_ok-first-in-New-clause-outside : goal.returns-in_ok-first-in-New-clause-outside
+returns-in_ok-first-in-New-clause-outside c =
+    let first = c.in_ok-first-in-New.ensures in
+    rw (← c.self.view_is, c.begin.ensures.items first.cursor first.request c.get-row.result.now first.is c.get-row.ensures)
+    (looked-outside (tables_of c.self.inside) c.args.number c.get-row.result.now (begun first.cursor first.request c.get-row.result.now) first.cursor first.request
     c.self.invariant.stands (rw (← c.self.view_is) at c.requires) c.get-row.ensures
-    (new-looked (tables_of c.self.inside) c.args.number c.get-row.result.now c.self.invariant.stands (rw (← c.self.view_is) at c.requires) c.get-row.ensures c.in_ok-cursor-in-New.cursor c.in_ok-cursor-in-New.request c.in-New.is (rw c.entries.ensures at c.in_ok-cursor-in-New.ensures))
-    refl (rw c.in-New.is refl))
+    (new-looked (tables_of c.self.inside) c.args.number c.get-row.result.now c.self.invariant.stands (rw (← c.self.view_is) at c.requires) c.get-row.ensures first.cursor first.request (sym c.stage.ensures ∙ c.in-New.is) (rw c.entries.ensures at first.looked))
+    refl (rw (sym c.stage.ensures ∙ c.in-New.is) refl))
 
 pub returns-in-Answer-clause-outside : goal.returns-in-Answer-clause-outside
 returns-in-Answer-clause-outside c =
@@ -114,15 +120,15 @@ returns-in-Answer-clause-outside c =
     (looked-outside (tables_of c.self.inside) c.args.number c.get-row.result.now made.0 made.2.now made.2.request
     c.self.invariant.stands (rw (← c.self.view_is) at c.requires) c.get-row.ensures
     (answer-looked (tables_of c.self.inside) c.args.number c.get-row.result.now c.self.invariant.stands (rw (← c.self.view_is) at c.requires) c.get-row.ensures
-    c.in-Answered.entry c.index-entries-entry.result.worker c.in-Answer.number c.in-Answer.answer made.0 c.in-Answered.is (answer-there c.self.inside.journal.past c.in-Answered.entry c.entries-in-Answered.result.now c.index-entries-entry.result c.in-Answer.number c.in-Answer.answer c.entries-in-Answered.ensures
-    (answer-within (tables_of c.self.inside) c.args.number c.get-row.result.now c.self.invariant.stands (rw (← c.self.view_is) at c.requires) c.get-row.ensures c.in-Answered.entry c.in-Answered.is)
+    c.in-Answered.entry c.index-entries-entry.result.worker c.in-Answer.number c.in-Answer.answer made.0 (sym c.stage.ensures ∙ c.in-Answered.is) (answer-there c.self.inside.journal.past c.in-Answered.entry c.entries-in-Answered.result.now c.index-entries-entry.result c.in-Answer.number c.in-Answer.answer c.entries-in-Answered.ensures
+    (answer-within (tables_of c.self.inside) c.args.number c.get-row.result.now c.self.invariant.stands (rw (← c.self.view_is) at c.requires) c.get-row.ensures c.in-Answered.entry (sym c.stage.ensures ∙ c.in-Answered.is))
     c.index-entries-entry.is c.in-Answer.is) made.2)
-    made.2.row (rw c.in-Answered.is refl)))
+    made.2.row (rw (sym c.stage.ensures ∙ c.in-Answered.is) refl)))
     c.look.ensures.ok
 
 pub returns-in_default : goal.returns-in_default
 returns-in_default c =
-    let k = known-asking (tables_of c.self.inside) c.args.number c.get-row.result.now c.self.invariant.stands (rw (← c.self.view_is) at c.requires) c.get-row.ensures c.in_default.not-New c.in_default.not-Answered in
+    let k = known-asking (tables_of c.self.inside) c.args.number c.get-row.result.now c.self.invariant.stands (rw (← c.self.view_is) at c.requires) c.get-row.ensures (λ is. c.in_default.not-New (c.stage.ensures ∙ is)) (λ i is. c.in_default.not-Answered i (c.stage.ensures ∙ is)) in
     record {
       none = record { same = record { set = refl; workers = refl; turns = refl }; past = refl };
       legal = rw (← c.self.view_is) c.self.invariant.stands.legal;

@@ -8,7 +8,7 @@ use Rattle.eip_tables.specs.Moves.{ended_by}
 use Rattle.eip_table_laws.proofs.Bounds.{within-limit}
 use Rattle.eip_table_laws.proofs.OwnCalls.{row-within, placed-some}
 use Rattle.eip_table_laws.proofs.RowNumbers.{numbers-stay}
-use Rattle.eip_table_laws.proofs.HandCalls.{stands-settle-end, end-leaves, end-not-outside, taken-above, held-live, held-not-outside}
+use Rattle.eip_table_laws.proofs.HandCalls.{stands-settle-end, end-leaves, end-not-outside, taken-above, held-live, held-not-outside, held-cursor}
 use Rattle.eip_books.proofs.books.Books.settle_end.Goals as goal
 
 pub invariant_of-self : goal.invariant_of-self
@@ -18,7 +18,7 @@ invariant_of-self c =
     let n = taken-above (tables_of c.self.inside) c.args.worker c.args.number c.self.invariant.stands (rw (← c.self.view_is) at c.requires.worker) c.get.result.now c.get.ensures placed in
     record {
       stands = rw (c.append_answer.ensures.past, c.append_answer.ensures.workers, c.append_answer.ensures.turns, c.end_by.ensures.items c.get.result.now c.get.ensures)
-          (stands-settle-end (tables_of c.self.inside) c.args.worker c.args.number c.self.invariant.stands (rw (← c.self.view_is) at c.requires.worker) c.get.result.now c.get.ensures placed asked.0 c.args.end c.args.answer asked.1 asked.2 asked.3 c.leave.new.queues c.settle.new.self c.leave.ensures.leaves (subst (λ (v : Ending). Settles c.args.number v c.self.inside.keys c.settle.new.self) c.ending_by.ensures c.settle.ensures));
+          (stands-settle-end (tables_of c.self.inside) c.args.worker c.args.number c.self.invariant.stands (rw (← c.self.view_is) at c.requires.worker) c.get.result.now c.get.ensures placed asked.0 c.args.end c.args.answer asked.1 asked.2 asked.3 c.leave.new.queues c.settle.new.self (rw c.born.ensures at c.leave.ensures.leaves) (subst (λ (v : Ending). Settles c.args.number v c.self.inside.keys c.settle.new.self) c.ending_by.ensures c.settle.ensures));
       few = c.self.invariant.few;
       room_small = c.self.invariant.room_small;
       room_journal = omega (arith, n);
@@ -35,13 +35,17 @@ get-requires-clause-within c = (row-within (tables_of c.self.inside) c.args.numb
 pub leave-requires : goal.leave-requires
 leave-requires c =
     let asked = rw (← c.self.view_is) at c.requires.asked in
-    end-leaves (tables_of c.self.inside) c.args.worker c.args.number c.self.invariant.stands (rw (← c.self.view_is) at c.requires.worker) c.get.result.now c.get.ensures (rw (← c.self.view_is) at c.requires.hand) asked.0 c.args.end c.args.answer asked.1 asked.2 asked.3
+    rw c.born.ensures (end-leaves (tables_of c.self.inside) c.args.worker c.args.number c.self.invariant.stands (rw (← c.self.view_is) at c.requires.worker) c.get.result.now c.get.ensures (rw (← c.self.view_is) at c.requires.hand) asked.0 c.args.end c.args.answer asked.1 asked.2 asked.3)
 
 pub end_by-requires-clause-above : goal.end_by-requires-clause-above
 end_by-requires-clause-above c = (row-within (tables_of c.self.inside) c.args.number (InHand c.args.worker) c.self.invariant.stands (rw (← c.self.view_is) at c.requires.hand)).0
 
 pub end_by-requires-clause-within : goal.end_by-requires-clause-within
 end_by-requires-clause-within c = (row-within (tables_of c.self.inside) c.args.number (InHand c.args.worker) c.self.invariant.stands (rw (← c.self.view_is) at c.requires.hand)).1
+
+pub end_by-requires-clause-lives : goal.end_by-requires-clause-lives
+end_by-requires-clause-lives c = λ r at.
+    held-cursor (tables_of c.self.inside) c.args.worker c.args.number c.self.invariant.stands (rw (← c.self.view_is) at c.requires.worker) r at (rw (← c.self.view_is) at c.requires.hand)
 
 pub append_answer-requires : goal.append_answer-requires
 append_answer-requires c =

@@ -20,7 +20,7 @@ get-row-requires-clause-within c = (row-within (tables_of c.self.inside) c.args.
 
 pub leave-requires : goal.leave-requires
 leave-requires c =
-    starve-leaves (tables_of c.self.inside) c.args.worker c.args.number c.get-row.result.now c.self.invariant.stands (rw (← c.self.view_is) at c.requires.worker) (rw (← c.self.view_is) at c.requires.ready) c.get-row.ensures
+    rw c.born-born.ensures (starve-leaves (tables_of c.self.inside) c.args.worker c.args.number c.get-row.result.now c.self.invariant.stands (rw (← c.self.view_is) at c.requires.worker) (rw (← c.self.view_is) at c.requires.ready) c.get-row.ensures)
 
 pub starve-ended-requires-clause-above : goal.starve-ended-requires-clause-above
 starve-ended-requires-clause-above c = (row-within (tables_of c.self.inside) c.args.number Ready c.self.invariant.stands (rw (← c.self.view_is) at c.requires.ready)).0
@@ -30,16 +30,16 @@ starve-ended-requires-clause-within c = (row-within (tables_of c.self.inside) c.
 
 pub tell-woken-requires : goal.tell-woken-requires
 tell-woken-requires c =
-    rw (c.starve-ended.ensures.ended c.get-row.result.now c.get-row.ensures)
+    rw (c.starve-ended.ensures.ended c.get-row.result.now c.get-row.ensures, c.born-born.ensures)
     (starve-tells (tables_of c.self.inside) c.args.worker c.args.number c.get-row.result.now c.self.invariant.stands (rw (← c.self.view_is) at c.requires.worker) (rw (← c.self.view_is) at c.requires.ready) c.get-row.ensures c.close.new.joins c.close.ensures)
 
 pub wake-requires-clause-within : goal.wake-requires-clause-within
 wake-requires-clause-within c =
-    let tells = rw (c.starve-ended.ensures.ended c.get-row.result.now c.get-row.ensures) at c.tell-woken.ensures.tells in
+    let tells = rw (c.starve-ended.ensures.ended c.get-row.result.now c.get-row.ensures, c.born-born.ensures) at c.tell-woken.ensures.tells in
     rw (c.starve-ended.ensures.items c.get-row.result.now c.get-row.ensures)
     (if-woken c.tell-woken.result c.self.inside.rows.items (c.args.number - 1) (closed stage.Starved c.get-row.result.now)
     (starve-wakes (tables_of c.self.inside) c.args.worker c.args.number c.get-row.result.now c.self.invariant.stands (rw (← c.self.view_is) at c.requires.worker) (rw (← c.self.view_is) at c.requires.ready) c.get-row.ensures
-    c.close.new.joins c.close.ensures c.leave.new.queues c.tell-woken.new.joins c.tell-woken.result c.leave.ensures.leaves tells c.tell-woken.ensures.woken))
+    c.close.new.joins c.close.ensures c.leave.new.queues c.tell-woken.new.joins c.tell-woken.result (rw c.born-born.ensures at c.leave.ensures.leaves) tells (rw c.born-born.ensures at c.tell-woken.ensures.woken)))
 
 pub wake-requires-clause-room : goal.wake-requires-clause-room
 wake-requires-clause-room c =
@@ -59,11 +59,11 @@ wake-requires-clause-rising c = rw c.remove.ensures.numbers (without-rises c.arg
 pub invariant_of-self : goal.invariant_of-self
 invariant_of-self c =
     let room = rw (← c.self.view_is) at c.requires.room in
-    let tells = rw (c.starve-ended.ensures.ended c.get-row.result.now c.get-row.ensures) at c.tell-woken.ensures.tells in
+    let tells = rw (c.starve-ended.ensures.ended c.get-row.result.now c.get-row.ensures, c.born-born.ensures) at c.tell-woken.ensures.tells in
     record {
       stands = rw (c.append_reserved.ensures.past, c.append_reserved.ensures.workers, c.append_reserved.ensures.turns, c.wake.ensures.rows, c.starve-ended.ensures.items c.get-row.result.now c.get-row.ensures, c.wake.ensures.numbers, c.remove.ensures.numbers)
           (stands-starve (tables_of c.self.inside) c.args.worker c.args.number c.get-row.result.now c.self.invariant.stands (rw (← c.self.view_is) at c.requires.worker) (rw (← c.self.view_is) at c.requires.ready) c.get-row.ensures
-          c.close.new.joins c.close.ensures c.leave.new.queues c.tell-woken.new.joins c.tell-woken.result c.leave.ensures.leaves tells c.tell-woken.ensures.woken c.settle.new.self c.settle.ensures);
+          c.close.new.joins c.close.ensures c.leave.new.queues c.tell-woken.new.joins c.tell-woken.result (rw c.born-born.ensures at c.leave.ensures.leaves) tells (rw c.born-born.ensures at c.tell-woken.ensures.woken) c.settle.new.self c.settle.ensures);
       few = c.self.invariant.few;
       room_small = omega (arith, room, c.self.invariant.room_small);
       room_journal = omega (arith, room, c.append_reserved.ensures.spare, c.self.invariant.room_journal);

@@ -1,18 +1,8 @@
-use Rattle.std.proofs.Common.{◌≡◌, ℕ, ◌-◌, ◌<◌, ◌≤◌, List, length, get_or, Some, Result, Ok, Err, refl, subst, arith}
-use Rattle.std.specs.List.{slice_get}
-use Rattle.std.specs.Result.{OnOk}
-use Rattle.std.proofs.lemmas.Option.{slice_get_read}
-use Rattle.eip_tables.specs.declared.row.Row.{Row}
+use Rattle.std.proofs.Common.{◌≡◌, refl, subst}
+use Rattle.eip_tables.specs.Row.{Row}
 use Rattle.eip_tables.specs.Look.{LookedAt}
+use Rattle.eip_rows.proofs.There.{row-there, on-ok}
 use Rattle.eip_rows.proofs.rows.Rows.look.Goals as goal
-
--- the row that is read is the one with the number
-row-there : (rows : List Row) (number : ℕ) (r : Row) → 0 < number → number ≤ length rows → r ≡ get_or rows (number - 1) r → slice_get rows (number - 1) ≡ Some r
-row-there rows number r above within read = slice_get_read rows (length rows) (number - 1) r refl (omega (arith, above, within)) read
-
-on-ok : {A E : Type 0} (r : Result A E) (P Q : Type 0) → (P → Q) → OnOk r P → OnOk r Q
-on-ok (Ok x) P Q f h = f h
-on-ok (Err e) P Q f h = tt
 
 pub look_at-requires : goal.look_at-requires
 look_at-requires c =

@@ -14,4 +14,4 @@ returns-clause-spare c =
     let many : length c.put_groups.new.rows.items ≡ length c.self.inside.rows.items + length c.args.closed.items =
     ap length c.put_groups.ensures.items
     ∙ (length-append c.self.inside.rows.items _ ∙ ap (λ n. length c.self.inside.rows.items + n) (as-many c.args.set.now (length c.self.inside.rows.items + 1) c.args.closed.items)) in
-    rw (← c.self.view_is) (omega (arith, many, c.put_groups.ensures.room))
+    rw (← c.self.view_is) (omega (arith, many, c.put_groups.ensures.room, c.put_groups.ensures.rooms))

@@ -14,4 +14,4 @@ returns-clause-spare c =
     let many : length c.put_parts.new.rows.items ≡ length c.self.inside.rows.items + length c.args.seeds.items =
     ap length c.put_parts.ensures.items
     ∙ (length-append c.self.inside.rows.items _ ∙ ap (λ n. length c.self.inside.rows.items + n) (as-many c.args.parent (length c.self.inside.rows.items + 1) c.args.parent.at.index c.args.seeds.items)) in
-    rw (← c.self.view_is) (omega (arith, many, c.put_parts.ensures.room))
+    rw (← c.self.view_is) (omega (arith, many, c.put_parts.ensures.room, c.put_parts.ensures.rooms))

@@ -1,6 +1,6 @@
 ghost use Rattle.std.specs.Prelude.{◌≡◌, IfOk};
 
-use eip_text::NoMemory;
+use crate::memory::NoMemory;
 use std::alloc::Global;
 use std::marker::Model;
 
@@ -35,7 +35,7 @@ impl<T: Drop> Boxed<T> {
 impl<T> Boxed<T> {
     ghost use Rattle.std.specs.Prelude.{◌≡◌};
     ghost use Rattle.std.specs.Borrow.{sem, Lends};
-    ghost use Rattle.eip_progress.specs.contracts.boxed.Boxed.{the_row};
+    ghost use Rattle.eip_text.specs.contracts.boxed.Boxed.{the_row};
 
     /// The value, lent.
     pub fn get(&self) -> &T
