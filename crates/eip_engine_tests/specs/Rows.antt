@@ -11,12 +11,16 @@ use Rattle.eip_route.specs.Plain.{plain_handler}
 abbrev pub stream_names : Names
 stream_names = record { lanes = []; inlets = codes "stream" ∷ []; processors = []; predicates = [] }
 
+-- a step that is a log
+abbrev pub logging_block : Block
+logging_block = record { steps = step.To (uri.Log (codes "out")) ∷ [] }
+
 -- one route from `stream:in`, whose one step is a log
 abbrev pub logging : RouteSet
 logging = record {
   names = stream_names;
   routes = (record { id = codes "route1"; from = uri.StreamIn; block = 0 }) ∷ [];
-  blocks = (record { steps = step.To (uri.Log (codes "out")) ∷ [] }) ∷ [];
+  blocks = logging_block ∷ [];
   handler = plain_handler;
   clauses = [];
 }

@@ -2,6 +2,7 @@ use crate::support::run_of_no_routes;
 use eip_endbook::{book_text, log_text, summary_text, totals};
 use eip_hub::Hub;
 use eip_ledger::Stop;
+use eip_test_support::joined;
 use eip_text::NoMemory;
 use std::alloc::Global;
 use std::test::Fail;
@@ -14,28 +15,28 @@ fn is_over(hub: &Hub) -> bool {
 
 /// The log, the book of a drained run and the summary of a spent one.
 fn texts_of(alloc: Global, hub: &Hub) -> Result<String, NoMemory> {
-    let mut texts = String::from_str(alloc, log_text(alloc, hub)?.as_str())?;
-    texts.push_str(book_text(alloc, hub, &Stop::Drained)?.as_str())?;
-    texts.push_str(summary_text(alloc, hub, &Stop::Spent)?.as_str())?;
-    Ok(texts)
+    let log = log_text(alloc, hub)?;
+    let book = book_text(alloc, hub, &Stop::Drained)?;
+    let summary = summary_text(alloc, hub, &Stop::Spent)?;
+    joined(alloc, &[log.as_str(), book.as_str(), summary.as_str()])
 }
 
-/// The texts of a run that is over before it begins, or none where it isn't.
-fn told(alloc: Global) -> Result<String, NoMemory> {
+/// Whether a run without routes is over before it begins, and its texts.
+fn told(alloc: Global) -> Result<(bool, String), NoMemory> {
     let hub = run_of_no_routes(alloc, 10)?;
-    if is_over(&hub) {
-        texts_of(alloc, &hub)
-    } else {
-        Ok(String::new(alloc))
-    }
+    let is_over = is_over(&hub);
+    let texts = texts_of(alloc, &hub);
+    drop(hub);
+    Ok((is_over, texts?))
 }
 
 #[test]
 fn a_run_without_entries_counts_nothing(rt: HostRuntime) -> Result<(), Fail> {
-    let told = told(rt.alloc())?;
+    let (is_over, texts) = told(rt.alloc())?;
     assert!(rt;
-        told.as_str()
-            == "accepted 0 refused 0\ntotal 0 completed 0 handled 0 failed 0 waiting 0\ndrained\naccepted 0 refused 0\ntotal 0 completed 0 handled 0 failed 0 waiting 0\nspent 0\n"
+        is_over
+            && texts.as_str()
+                == "accepted 0 refused 0\ntotal 0 completed 0 handled 0 failed 0 waiting 0\ndrained\naccepted 0 refused 0\ntotal 0 completed 0 handled 0 failed 0 waiting 0\nspent 0\n"
     );
     Ok(())
 }

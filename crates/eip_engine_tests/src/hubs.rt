@@ -39,7 +39,9 @@ fn is_over(hub: &mut Hub) -> Result<[bool; 6], NoMemory> {
 /// Whether a run of no routes is over at once.
 fn is_over_at_once(alloc: Global) -> Result<[bool; 6], NoMemory> {
     let mut hub = run_of_no_routes(alloc, 4)?;
-    is_over(&mut hub)
+    let is_over = is_over(&mut hub);
+    drop(hub);
+    is_over
 }
 
 #[test]

@@ -4,11 +4,12 @@ use eip_hub::Hub;
 use eip_ledger::{Place, Stop};
 use eip_text::NoMemory;
 use eip_worker::{Gate, NoGate};
-use eip_worker_runs::{hand_in, run_of};
+use eip_worker_runs::{Handed, hand_in, run_of};
 use eip_workers::run_workers;
+use std::sync::Wait;
 use std::sync::atomic::{AtomicU32, Ordering};
 use std::test::Fail;
-use std::thread::yield_now;
+use std::thread::{Threads, yield_now};
 
 /// The parts of a line are worked on at one time.
 const PARTS: &str =
@@ -59,37 +60,55 @@ fn are_completed(hub: &Hub, last: u64) -> Result<bool, NoMemory> {
     Ok(true)
 }
 
-#[test]
-fn two_workers_call_a_processor_at_one_time(rt: HostRuntime) -> Result<(), Fail> {
+/// How a run of these routes by two workers stopped, and whether the exchanges 1 to 3 are completed then. `None` where it didn't begin.
+fn left<G: Gate, W: AllocGlobal + Threads + Wait + Sync>(
+    rt: &W,
+    routes: &str,
+    handed: &mut Handed,
+    gate: &G,
+) -> Result<Option<(Stop, bool)>, NoMemory> {
     let alloc = rt.alloc();
-    let mut handed = hand_in(alloc, &[], &["stream"])?;
     let Some(hub) = run_of(
         alloc,
-        PARTS,
+        routes,
         &handed.lanes,
         &handed.inlets,
         &handed.registry,
         100,
     ) else {
-        panic!(rt; "no run")
-    };
-    let gate = Holding {
-        begun: AtomicU32::new(0),
-        polls: AtomicU32::new(0),
+        return Ok(None);
     };
     let (hub, stop) = run_workers(
-        &rt,
+        rt,
         alloc,
         hub,
         &mut handed.lanes,
         &mut handed.inlets,
         &handed.registry,
-        &gate,
+        gate,
         2,
     );
-    let are_done = are_completed(&hub, 3)?;
-    assert!(rt; gate.polls.load(Ordering::SeqCst) < POLLS);
-    assert!(rt; stop == Stop::Drained && are_done);
+    let are_done = are_completed(&hub, 3);
+    drop(hub);
+    Ok(Some((stop, are_done?)))
+}
+
+/// A run whose exchanges are completed.
+const DONE: Option<(Stop, bool)> = Some((Stop::Drained, true));
+
+#[test]
+fn two_workers_call_a_processor_at_one_time(rt: HostRuntime) -> Result<(), Fail> {
+    let mut handed = hand_in(rt.alloc(), &[], &["stream"])?;
+    let gate = Holding {
+        begun: AtomicU32::new(0),
+        polls: AtomicU32::new(0),
+    };
+    let left = left(&rt, PARTS, &mut handed, &gate);
+    drop(handed);
+    let polls = gate.polls.load(Ordering::SeqCst);
+    drop(gate);
+    assert!(rt; polls < POLLS);
+    assert!(rt; left? == DONE);
     Ok(())
 }
 
@@ -118,30 +137,11 @@ fn are_in_their_places(lanes: &[Lane<MemoryLane>], inlets: &[Inlet<MemorySource>
 
 #[test]
 fn lanes_and_inlets_come_back_in_their_places(rt: HostRuntime) -> Result<(), Fail> {
-    let alloc = rt.alloc();
-    let mut handed = hand_in(alloc, &["lane:z", "lane:x", "lane:y"], &["file", "stream"])?;
-    let Some(hub) = run_of(
-        alloc,
-        THRICE,
-        &handed.lanes,
-        &handed.inlets,
-        &handed.registry,
-        100,
-    ) else {
-        panic!(rt; "no run")
-    };
-    let (hub, stop) = run_workers(
-        &rt,
-        alloc,
-        hub,
-        &mut handed.lanes,
-        &mut handed.inlets,
-        &handed.registry,
-        &NoGate,
-        2,
-    );
-    let are_done = are_completed(&hub, 3)?;
-    assert!(rt; stop == Stop::Drained && are_done);
-    assert!(rt; are_in_their_places(handed.lanes.as_slice(), handed.inlets.as_slice()));
+    let lanes = ["lane:z", "lane:x", "lane:y"];
+    let mut handed = hand_in(rt.alloc(), &lanes, &["file", "stream"])?;
+    let left = left(&rt, THRICE, &mut handed, &NoGate);
+    let are_there = are_in_their_places(handed.lanes.as_slice(), handed.inlets.as_slice());
+    drop(handed);
+    assert!(rt; left? == DONE && are_there);
     Ok(())
 }
