@@ -22,12 +22,22 @@ use std::marker::Model;
 
 /// The open groups of aggregators (Hohpe and Woolf, *Aggregator*; Camel manual, *Aggregate EIP*). It stands for the list of
 /// its calls.
-#[derive(Drop)]
 pub struct Groups {
     alloc: Global,
     // How many groups have begun.
     begun: u64,
     places: Places,
+}
+
+impl Drop for Groups {
+    fn drop(self) {
+        let Groups {
+            alloc: _,
+            begun: _,
+            places,
+        } = self;
+        drop(places);
+    }
 }
 
 impl Model for Groups {

@@ -1,7 +1,7 @@
 -- What is done at the place of a name is what is done by the name.
-use Rattle.std.proofs.Common.{◌≡◌, ◌+◌, ◌<◌, ℕ, suc, zero, Bool, true, false, cond, not, nat_lt, List, [], ◌∷◌, ◌++◌, length, set, get_or, slice_get, Option, Some, None, is_some, refl, sym, ap, subst, ◌∙◌, IfSome, Result, Ok, Err, OnOk, OnErr, arith}
+use Rattle.std.proofs.Common.{◌≡◌, ◌+◌, ◌<◌, ℕ, suc, zero, Bool, true, false, cond, List, [], ◌∷◌, length, set, get_or, Option, Some, None, is_some, refl, sym, ap, subst, ◌∙◌, IfSome, Result, Ok, Err, OnOk, OnErr, arith}
 use Rattle.std.specs.Cmp.{IsEquivalence}
-use Rattle.std.specs.List.{IsDistinct, AllByRecursion, position, position_from, position_or_len}
+use Rattle.std.specs.List.{IsDistinct, AllByRecursion, position, position_from}
 use Rattle.std.specs.Option.{option_map}
 use Rattle.std.proofs.lemmas.Iterator.Adapters.{position_from-zero}
 use Rattle.eip_exchange.specs.Pairs.{Pairs, names, value_of, put, without}
@@ -162,3 +162,8 @@ module _ (same : List ℕ → List ℕ → Bool) where
     pub distinct_after : {T E : Type 0} (r : Result T E) (name value : List ℕ) (old new : Pairs) → IsDistinct same (names old) → OnOk r (new ≡ put same name value old) → OnErr r (new ≡ old) → IsDistinct same (names new)
     distinct_after (Ok x) name value old new d set stays = subst (λ ps. IsDistinct same (names ps)) (sym set) (IsDistinct-put name value old d)
     distinct_after (Err e) name value old new d set stays = subst (λ ps. IsDistinct same (names ps)) (sym stays) d
+
+-- what holds of the pairs before and of those that an Ok leaves holds of those that are left
+pub kept_after : {T E : Type 0} (P : Pairs → Type 0) (r : Result T E) (old other new : Pairs) → P old → P other → OnOk r (new ≡ other) → OnErr r (new ≡ old) → P new
+kept_after P (Ok x) old other new before after set stays = subst P (sym set) after
+kept_after P (Err e) old other new before after set stays = subst P (sym stays) before

@@ -1,4 +1,4 @@
-ghost use Rattle.std.specs.Prelude.{◌≡◌, ◌≤◌, ◌<◌, ◌↔◌, [], nat_le, length, IfOk, IfSome, IsTrue, OnOk, OnErr, IsErrOf, slice_get, is_some};
+ghost use Rattle.std.specs.Prelude.{◌≡◌, ◌≤◌, ◌<◌, ◌↔◌, [], false, Ok, None, nat_le, length, IfOk, IfSome, IsTrue, OnOk, OnErr, IsErrOf, slice_get, is_some};
 ghost use Rattle.std.specs.List.{IsDistinct};
 ghost use Rattle.std.specs.Option.{option_copied, option_map};
 ghost use Rattle.std.specs.Map.Iter.{deref_pair};
@@ -37,9 +37,15 @@ impl From<NoMemory> for HeaderFault {
 }
 
 /// The headers of a message: pairs of a name and a value, in order of first setting. Names are equal up to ASCII case.
-#[derive(Drop)]
 pub struct Headers {
     pairs: Pairs,
+}
+
+impl Drop for Headers {
+    fn drop(self) {
+        let Headers { pairs } = self;
+        drop(pairs);
+    }
 }
 
 impl Model for Headers {
@@ -112,10 +118,12 @@ impl Headers {
         Ok(self.pairs.put(place, name, value)?)
     }
 
-    /// Removes a header, by its name up to ASCII case; `true` exactly where it was there. The others keep their order.
-    pub fn remove(&mut self, name: &[u8]) -> bool
-        ensures there { result ≡ is_some (get_header name.now self.old) }
-        ensures removed { self.new ≡ without_header name.now self.old }
+    /// Removes a header, by its name up to ASCII case; `true` exactly where it was there. The others keep their order. `NoMemory` comes only where it was there and a copy shares them; then they stay.
+    pub fn remove(&mut self, name: &[u8]) -> Result<bool, NoMemory>
+        ensures there { IfOk result (λ there. there ≡ is_some (get_header name.now self.old)) }
+        ensures removed { OnOk result (self.new ≡ without_header name.now self.old) }
+        ensures err { OnErr result (self.new ≡ self.old) }
+        ensures none { get_header name.now self.old ≡ None → result ≡ Ok false }
     {
         let place = find(&self.pairs, name);
         self.pairs.take(place)

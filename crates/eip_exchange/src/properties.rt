@@ -1,4 +1,4 @@
-ghost use Rattle.std.specs.Prelude.{◌≡◌, ◌<◌, [], length, IfOk, IfSome, OnOk, OnErr, slice_get, is_some, bytes_eq};
+ghost use Rattle.std.specs.Prelude.{◌≡◌, ◌<◌, [], false, Ok, None, length, IfOk, IfSome, OnOk, OnErr, slice_get, is_some, bytes_eq};
 ghost use Rattle.std.specs.List.{IsDistinct};
 ghost use Rattle.std.specs.Option.{option_copied, option_map};
 ghost use Rattle.std.specs.Map.Iter.{deref_pair};
@@ -11,9 +11,15 @@ use std::alloc::Global;
 use std::marker::Model;
 
 /// The properties of an exchange: pairs of a name and a value, in order of first setting, without a limit. Names are compared byte for byte.
-#[derive(Drop)]
 pub struct Properties {
     pairs: Pairs,
+}
+
+impl Drop for Properties {
+    fn drop(self) {
+        let Properties { pairs } = self;
+        drop(pairs);
+    }
 }
 
 impl Model for Properties {
@@ -84,10 +90,12 @@ impl Properties {
         self.pairs.put(place, name, value)
     }
 
-    /// Removes a property; `true` exactly where it was there. The others keep their order.
-    pub fn remove(&mut self, name: &[u8]) -> bool
-        ensures there { result ≡ is_some (get_property name.now self.old) }
-        ensures removed { self.new ≡ without_property name.now self.old }
+    /// Removes a property; `true` exactly where it was there. The others keep their order. `NoMemory` comes only where it was there and a copy shares them; then they stay.
+    pub fn remove(&mut self, name: &[u8]) -> Result<bool, NoMemory>
+        ensures there { IfOk result (λ there. there ≡ is_some (get_property name.now self.old)) }
+        ensures removed { OnOk result (self.new ≡ without_property name.now self.old) }
+        ensures err { OnErr result (self.new ≡ self.old) }
+        ensures none { get_property name.now self.old ≡ None → result ≡ Ok false }
     {
         let place = find(&self.pairs, name);
         self.pairs.take(place)

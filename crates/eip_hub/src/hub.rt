@@ -31,10 +31,16 @@ use std::alloc::Global;
 use std::marker::Model;
 
 /// The state of a run: a legal journal of its route set, and what is known of it.
-#[derive(Drop)]
 pub struct Hub {
     alloc: Global,
     books: Books,
+}
+
+impl Drop for Hub {
+    fn drop(self) {
+        let Hub { alloc: _, books } = self;
+        drop(books);
+    }
 }
 
 impl Model for Hub {
@@ -77,7 +83,7 @@ impl Hub {
     pub fn into_journal(self) -> Journal
         ensures { result ≡ self.journal }
     {
-        let Hub { books, .. } = self;
+        let Hub { alloc: _, books } = self;
         books.into_journal()
     }
 

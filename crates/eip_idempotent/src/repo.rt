@@ -27,11 +27,22 @@ pub enum Offered {
 ///
 /// An eager claim holds its key at once, another one from its exchange's end on. Where the exchange completes, its claims
 /// hold for ever; where it doesn't, those hold for ever that aren't to be removed, and the others are given up.
-#[derive(Drop)]
 pub struct Repo {
     alloc: Global,
     keys: KeyMap,
     claims: ClaimMap,
+}
+
+impl Drop for Repo {
+    fn drop(self) {
+        let Repo {
+            alloc: _,
+            keys,
+            claims,
+        } = self;
+        drop(keys);
+        drop(claims);
+    }
 }
 
 impl Model for Repo {

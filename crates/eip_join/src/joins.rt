@@ -12,12 +12,23 @@ use std::marker::Model;
 
 /// The fan-outs whose parts are awaited, by the number of the exchange that was cut, and how each part ended (Hohpe and
 /// Woolf, *Splitter* and *Aggregator*; Camel manual, *Split EIP*). It stands for the list of its calls.
-#[derive(Drop)]
 pub struct Joins {
     alloc: Global,
     joins: BTreeMap<u64, OpenJoin>,
     // Whose parts begin at a number, for each join that has parts.
     parents: BTreeMap<u64, u64>,
+}
+
+impl Drop for Joins {
+    fn drop(self) {
+        let Joins {
+            alloc: _,
+            joins,
+            parents,
+        } = self;
+        drop(joins);
+        drop(parents);
+    }
 }
 
 impl Model for Joins {

@@ -9,7 +9,6 @@ use std::alloc::Global;
 use std::marker::Model;
 
 /// The journal of a run: its limits and its entries. Contracts see the entries with the newest first.
-#[derive(Drop)]
 pub struct Journal {
     alloc: Global,
     workers: u32,
@@ -17,6 +16,20 @@ pub struct Journal {
     entries: Vec<Entry>,
     // Room for the messages of as many accepted items as entries are reserved.
     letters: Vec<Boxed<Message>>,
+}
+
+impl Drop for Journal {
+    fn drop(self) {
+        let Journal {
+            alloc: _,
+            workers: _,
+            turns: _,
+            entries,
+            letters,
+        } = self;
+        drop(entries);
+        drop(letters);
+    }
 }
 
 impl Model for Journal {

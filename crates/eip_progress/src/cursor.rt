@@ -31,7 +31,6 @@ pub enum State {
 }
 
 /// One exchange on its way through a route, from one request to the next.
-#[derive(Drop)]
 pub struct Cursor {
     /// That of the steps which the exchange was born with.
     pub context: Context,
@@ -42,6 +41,24 @@ pub struct Cursor {
     /// What comes behind the part that runs, the outermost first.
     pub stack: Vec<Frame>,
     pub state: State,
+}
+
+impl Drop for Cursor {
+    fn drop(self) {
+        let Cursor {
+            context,
+            commit: _,
+            origin,
+            whole,
+            stack,
+            state,
+        } = self;
+        drop(context);
+        drop(origin);
+        drop(whole);
+        drop(stack);
+        drop(state);
+    }
 }
 
 impl Cursor {

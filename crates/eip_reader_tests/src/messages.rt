@@ -96,8 +96,8 @@ const KEPT: [(&str, &str, &str); 4] = [
 fn kept_and_removed(alloc: Global) -> Result<[bool; 4], HeaderFault> {
     let mut headers = headers_of(alloc, &SET)?;
     let kept = are_headers(&headers, &KEPT);
-    let removed = headers.remove(b"order");
-    let removed_again = headers.remove(b"order");
+    let removed = headers.remove(b"order")?;
+    let removed_again = headers.remove(b"order")?;
     Ok([
         kept,
         removed,
@@ -144,7 +144,7 @@ fn further_settings(alloc: Global) -> Result<[(Option<HeaderFault>, usize); 4], 
     let added = answered(alloc, &mut headers, "h64", "x");
     let replaced = answered(alloc, &mut headers, "H63", "y");
     let of_redelivery = answered(alloc, &mut headers, "CamelRedeliveryCounter", "1");
-    headers.remove(b"h0");
+    headers.remove(b"h0")?;
     let added_again = answered(alloc, &mut headers, "h64", "x");
     Ok([added, replaced, of_redelivery, added_again])
 }
@@ -174,8 +174,8 @@ fn the_sixty_fifth_header_is_refused(rt: HostRuntime) -> Result<(), Fail> {
 fn exact_properties(alloc: Global) -> Result<[bool; 4], NoMemory> {
     let mut properties = properties_of(alloc, &[("A", "1"), ("a", "2"), ("A", "3")])?;
     let kept = are_properties(&properties, &[("A", "3"), ("a", "2")]);
-    let removed = properties.remove(b"A");
-    let removed_again = properties.remove(b"A");
+    let removed = properties.remove(b"A")?;
+    let removed_again = properties.remove(b"A")?;
     Ok([
         kept,
         removed,
@@ -202,34 +202,39 @@ fn filled_message(alloc: Global) -> Result<Message, HeaderFault> {
     })
 }
 
-/// A copy of the message, behind which a header of the message was set.
-fn copied_before(alloc: Global) -> Result<Message, HeaderFault> {
+/// A message and a copy of it, which share their pairs until a header of the message is set, another removed from the copy, and
+/// the property from the message.
+fn changed_apart(alloc: Global) -> Result<(Message, Message), HeaderFault> {
     let mut message = filled_message(alloc)?;
-    let copy = message.copy(alloc)?;
+    let mut copy = message.copy(alloc)?;
     set_header(alloc, &mut message.headers, "A", "9")?;
-    Ok(copy)
+    let _ = copy.headers.remove(b"b")?;
+    let _ = message.properties.remove(b"p")?;
+    Ok((message, copy))
 }
 
-/// Whether the copy has the body, the headers and the property that the message had before a header of it was set.
-fn stands_alone(alloc: Global) -> Result<[bool; 3], HeaderFault> {
-    let copy = copied_before(alloc)?;
+/// Whether each of the two has its own changes, and none of the other's.
+fn stand_alone(alloc: Global) -> Result<[bool; 5], HeaderFault> {
+    let (message, copy) = changed_apart(alloc)?;
     Ok([
+        are_headers(&message.headers, &[("a", "A", "9"), ("b", "B", "2")]),
+        are_properties(&message.properties, &[]),
         copy.body.as_str() == "body",
-        are_headers(&copy.headers, &[("a", "A", "1"), ("b", "B", "2")]),
+        are_headers(&copy.headers, &[("a", "A", "1")]),
         are_properties(&copy.properties, &[("p", "3")]),
     ])
 }
 
 #[test]
-fn a_copied_message_stands_alone(rt: HostRuntime) -> Result<(), Fail> {
-    assert!(rt; stands_alone(rt.alloc())? == [true; 3]);
+fn a_message_and_its_copy_stand_alone(rt: HostRuntime) -> Result<(), Fail> {
+    assert!(rt; stand_alone(rt.alloc())? == [true; 5]);
     Ok(())
 }
 
 #[test]
-fn empty_lists_are_small(rt: HostRuntime) {
-    // A list without memory is an address, a length and a capacity.
-    assert!(rt; size_of::<Headers>() == 24);
-    assert!(rt; size_of::<Properties>() == 24);
-    assert!(rt; size_of::<Message>() == size_of::<Text>() + 48);
+fn headers_and_properties_are_small(rt: HostRuntime) {
+    // Whether there are pairs, and where they lie, which copies share.
+    assert!(rt; size_of::<Headers>() == 16);
+    assert!(rt; size_of::<Properties>() == 16);
+    assert!(rt; size_of::<Message>() == size_of::<Text>() + 32);
 }

@@ -8,10 +8,16 @@ use std::marker::Model;
 
 /// The exchanges that sleep, each until a moment of the clock, before their step is tried again (Camel manual,
 /// *Redelivery Policy*). It stands for the list of its calls.
-#[derive(Drop)]
 pub struct Retries {
     // The moment and the number of each, so that the first to wake comes first.
     sleepers: BTreeSet<(u64, u64)>,
+}
+
+impl Drop for Retries {
+    fn drop(self) {
+        let Retries { sleepers } = self;
+        drop(sleepers);
+    }
 }
 
 impl Model for Retries {

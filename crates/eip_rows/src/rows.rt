@@ -29,12 +29,23 @@ use std::marker::Model;
 
 /// The rows of all exchanges, by number from 1, with room that is reserved before rows are added: a place for each row, and an
 /// allocation for what its exchange has.
-#[derive(Drop)]
 pub struct Rows {
     alloc: Global,
     rows: Vec<Row>,
     // Where exchanges that are born find room for what they have.
     rooms: Vec<Boxed<Live>>,
+}
+
+impl Drop for Rows {
+    fn drop(self) {
+        let Rows {
+            alloc: _,
+            rows,
+            rooms,
+        } = self;
+        drop(rows);
+        drop(rooms);
+    }
 }
 
 impl Model for Rows {

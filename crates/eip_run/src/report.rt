@@ -34,11 +34,22 @@ pub enum Outcome {
 }
 
 /// The report of a command: its exit status, its outcome, and the journal of the run, which is empty where nothing ran.
-#[derive(Drop)]
 pub struct Report {
     pub status: u8,
     pub outcome: Outcome,
     pub journal: Journal,
+}
+
+impl Drop for Report {
+    fn drop(self) {
+        let Report {
+            status: _,
+            outcome,
+            journal,
+        } = self;
+        drop(outcome);
+        drop(journal);
+    }
 }
 
 /// The status of a run by its stop.

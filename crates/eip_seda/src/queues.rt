@@ -31,9 +31,15 @@ impl From<NoMemory> for OfferFault {
 
 /// What waits in the queue of each route, the first one first, and how many of its consumers are at work (Camel manual,
 /// *SEDA*). It stands for the list of its calls.
-#[derive(Drop)]
 pub struct Queues {
     queues: Vec<Queue>,
+}
+
+impl Drop for Queues {
+    fn drop(self) {
+        let Queues { queues } = self;
+        drop(queues);
+    }
 }
 
 impl Model for Queues {

@@ -15,13 +15,23 @@ use eip_turnstile::Chronicle;
 use std::marker::Model;
 
 /// A hub that workers share: they alone make entries behind those that there were, and each lane and each inlet is its owner's.
-#[derive(Drop)]
 pub struct SharedRun {
     hub: Hub,
     began: usize,
     /// How many exchanges wait for a call, as far as the looks told. It decides how early a source is pulled, and no contract speaks
     /// of it.
     waiting: u32,
+}
+
+impl Drop for SharedRun {
+    fn drop(self) {
+        let SharedRun {
+            hub,
+            began: _,
+            waiting: _,
+        } = self;
+        drop(hub);
+    }
 }
 
 impl Model for SharedRun {

@@ -14,10 +14,17 @@ use std::alloc::{AllocError, Global};
 use std::marker::Model;
 
 /// A pattern of `regex`, which contracts see as its text.
-#[derive(Drop)]
 pub struct Pattern {
     text: Text,
     whole: Regex,
+}
+
+impl Drop for Pattern {
+    fn drop(self) {
+        let Pattern { text, whole } = self;
+        drop(text);
+        drop(whole);
+    }
 }
 
 impl Model for Pattern {

@@ -27,9 +27,15 @@ pub enum Part {
 }
 
 /// A template: plain text with functions, as its parts from the left.
-#[derive(Drop)]
 pub struct Template {
     pub parts: Series<Part>,
+}
+
+impl Drop for Template {
+    fn drop(self) {
+        let Template { parts } = self;
+        drop(parts);
+    }
 }
 
 /// A side of a test.
@@ -99,7 +105,13 @@ pub enum Test {
 }
 
 /// A predicate: the conjunctions of which one has to hold, each as its tests.
-#[derive(Drop)]
 pub struct Predicate {
     pub any: Series<Series<Test>>,
+}
+
+impl Drop for Predicate {
+    fn drop(self) {
+        let Predicate { any } = self;
+        drop(any);
+    }
 }

@@ -53,7 +53,7 @@ pub fn try_step(
             let value = value_of(alloc, set, context, value, &message)?;
             set_property(alloc, name, value, message)
         }
-        Step::RemoveHeader(name) => Ok(remove_header(name, message)),
+        Step::RemoveHeader(name) => remove_header(name, message),
         Step::To(uri) => try_to(alloc, set, context, uri, message),
         Step::Log {
             name,
@@ -164,11 +164,11 @@ fn set_property(
     Ok(Tried::Goes(message))
 }
 
-fn remove_header(name: &Text, mut message: Message) -> Tried
-    ensures { result ≡ Tried.Goes (without_the_header message name.now) }
+fn remove_header(name: &Text, mut message: Message) -> Result<Tried, NoMemory>
+    ensures { IfOk result (λ t. t ≡ Tried.Goes (without_the_header message name.now)) }
 {
-    let _ = message.headers.remove(name.bytes());
-    Tried::Goes(message)
+    let _ = message.headers.remove(name.bytes())?;
+    Ok(Tried::Goes(message))
 }
 
 /// A line of the log is asked for (Camel manual, *Log EIP*).

@@ -57,11 +57,19 @@ pub enum Stage {
 
 /// What the books keep of one exchange. It is small; what a live exchange has lies in an allocation of its own, which is given up at
 /// its end.
-#[derive(Drop)]
 pub struct Row {
     born: Born,
     stage: Stage,
     kept: Kept,
+}
+
+impl Drop for Row {
+    fn drop(self) {
+        let Row { born, stage, kept } = self;
+        drop(born);
+        drop(stage);
+        drop(kept);
+    }
 }
 
 impl Model for Row {

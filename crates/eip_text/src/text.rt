@@ -10,7 +10,7 @@ use std::marker::Model;
 use thiserror::Error;
 
 /// The greatest length of a text that lies in the value itself: most names and numbers are no longer.
-const SHORT: usize = 24;
+const SHORT: usize = 16;
 
 /// How the bytes of a text are kept.
 #[derive(Debug, Drop)]

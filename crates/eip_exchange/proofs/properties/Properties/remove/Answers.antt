@@ -1,23 +1,40 @@
-use Rattle.std.proofs.Common.{ap, is_some, sym, subst, ◌∙◌}
+use Rattle.std.proofs.Common.{◌≡◌, ap, is_some, ◌∙◌}
 use Rattle.std.specs.Prelude.{bytes_eq}
 use Rattle.std.specs.List.{IsDistinct}
 use Rattle.std.specs.Cmp.Lexicographic.{nat_list_eq_equiv}
+use Rattle.std.proofs.lemmas.Result.{IfOk-weaker, on_ok_weaker}
 use Rattle.eip_exchange.specs.Pairs.{names, get_property, without_property}
 use Rattle.eip_exchange.specs.Places.{without_at}
-use Rattle.eip_exchange.proofs.Places.{place-there, without_at-place, IsDistinct-without}
+use Rattle.eip_exchange.proofs.Places.{place-there, without_at-place, IsDistinct-without, kept_after}
 use Rattle.eip_exchange.proofs.properties.Properties.remove.Goals as goal
 
 pub invariant_of-self : goal.invariant_of-self
 invariant_of-self c =
-    let taken = c.take.ensures.taken ∙ ap (λ o. without_at o c.self.inside.pairs) c.find-place.ensures.place ∙ without_at-place bytes_eq nat_list_eq_equiv c.args.name.now c.self.inside.pairs c.self.invariant in
-    subst (λ ps. IsDistinct bytes_eq (names ps)) (sym taken) (IsDistinct-without bytes_eq c.args.name.now c.self.inside.pairs c.self.invariant)
+    let ps = c.self.inside.pairs in
+    kept_after (λ qs. IsDistinct bytes_eq (names qs)) c.take.result ps (without_property c.args.name.now ps) c.take.new.self c.self.invariant
+    (IsDistinct-without bytes_eq c.args.name.now ps c.self.invariant)
+    (on_ok_weaker c.take.result
+    (λ e. e ∙ ap (λ o. without_at o ps) c.find-place.ensures.place ∙ without_at-place bytes_eq nat_list_eq_equiv c.args.name.now ps c.self.invariant)
+    c.take.ensures.taken)
+    c.take.ensures.err
 
 pub returns-clause-removed : goal.returns-clause-removed
 returns-clause-removed c =
-    c.take.ensures.taken ∙ ap (λ o. without_at o c.self.inside.pairs) c.find-place.ensures.place ∙ without_at-place bytes_eq nat_list_eq_equiv c.args.name.now c.self.inside.pairs c.self.invariant
-    ∙ ap (without_property c.args.name.now) c.self.view_is
+    let ps = c.self.inside.pairs in
+    on_ok_weaker c.take.result
+    (λ e. e ∙ ap (λ o. without_at o ps) c.find-place.ensures.place ∙ without_at-place bytes_eq nat_list_eq_equiv c.args.name.now ps c.self.invariant
+    ∙ ap (without_property c.args.name.now) c.self.view_is)
+    c.take.ensures.taken
 
 pub returns-clause-there : goal.returns-clause-there
 returns-clause-there c =
-    c.take.ensures.there ∙ ap is_some c.find-place.ensures.place ∙ place-there bytes_eq c.args.name.now c.self.inside.pairs
-    ∙ ap (λ ps. is_some (get_property c.args.name.now ps)) c.self.view_is
+    let ps = c.self.inside.pairs in
+    IfOk-weaker c.take.result (λ there. there ≡ is_some c.find-place.result) (λ there. there ≡ is_some (get_property c.args.name.now c.args.self.now))
+    (λ _ e. e ∙ ap is_some c.find-place.ensures.place ∙ place-there bytes_eq c.args.name.now ps ∙ ap (λ qs. is_some (get_property c.args.name.now qs)) c.self.view_is)
+    c.take.ensures.there
+
+pub returns-clause-none : goal.returns-clause-none
+returns-clause-none c = λ h.
+    c.take.ensures.none
+    (ap is_some c.find-place.ensures.place ∙ place-there bytes_eq c.args.name.now c.self.inside.pairs
+    ∙ ap (λ qs. is_some (get_property c.args.name.now qs)) c.self.view_is ∙ ap is_some h)
