@@ -203,7 +203,7 @@ fn shared(alloc: Global, items: Vec<Pair>) -> Result<Arc<Vec<Pair>>, NoMemory>
     }
 }
 
-/// The same in a list of its own.
+/// Sets the value at the place of its name, or last, in a list that nothing shares.
 fn put_in(
     items: &mut Vec<Pair>,
     place: Option<usize>,

@@ -12,7 +12,6 @@ pub enum Refused {
 }
 
 /// What an entry says. Routes, sources and queues go by the index of their route, exchanges by their number.
-#[derive(Drop)]
 pub enum Kind {
     /// The source is asked for an item.
     Pull(u32),
@@ -52,6 +51,39 @@ pub enum Kind {
     Starve(u64),
     /// The exchange is in hand no more.
     Return(u64),
+}
+
+impl Drop for Kind {
+    fn drop(self) {
+        match self {
+            Kind::Accept {
+                source: _,
+                item,
+                message,
+            } => {
+                drop(item);
+                drop(message);
+            }
+            Kind::Refuse {
+                source: _,
+                item,
+                cause: _,
+            } => drop(item),
+            Kind::Answer { number: _, answer } => drop(answer),
+            Kind::Pull(_)
+            | Kind::SourceEnd(_)
+            | Kind::SourceFault(_)
+            | Kind::Start {
+                queue: _,
+                number: _,
+            }
+            | Kind::Take(_)
+            | Kind::Tick(_)
+            | Kind::Force
+            | Kind::Starve(_)
+            | Kind::Return(_) => {}
+        }
+    }
 }
 
 /// One atomic step of one worker.

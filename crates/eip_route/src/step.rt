@@ -4,7 +4,6 @@ use eip_text::{Series, Text};
 use eip_uri::Uri;
 
 /// An expression: what gives a step its value (Camel manual, *Languages*).
-#[derive(Drop)]
 pub enum Expr {
     /// A template of the Simple language.
     Simple(Template),
@@ -16,8 +15,18 @@ pub enum Expr {
     Property(Text),
 }
 
+impl Drop for Expr {
+    fn drop(self) {
+        match self {
+            Expr::Simple(template) => drop(template),
+            Expr::Constant(text) => drop(text),
+            Expr::Header(name) => drop(name),
+            Expr::Property(name) => drop(name),
+        }
+    }
+}
+
 /// What a choice or a filter asks of a message (Camel manual, *Predicate*).
-#[derive(Drop)]
 pub enum Check {
     /// A predicate of the Simple language.
     Simple(Predicate),
@@ -25,6 +34,16 @@ pub enum Check {
     Fixed(bool),
     /// The predicate that is handed in under this name.
     Stored(Text),
+}
+
+impl Drop for Check {
+    fn drop(self) {
+        match self {
+            Check::Simple(predicate) => drop(predicate),
+            Check::Stored(name) => drop(name),
+            Check::Fixed(_) => {}
+        }
+    }
 }
 
 /// How the parts of a fan-out run and become one message (Camel manual, *Split EIP*, *Multicast EIP*).
@@ -70,7 +89,6 @@ pub struct Catch {
 
 /// One step of a route (Camel manual, *Enterprise Integration Patterns*). Nested blocks are given by their numbers,
 /// which are greater than that of the block in which the step stands.
-#[derive(Drop)]
 pub enum Step {
     /// The value replaces the body.
     SetBody(Expr),
@@ -145,4 +163,70 @@ pub enum Step {
         catches: Series<Catch>,
         finish: Option<u32>,
     },
+}
+
+impl Drop for Step {
+    fn drop(self) {
+        match self {
+            Step::SetBody(value) => drop(value),
+            Step::SetHeader { name, value } => {
+                drop(name);
+                drop(value);
+            }
+            Step::SetProperty { name, value } => {
+                drop(name);
+                drop(value);
+            }
+            Step::RemoveHeader(name) => drop(name),
+            Step::To(uri) => drop(uri),
+            Step::Log { name, message } => {
+                drop(name);
+                drop(message);
+            }
+            Step::Throw { kind, message } => {
+                drop(kind);
+                drop(message);
+            }
+            Step::Process(name) => drop(name),
+            Step::Choice {
+                cases,
+                otherwise: _,
+            } => drop(cases),
+            Step::Filter { check, block: _ } => drop(check),
+            Step::Split { how, fan, block: _ } => {
+                drop(how);
+                drop(fan);
+            }
+            Step::Multicast { fan, blocks } => {
+                drop(fan);
+                drop(blocks);
+            }
+            Step::Recipients {
+                list,
+                delimiter,
+                fan,
+            } => {
+                drop(list);
+                drop(delimiter);
+                drop(fan);
+            }
+            Step::Aggregate(aggregate) => drop(aggregate),
+            Step::Idempotent {
+                key,
+                repository,
+                skip: _,
+                eager: _,
+                remove: _,
+                block: _,
+            } => {
+                drop(key);
+                drop(repository);
+            }
+            Step::Try {
+                block: _,
+                catches,
+                finish: _,
+            } => drop(catches),
+        }
+    }
 }

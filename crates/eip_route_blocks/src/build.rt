@@ -9,9 +9,9 @@ ghost use Rattle.eip_route_values.specs.Parts as parts;
 ghost use Rattle.eip_route_values.specs.Taken as taken;
 ghost use Rattle.eip_route_values.specs.Taken.{Holds, Spends};
 
-use crate::frames::{places_of, step_of};
 use eip_exchange::How;
 use eip_route::{Block, Step};
+use eip_route_frames::{places_of, step_of};
 use eip_route_grammar::keys::Key;
 use eip_route_grammar::known::Known;
 use eip_route_values::built::{

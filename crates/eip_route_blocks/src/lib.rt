@@ -2,6 +2,5 @@
 #![tactic(auto)]
 
 pub mod build;
-mod frames;
 
 pub use build::build_list;

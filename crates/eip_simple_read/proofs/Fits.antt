@@ -12,7 +12,7 @@ use Rattle.eip_simple_read.specs.declared.tree.Function.{Function}
 use Rattle.eip_simple_read.specs.declared.tree.Function.TheVariants.{Body, Header, Property, ExchangeId, RouteId, ExceptionMessage}
 use Rattle.eip_simple_read.specs.declared.tree.Part.{Part}
 use Rattle.eip_simple_read.specs.declared.tree.Part.TheVariants as part
-use Rattle.eip_simple_read.specs.Reading.{Fault, ◌>>=◌, ◌<|>◌, worded, of_name, named, known, closed, function_behind, plain, plain_or_call, template}
+use Rattle.eip_simple_read.specs.Reading.{Fault, ◌>>=◌, ◌<|>◌, worded, of_name, whole_word, header, property, named, known, closed, function_behind, plain, plain_or_call, template}
 use Rattle.eip_simple_read.specs.Spelling.{function_text, parts_text, is_function, is_plain, begins_plain, is_some_text, are_parts}
 use Rattle.eip_simple_read.proofs.TemplateSteps.{ok_is}
 
@@ -36,13 +36,9 @@ name_fits make h (Some x) f e =
     let g = guarded (is_name x) (Some (make x)) f e in
     subst (λ (y : Function). is_function y ≡ true) (same_Some (make x) f g.1) (h x g.0)
 
-named_fits : (bs : List ℕ) (f : Function) → named bs ≡ Some f → is_function f ≡ true
-unfolding named
-named_fits bs f e =
-    let property = option_and_then (of_name Property) (behind (codes "exchangeProperty.") bs) in
-    let headers = behind (codes "header.") bs <|> behind (codes "headers.") bs in
-    let o5 = option_and_then (of_name Header) headers <|> property in
-    let o4 = worded bs ExceptionMessage (codes "exception.message") <|> o5 in
+whole_word_fits : (bs : List ℕ) (f : Function) → whole_word bs ≡ Some f → is_function f ≡ true
+whole_word_fits bs f e =
+    let o4 = worded bs ExceptionMessage (codes "exception.message") in
     let o3 = worded bs RouteId (codes "routeId") <|> o4 in
     let o2 = worded bs ExchangeId (codes "exchangeId") <|> o3 in
     elim (chosen (worded bs Body (codes "body")) o2 f e) [
@@ -53,16 +49,20 @@ named_fits bs f e =
             | inr e3 ↦
                 elim (chosen (worded bs RouteId (codes "routeId")) o4 f e3) [
                   | inl a ↦ word_fits bs RouteId (codes "routeId") f refl a
-                  | inr e4 ↦
-                      elim (chosen (worded bs ExceptionMessage (codes "exception.message")) o5 f e4) [
-                        | inl a ↦ word_fits bs ExceptionMessage (codes "exception.message") f refl a
-                        | inr e5 ↦
-                            elim (chosen (option_and_then (of_name Header) headers) property f e5) [
-                              | inl a ↦ name_fits Header (λ x h. h) headers f a
-                              | inr a ↦ name_fits Property (λ x h. h) (behind (codes "exchangeProperty.") bs) f a
-                            ]
-                      ]
+                  | inr a ↦ word_fits bs ExceptionMessage (codes "exception.message") f refl a
                 ]
+          ]
+    ]
+
+named_fits : (bs : List ℕ) (f : Function) → named bs ≡ Some f → is_function f ≡ true
+unfolding named
+named_fits bs f e =
+    elim (chosen (whole_word bs) (header bs <|> property bs) f e) [
+      | inl a ↦ whole_word_fits bs f a
+      | inr e2 ↦
+          elim (chosen (header bs) (property bs) f e2) [
+            | inl a ↦ name_fits Header (λ x h. h) (behind (codes "header.") bs <|> behind (codes "headers.") bs) f a
+            | inr a ↦ name_fits Property (λ x h. h) (behind (codes "exchangeProperty.") bs) f a
           ]
     ]
 

@@ -63,11 +63,20 @@ worded bs f word = if bytes_eq bs word then Some f else None
 abbrev pub of_name : (List ℕ → Function) → List ℕ → Option Function
 of_name make x = if is_name x then Some (make x) else None
 
-unfoldable pub named : List ℕ → Option Function
-named bs = worded bs Body (codes "body") <|> worded bs ExchangeId (codes "exchangeId") <|> worded bs RouteId (codes "routeId")
+-- the function that a whole word is
+abbrev pub whole_word : List ℕ → Option Function
+whole_word bs = worded bs Body (codes "body") <|> worded bs ExchangeId (codes "exchangeId") <|> worded bs RouteId (codes "routeId")
     <|> worded bs ExceptionMessage (codes "exception.message")
-    <|> option_and_then (of_name Header) (behind (codes "header.") bs <|> behind (codes "headers.") bs)
-    <|> option_and_then (of_name Property) (behind (codes "exchangeProperty.") bs)
+
+-- the function that names a header, and the one that names a property
+abbrev pub header : List ℕ → Option Function
+header bs = option_and_then (of_name Header) (behind (codes "header.") bs <|> behind (codes "headers.") bs)
+
+abbrev pub property : List ℕ → Option Function
+property bs = option_and_then (of_name Property) (behind (codes "exchangeProperty.") bs)
+
+unfoldable pub named : List ℕ → Option Function
+named bs = whole_word bs <|> header bs <|> property bs
 
 abbrev pub known : ℕ → Option Function → List ℕ → Result (Function × List ℕ) Fault
 known left None rest = Err (Unknown left)

@@ -21,9 +21,11 @@ use std::alloc::Global;
 fn plain_text(alloc: Global, parts: &[Part]) -> Result<Option<Text>, NoMemory>
     ensures { IfOk result (λ o. o ≡ spec.plain_text parts.now) }
 {
-    match parts {
-        [] => Ok(Some(Text::of_str(alloc, "")?)),
-        [Part::Plain(text)] => Ok(Some(text.copy()?)),
+    let Some((first, others)) = parts.split_first() else {
+        return Ok(Some(Text::of_str(alloc, "")?));
+    };
+    match first {
+        Part::Plain(text) if others.is_empty() => Ok(Some(text.copy()?)),
         _ => Ok(None),
     }
 }

@@ -8,29 +8,55 @@ use eip_text::cuts::{behind, cut};
 use eip_text::{NoMemory, Text, is_name};
 use std::alloc::Global;
 
+/// The function that a whole word is.
+fn whole_word(name: &str) -> Option<Function>
+    ensures { result ≡ spec.whole_word name.now }
+{
+    match name {
+        "body" => Some(Function::Body),
+        "exchangeId" => Some(Function::ExchangeId),
+        "routeId" => Some(Function::RouteId),
+        "exception.message" => Some(Function::ExceptionMessage),
+        _ => None,
+    }
+}
+
+/// The function that names a header.
+fn header(alloc: Global, name: &str) -> Result<Option<Function>, NoMemory>
+    ensures { IfOk result (λ f. f ≡ spec.header name.now) }
+{
+    match behind(name, "header.").or(behind(name, "headers.")) {
+        Some(header) if is_name(header.as_bytes()) => {
+            Ok(Some(Function::Header(Text::of_str(alloc, header)?)))
+        }
+        _ => Ok(None),
+    }
+}
+
+/// The function that names a property.
+fn property(alloc: Global, name: &str) -> Result<Option<Function>, NoMemory>
+    ensures { IfOk result (λ f. f ≡ spec.property name.now) }
+{
+    match behind(name, "exchangeProperty.") {
+        Some(property) if is_name(property.as_bytes()) => {
+            Ok(Some(Function::Property(Text::of_str(alloc, property)?)))
+        }
+        _ => Ok(None),
+    }
+}
+
 /// The function of a name.
 #[tactic(auto, unfolding(crate::specs::Reading::named))]
 fn named(alloc: Global, name: &str) -> Result<Option<Function>, NoMemory>
     ensures { IfOk result (λ f. f ≡ spec.named name.now) }
 {
-    match name {
-        "body" => return Ok(Some(Function::Body)),
-        "exchangeId" => return Ok(Some(Function::ExchangeId)),
-        "routeId" => return Ok(Some(Function::RouteId)),
-        "exception.message" => return Ok(Some(Function::ExceptionMessage)),
-        _ => {}
+    if let Some(function) = whole_word(name) {
+        return Ok(Some(function));
     }
-    if let Some(header) = behind(name, "header.").or(behind(name, "headers.")) {
-        if is_name(header.as_bytes()) {
-            return Ok(Some(Function::Header(Text::of_str(alloc, header)?)));
-        }
+    if let Some(function) = header(alloc, name)? {
+        return Ok(Some(function));
     }
-    if let Some(property) = behind(name, "exchangeProperty.") {
-        if is_name(property.as_bytes()) {
-            return Ok(Some(Function::Property(Text::of_str(alloc, property)?)));
-        }
-    }
-    Ok(None)
+    property(alloc, name)
 }
 
 /// The function whose name stands in front, and what stands behind its brace.

@@ -86,7 +86,6 @@ pub enum Op {
 }
 
 /// One test of a predicate.
-#[derive(Drop)]
 pub enum Test {
     /// A side alone.
     Single(Side),
@@ -102,6 +101,26 @@ pub enum Test {
         pattern: Pattern,
         negated: bool,
     },
+}
+
+impl Drop for Test {
+    fn drop(self) {
+        match self {
+            Test::Single(side) => drop(side),
+            Test::Compare { left, op: _, right } => {
+                drop(left);
+                drop(right);
+            }
+            Test::Matches {
+                left,
+                pattern,
+                negated: _,
+            } => {
+                drop(left);
+                drop(pattern);
+            }
+        }
+    }
 }
 
 /// A predicate: the conjunctions of which one has to hold, each as its tests.

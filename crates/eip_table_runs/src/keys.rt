@@ -37,6 +37,23 @@ fn end_all(repo: &mut Repo, count: u64) {
     }
 }
 
+/// Another offers the key of a number: whether an even one holds it, and nobody that of an odd one.
+fn is_held_by_itself(
+    alloc: Global,
+    repo: &mut Repo,
+    repository: &Text,
+    number: u64,
+    offering: u64,
+) -> Result<bool, NoMemory> {
+    let key = decimal(alloc, number)?;
+    let want = if number % 2 == 0 {
+        Offered::Duplicate(number)
+    } else {
+        Offered::Fresh
+    };
+    Ok(repo.offer(repository, &key, offering, true, true)? == want)
+}
+
 /// So many keys are claimed, settled and offered again in another order: the first that isn't held by its own even number
 /// alone, or `count` where an offer of a new key was no fresh one.
 pub fn first_wrong(alloc: Global, count: u64) -> Result<Option<u64>, NoMemory> {
@@ -48,30 +65,43 @@ pub fn first_wrong(alloc: Global, count: u64) -> Result<Option<u64>, NoMemory> {
     end_all(&mut repo, count);
     for turn in 0..count {
         let number = mixed(turn, count);
-        let key = decimal(alloc, number)?;
-        let want = if number % 2 == 0 {
-            Offered::Duplicate(number)
-        } else {
-            Offered::Fresh
-        };
-        if repo.offer(&repository, &key, count.saturating_add(turn), true, true)? != want {
+        let offering = count.saturating_add(turn);
+        if !is_held_by_itself(alloc, &mut repo, &repository, number, offering)? {
             return Ok(Some(number));
         }
     }
     Ok(None)
 }
 
+/// The numbers below a count offer one key, none of them eagerly.
+fn offer_all(repo: &mut Repo, repository: &Text, key: &Text, count: u64) -> Result<(), NoMemory> {
+    for number in 0..count {
+        repo.offer(repository, key, number, false, true)?;
+    }
+    Ok(())
+}
+
+/// The number completes. Whether it is the holder of the key from then on, which another offers.
+fn is_held_at_the_end(
+    repo: &mut Repo,
+    repository: &Text,
+    key: &Text,
+    number: u64,
+    offering: u64,
+) -> Result<bool, NoMemory> {
+    repo.settle(number, Ending::Completed);
+    let offered = repo.offer(repository, key, offering, false, true)?;
+    Ok(offered == Offered::Duplicate(number))
+}
+
 /// The first of so many ends, the greatest number's first, behind which the key isn't held by the number that ended last.
 pub fn wrong_holder(alloc: Global, count: u64) -> Result<Option<u64>, NoMemory> {
     let (repository, key) = (Text::of_str(alloc, "in")?, Text::of_str(alloc, "k")?);
     let mut repo = Repo::new(alloc);
-    for number in 0..count {
-        repo.offer(&repository, &key, number, false, true)?;
-    }
+    offer_all(&mut repo, &repository, &key, count)?;
     for turn in 0..count {
         let number = count - 1 - turn;
-        repo.settle(number, Ending::Completed);
-        if repo.offer(&repository, &key, count, false, true)? != Offered::Duplicate(number) {
+        if !is_held_at_the_end(&mut repo, &repository, &key, number, count)? {
             return Ok(Some(number));
         }
     }

@@ -22,9 +22,16 @@ enum Held {
 }
 
 /// A text of UTF-8 (RFC 3629), which contracts see as the list of its bytes.
-#[derive(Debug, Drop)]
+#[derive(Debug)]
 pub struct Text {
     held: Held,
+}
+
+impl Drop for Text {
+    fn drop(self) {
+        let Text { held } = self;
+        drop(held);
+    }
 }
 
 impl Model for Text {
@@ -135,7 +142,8 @@ impl Text {
         ensures ok { IfOk result (λ s. string_bytes s ≡ self) }
         ensures err { IfErr result (λ t. t ≡ self) }
     {
-        match self.held {
+        let Text { held } = self;
+        match held {
             Held::Long(string) => Ok(string),
             held => on_heap(alloc, Text { held }),
         }

@@ -51,20 +51,20 @@ impl Uri {
     fn with_options(self, alloc: Global, options: &Options) -> Result<Uri, UriFault>
         ensures { spec.Says result (spec.with_options self (now_entries options.now.given.items)) }
     {
-        match self {
+        match &self {
             Uri::Seda {
                 name,
                 size,
                 consumers,
                 ..
             } => Ok(Uri::Seda {
-                name,
-                size: options.count("size", size),
-                consumers: options.count("concurrentConsumers", consumers),
+                name: name.copy()?,
+                size: options.count("size", *size),
+                consumers: options.count("concurrentConsumers", *consumers),
                 discard: options.flag("discardWhenFull"),
             }),
-            Uri::File { folder, .. } => file(alloc, folder, options),
-            other => Ok(other),
+            Uri::File { folder, .. } => file(alloc, folder.copy()?, options),
+            _ => Ok(self),
         }
     }
 }

@@ -27,7 +27,6 @@ pub enum Exist {
 }
 
 /// An endpoint: where messages come from or go to (Camel manual, *URIs*).
-#[derive(Drop)]
 pub enum Uri {
     /// `direct:NAME`: the route with this consumer runs on the same exchange.
     Direct(Text),
@@ -60,6 +59,34 @@ pub enum Uri {
     Lane(Text),
     /// `load:N`: the N items of the load generator.
     Load(u32),
+}
+
+impl Drop for Uri {
+    fn drop(self) {
+        match self {
+            Uri::Direct(name) => drop(name),
+            Uri::Seda {
+                name,
+                size: _,
+                consumers: _,
+                discard: _,
+            } => drop(name),
+            Uri::File {
+                folder,
+                after,
+                failed,
+                exist: _,
+            } => {
+                drop(folder);
+                drop(after);
+                drop(failed);
+            }
+            Uri::Log(name) => drop(name),
+            Uri::Line { host, port: _ } => drop(host),
+            Uri::Lane(name) => drop(name),
+            Uri::StreamIn | Uri::Listen(_) | Uri::Load(_) => {}
+        }
+    }
 }
 
 impl After {

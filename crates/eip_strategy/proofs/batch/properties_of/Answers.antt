@@ -6,8 +6,8 @@ use Rattle.eip_strategy.proofs.batch.properties_of.Goals as goal
 pub loop-name-preserved : goal.loop-name-preserved
 loop-name-preserved c =
     let all = c.args.properties.now in
-    let longer : vec_len c.push-in-Some.new.self ≡ vec_len c.loop-name.pairs + 1 = search rules in
-    taken_more c.loop-name.pairs.items c.push-in-Some.new.self.items all (vec_len c.loop-name.pairs) (vec_len c.push-in-Some.new.self) _ (c.in-Some.name.now, c.in-Some.value.now)
+    let longer : vec_len c.push.new.self ≡ vec_len c.loop-name.pairs + 1 = search rules in
+    taken_more c.loop-name.pairs.items c.push.new.self.items all (vec_len c.loop-name.pairs) (vec_len c.push.new.self) _ (c.in-Some.name.now, c.in-Some.value.now)
     c.loop-name.invariant (c.in-Some.ensures ∙ ap (slice_get all) c.len.ensures) c.in_ok-push.ensures.items
     (ap₂ (λ (a b : List ℕ). (a, b)) c.in_ok-copy.ensures c.in_ok-copy-2.ensures) longer
 

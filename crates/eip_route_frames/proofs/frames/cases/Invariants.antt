@@ -3,7 +3,7 @@ use Rattle.eip_text.specs.Json.{items_json}
 use Rattle.eip_route.specs.Nest.{cases_with, past}
 use Rattle.eip_route_values.specs.Nesting.{checks_of}
 use Rattle.eip_route_values.specs.Taken.{stock, spent, holds, by_check, by_each}
-use Rattle.eip_route_blocks.proofs.frames.cases.Given as goal
+use Rattle.eip_route_frames.proofs.frames.cases.Given as goal
 
 abbrev pub invariant-loop-item : goal.invariant-loop-item
 invariant-loop-item l = record {

@@ -3,7 +3,7 @@ use Rattle.eip_text.specs.Json.{items_json}
 use Rattle.eip_route.specs.Nest.{catches_with, past}
 use Rattle.eip_route_values.specs.Nesting.{catchings_of}
 use Rattle.eip_route_values.specs.Taken.{stock, spent, holds, by_catch, by_each}
-use Rattle.eip_route_blocks.proofs.frames.catches.Given as goal
+use Rattle.eip_route_frames.proofs.frames.catches.Given as goal
 
 abbrev pub invariant-loop-item : goal.invariant-loop-item
 invariant-loop-item l = record {
