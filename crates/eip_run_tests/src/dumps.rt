@@ -38,13 +38,11 @@ const ENTRIES: [&str; 5] = [TAKEN, FAILED, SLEPT, TICK, TRIED];
 
 /// A file of the folder that a command runs in.
 fn file_of(alloc: Global, name: &str, bytes: &str) -> Result<(Text, Text, Series<u8>), NoMemory> {
+    let folder = Text::of_str(alloc, ".")?;
+    let name = Text::of_str(alloc, name)?;
     let mut copy = Vec::new(alloc);
     copy.extend_from_slice(bytes.as_bytes())?;
-    Ok((
-        Text::of_str(alloc, ".")?,
-        Text::of_str(alloc, name)?,
-        Series::of(copy),
-    ))
+    Ok((folder, name, Series::of(copy)))
 }
 
 /// What is handed to a command of these words, where `r.json` has the retrying routes and `j` is this dump.

@@ -31,7 +31,6 @@ pub const SOUND: Failing = Failing {
 };
 
 /// What is handed to a command.
-#[derive(Drop)]
 pub struct Given {
     pub words: Vec<Text>,
     pub files: MemoryFiles,
@@ -39,6 +38,25 @@ pub struct Given {
     pub inlets: Vec<Inlet<Lines>>,
     pub registry: Registry<SampleProcessor, SamplePredicate>,
     pub out: MemorySink,
+}
+
+impl Drop for Given {
+    fn drop(self) {
+        let Given {
+            words,
+            files,
+            lanes,
+            inlets,
+            registry,
+            out,
+        } = self;
+        drop(words);
+        drop(files);
+        drop(lanes);
+        drop(inlets);
+        drop(registry);
+        drop(out);
+    }
 }
 
 /// A route file of one route from standard input with these steps.
