@@ -4,7 +4,7 @@ use Rattle.eip_ledger.specs.declared.entry.Kind.{Kind}
 use Rattle.eip_history.specs.Plan.{Plan}
 use Rattle.eip_history.specs.Own.{Past}
 use Rattle.eip_plan.specs.Plan.{plan_of}
-use Rattle.eip_books.specs.View.{BooksView, plan, Adds, AddsNone}
+use Rattle.eip_hub.specs.View.{BooksView, plan, Adds, AddsNone}
 
 module _ (a b : BooksView) (n : AddsNone a b) where
   -- what is read from the plan, the limit and the past stays

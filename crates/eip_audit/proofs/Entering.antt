@@ -14,8 +14,8 @@ use Rattle.eip_history.proofs.Told.{births-none}
 use Rattle.eip_history.proofs.Unborn.{legal-may, place-born}
 use Rattle.eip_plan.specs.Plan.{plan_of}
 use Rattle.eip_tables.specs.Rows.{SourcesStand}
-use Rattle.eip_books.specs.declared.ticket.Ticket.{Ticket}
-use Rattle.eip_books.specs.View.{BooksView, plan, IsLegalRun, Adds}
+use Rattle.eip_hub.specs.Ticket.{Ticket}
+use Rattle.eip_hub.specs.View.{BooksView, plan, IsLegalRun, Adds}
 use Rattle.eip_audit.specs.declared.auditor.Auditor.{Auditor}
 use Rattle.eip_audit.specs.Judging.{HandTold, HandsStand, Holds, Enters, Judges, JudgesEntry}
 use Rattle.eip_audit.proofs.Hands.{hand-gone, hands-apart, hands-put, hands-stay}

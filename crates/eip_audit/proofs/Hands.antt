@@ -18,7 +18,7 @@ use Rattle.eip_history.proofs.Hands.{taken-in-hand}
 use Rattle.eip_history.proofs.Told.{own-other, own-here}
 use Rattle.eip_history.proofs.Unborn.{legal-tail, place-born, birth-stays, unborn-own}
 use Rattle.eip_table_laws.proofs.HandCalls.{place-at}
-use Rattle.eip_books.specs.declared.ticket.Ticket.{Ticket}
+use Rattle.eip_hub.specs.Ticket.{Ticket}
 use Rattle.eip_audit.specs.Judging.{HandTold, HandsStand}
 
 -- who is in hand was taken by its newest entry

@@ -16,7 +16,7 @@ use Rattle.eip_verdict.specs.declared.verdict.Verdict.{Verdict}
 use Rattle.eip_verdict.specs.declared.verdict.Verdict.TheVariants.{Legal, Wrong}
 use Rattle.eip_verdict.proofs.Wrongs.{legal-exactly}
 use Rattle.eip_verdict.specs.Verdicts.{rule_of, Keeps, Says}
-use Rattle.eip_books.specs.View.{plan}
+use Rattle.eip_hub.specs.View.{plan}
 use Rattle.eip_audit.specs.declared.auditor.Auditor.{Auditor}
 use Rattle.eip_audit.specs.Judging.{Holds, Enters, KeepsHere}
 

@@ -28,8 +28,8 @@ use Rattle.eip_table_laws.proofs.QueueStarts.{queue-of-waiting}
 use Rattle.eip_verdict.specs.Same.{same_reply}
 use Rattle.eip_verdict.proofs.Deciding.{reply-same}
 use Rattle.eip_verdict.proofs.OneAnswer.{one-answer}
-use Rattle.eip_books.specs.declared.ticket.Ticket.{Ticket}
-use Rattle.eip_books.specs.View.{BooksView, Adds}
+use Rattle.eip_hub.specs.Ticket.{Ticket}
+use Rattle.eip_hub.specs.View.{BooksView, Adds}
 use Rattle.eip_audit.specs.Judging.{HandTold, HandsStand, is_answered}
 
 -- an entry of one exchange is of no other

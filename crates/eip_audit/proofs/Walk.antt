@@ -18,7 +18,7 @@ use Rattle.eip_dump.proofs.ReadLines.{SoFar, so_far_more, all_lines, dump_read}
 use Rattle.eip_verdict.specs.declared.verdict.Verdict.{Verdict}
 use Rattle.eip_verdict.specs.declared.verdict.Verdict.TheVariants.{Legal, Wrong}
 use Rattle.eip_verdict.specs.Verdicts.{rule_of, Keeps, IsFirstWrong, Says}
-use Rattle.eip_books.specs.View.{BooksView, plan}
+use Rattle.eip_hub.specs.View.{BooksView, plan}
 use Rattle.eip_audit.specs.declared.auditor.Auditor.{Auditor}
 use Rattle.eip_audit.specs.Dumped.{Finds, no_entries, JudgesLines, Audits}
 use Rattle.eip_audit.specs.Judging.{Holds, KeepsHere}

@@ -16,8 +16,8 @@ use Rattle.eip_tables.specs.Outside.{IsAsked}
 use Rattle.eip_tables.specs.Rows.{SourcesStand}
 use Rattle.eip_verdict.specs.Same.{same_reply}
 use Rattle.eip_verdict.specs.Verdicts.{Keeps}
-use Rattle.eip_books.specs.declared.ticket.Ticket.{Ticket}
-use Rattle.eip_books.specs.View.{plan, IsLegalRun, Adds}
+use Rattle.eip_hub.specs.Ticket.{Ticket}
+use Rattle.eip_hub.specs.View.{plan, IsLegalRun, Adds}
 use Rattle.eip_audit.specs.declared.auditor.Auditor.{Auditor}
 
 -- the ticket of an exchange in hand is kept, and of no other

@@ -5,8 +5,8 @@ ghost use Rattle.eip_audit.specs.Judging.{Holds, Judges, is_answered};
 
 use crate::auditor::Auditor;
 use crate::exchanges::{is_held, is_ready};
-use eip_books::Inner;
 use eip_frames::{Answer, fits};
+use eip_hub::Inner;
 use eip_ledger::{Journal, Kind};
 use eip_ordered::take;
 use eip_text::NoMemory;

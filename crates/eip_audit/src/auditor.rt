@@ -2,7 +2,7 @@ ghost use Rattle.std.specs.Prelude.{◌≡◌, ◌≤◌, [], length, IfOk};
 ghost use Rattle.eip_audit.specs.Judging.{Holds, Judges, JudgesEntry};
 
 use crate::sources::first_states;
-use eip_books::{Books, SourceState, Ticket};
+use eip_hub::{Books, SourceState, Ticket};
 use eip_ledger::{Entry, Kind};
 use eip_route::RouteSet;
 use eip_text::NoMemory;

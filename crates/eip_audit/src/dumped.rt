@@ -1,6 +1,6 @@
 ghost use Rattle.std.specs.Prelude.{◌≡◌, ◌≤◌, ◌*◌, [], length, IfOk, None};
 ghost use Rattle.eip_plan.specs.Plan.{plan_of};
-ghost use Rattle.eip_books.specs.View.{plan};
+ghost use Rattle.eip_hub.specs.View.{plan};
 ghost use Rattle.eip_audit.specs.Judging.{Holds};
 ghost use Rattle.eip_audit.specs.Dumped.{Finds, ReadsNextOf, JudgesLines, Audits};
 

@@ -3,11 +3,11 @@ ghost use Rattle.eip_ordered.specs.Numbered.{value_at};
 ghost use Rattle.eip_ledger.specs.declared.entry.Kind.TheVariants.{Start, Take, Starve};
 ghost use Rattle.eip_ledger.specs.declared.place.Place.TheVariants.{Ready};
 ghost use Rattle.eip_history.specs.Place.{place};
-ghost use Rattle.eip_books.specs.View.{plan};
+ghost use Rattle.eip_hub.specs.View.{plan};
 ghost use Rattle.eip_audit.specs.Judging.{Holds, Judges};
 
 use crate::auditor::Auditor;
-use eip_books::{Books, Inner, Ticket};
+use eip_hub::{Books, Inner, Ticket};
 use eip_ledger::Place;
 use eip_ordered::{put, take};
 use eip_text::NoMemory;

@@ -6,8 +6,8 @@ ghost use Rattle.eip_tables.specs.Rows.{SourcesStand};
 ghost use Rattle.eip_audit.specs.Judging.{Holds, Judges, state_at};
 
 use crate::auditor::Auditor;
-use eip_books::SourceState;
 use eip_exchange::Message;
+use eip_hub::SourceState;
 use eip_ledger::Refused;
 use eip_route::RouteSet;
 use eip_text::{NoMemory, Text};

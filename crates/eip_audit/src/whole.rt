@@ -3,7 +3,7 @@ ghost use Rattle.eip_history.specs.Rules.{IsLegal};
 ghost use Rattle.eip_plan.specs.Plan.{plan_of};
 ghost use Rattle.eip_verdict.specs.Verdicts.{Says};
 ghost use Rattle.eip_verdict.specs.declared.verdict.Verdict.TheVariants.{Legal};
-ghost use Rattle.eip_books.specs.View.{plan};
+ghost use Rattle.eip_hub.specs.View.{plan};
 ghost use Rattle.eip_audit.specs.Judging.{Holds};
 
 use crate::auditor::Auditor;

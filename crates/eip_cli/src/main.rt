@@ -1,12 +1,14 @@
 // The program: the host's objects, handed to what answers its words.
 #![tactic(auto)]
 
+mod answers;
+
+use answers::answer;
 use eip_doors::{Wiping, handed_in, patterns};
 use eip_host::{
     HostFileSystem, HostFiles, HostNetwork, Output, Progress, ReaderLink, SharedProgress, words_of,
 };
 use eip_peers::PeerLink;
-use eip_program::answer;
 use std::env;
 use std::io::{IsTerminal, Stderr};
 use std::process::ExitCode;

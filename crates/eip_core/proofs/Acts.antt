@@ -31,7 +31,7 @@ use Rattle.eip_history.proofs.Limit.{source-after, not-same}
 use Rattle.eip_history.proofs.Allowed.{waits-below}
 use Rattle.eip_plan.specs.Plan.{plan_of}
 use Rattle.eip_plan.proofs.Laws.{plan-laws}
-use Rattle.eip_books.specs.View.{BooksView, plan, IsLegalRun, Adds, AddsNone, StartsFirst}
+use Rattle.eip_hub.specs.View.{BooksView, plan, IsLegalRun, Adds, AddsNone, StartsFirst}
 use Rattle.eip_tables.specs.declared.asking.Inner.TheVariants.{Did}
 use Rattle.eip_tables.specs.Places.{inner_of}
 use Rattle.eip_processor.specs.Registered.{RegistryView}

@@ -17,7 +17,7 @@ use Rattle.eip_history.proofs.ServedSteps.{served-more}
 use Rattle.eip_history.proofs.Steps.{plain-add}
 use Rattle.eip_owners.proofs.Pulled.{pulls-none, pulls-more, pulls-append, pulls-tell, kind-tells, acts-follow}
 use Rattle.eip_plan.specs.Plan.{plan_of}
-use Rattle.eip_books.specs.View.{BooksView, plan, IsSameRun, Adds, AddsNone}
+use Rattle.eip_hub.specs.View.{BooksView, plan, IsSameRun, Adds, AddsNone}
 use Rattle.eip_processor.specs.Registered.{RegistryView}
 use Rattle.eip_core.specs.Doors.{doors_of}
 use Rattle.eip_core.specs.Outside.{AreTheirs, seen_answer, seen_answers, pulls, pulls_in, inlet_acts}

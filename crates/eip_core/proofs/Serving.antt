@@ -32,7 +32,7 @@ use Rattle.eip_history.proofs.Unborn.{place-born}
 use Rattle.eip_history.proofs.Parts.{numbered-number}
 use Rattle.eip_plan.specs.Plan.{plan_of}
 use Rattle.eip_plan.proofs.Laws.{plan-laws}
-use Rattle.eip_books.specs.View.{BooksView, plan, IsLegalRun, Adds}
+use Rattle.eip_hub.specs.View.{BooksView, plan, IsLegalRun, Adds}
 use Rattle.eip_tables.specs.Outside.{is_among, with_number, IsAsked}
 use Rattle.eip_history.specs.BookText.{origin_at}
 use Rattle.eip_processor.specs.Registered.{RegistryView}

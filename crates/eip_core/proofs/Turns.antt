@@ -11,7 +11,7 @@ use Rattle.eip_history.specs.Place.{hands}
 use Rattle.eip_history.specs.Plan.{Plan}
 use Rattle.eip_history.specs.Rules.{KeepsRules}
 use Rattle.eip_history.proofs.Limit.{legal-within}
-use Rattle.eip_books.specs.View.{BooksView, plan, IsLegalRun}
+use Rattle.eip_hub.specs.View.{BooksView, plan, IsLegalRun}
 use Rattle.eip_processor.specs.Registered.{RegistryView}
 use Rattle.eip_core.specs.Doors.{CanRun}
 use Rattle.eip_core.specs.Drain.{CanDrain, Drains}

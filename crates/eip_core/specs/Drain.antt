@@ -16,7 +16,7 @@ use Rattle.eip_history.specs.Rules.{Served, served, first}
 use Rattle.eip_history.specs.Stop.{stop_of, actor, is_of}
 use Rattle.eip_history.specs.Work.{work}
 use Rattle.eip_history.specs.BookText.{origin_at}
-use Rattle.eip_books.specs.View.{BooksView, plan, IsLegalRun, IsSameRun}
+use Rattle.eip_hub.specs.View.{BooksView, plan, IsLegalRun, IsSameRun}
 use Rattle.eip_core.specs.Doors.{CanRun, doors_among}
 use Rattle.eip_processor.specs.Registered.{RegistryView}
 use Rattle.eip_core.specs.Served.{names_of}

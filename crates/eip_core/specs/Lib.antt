@@ -1,3 +1,5 @@
+pub use Rattle.eip_hub.specs.Ticket
+pub use Rattle.eip_hub.specs.View
 pub mod Doors
 pub mod Outside
 pub mod Drain

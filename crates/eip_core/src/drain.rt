@@ -6,7 +6,7 @@ ghost use Rattle.std.specs.Prelude.{ℕ};
 ghost use Rattle.eip_ledger.specs.declared.entry.Kind.TheVariants.{Pull};
 ghost use Rattle.eip_history.specs.Rules.{May, first, startable};
 ghost use Rattle.eip_history.specs.Stop.{stop_of};
-ghost use Rattle.eip_books.specs.View.{plan, IsLegalRun};
+ghost use Rattle.eip_hub.specs.View.{plan, IsLegalRun};
 ghost use Rattle.eip_tables.specs.Outside.{is_among, IsAsked};
 ghost use Rattle.eip_core.specs.Drain.{Acts, AsksFor, CanDrain, Chosen, Drains, IsStop, Rests};
 

@@ -6,5 +6,6 @@ mod outside;
 mod served;
 
 pub use drain::drain_alone;
+pub use eip_hub::{Hub, OriginView, Ticket};
 pub use outside::{ask, pull_source, refused};
 pub use served::names_of;

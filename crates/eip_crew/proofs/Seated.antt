@@ -11,9 +11,9 @@ use Rattle.eip_turnstile.specs.Rule.{entries_by}
 use Rattle.eip_turnstile.specs.Seats.{lock_of, knows}
 use Rattle.eip_turnstile.specs.Steps.{joined, split_left, split_right}
 use Rattle.eip_turnstile.specs.declared.seat.Seat.{Seat}
-use Rattle.eip_shared.specs.Deeds.{past_of}
-use Rattle.eip_shared.specs.declared.beginning.Beginning.{Beginning}
-use Rattle.eip_shared.specs.declared.deed.Deed.{Deed}
+use Rattle.eip_worker.specs.Deeds.{past_of}
+use Rattle.eip_worker.specs.Beginning.{Beginning}
+use Rattle.eip_worker.specs.Deed.{Deed}
 use Rattle.eip_worker.specs.Seats.{MaySit, Sat}
 use Rattle.eip_worker.specs.Serves.{IsEquipped}
 use Rattle.eip_crew.specs.Crew.{IsNew, Splits, Mans, own_of, Gathers}

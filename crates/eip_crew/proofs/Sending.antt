@@ -7,7 +7,7 @@ use Rattle.eip_turnstile.proofs.seat.Turnstile.TheSendSync as lock
 use Rattle.eip_turnstile.proofs.seat.Seat.TheSendSync as seat
 use Rattle.eip_endpoint.proofs.lanes.Lane.TheSendSync as lane
 use Rattle.eip_endpoint.proofs.inlets.Inlet.TheSendSync as inlet
-use Rattle.eip_shared.proofs.Sending.{run-send, set-field-send}
+use Rattle.eip_worker.proofs.Sending.{run-send, set-field-send}
 use Rattle.eip_worker.specs.contracts.worker.Worker as worker
 use Rattle.eip_worker.specs.contracts.worker.Round as round
 

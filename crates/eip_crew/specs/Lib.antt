@@ -1,2 +1,11 @@
+pub use Rattle.eip_worker.specs.Beginning
+pub use Rattle.eip_worker.specs.Deed
+pub use Rattle.eip_worker.specs.Deeds
+pub use Rattle.eip_worker.specs.Doors
+pub use Rattle.eip_worker.specs.Drain
+pub use Rattle.eip_worker.specs.Outside
+pub use Rattle.eip_worker.specs.Serves
+pub use Rattle.eip_worker.specs.Shared
+pub use Rattle.eip_worker.specs.View
 pub mod Crew
 pub mod Team

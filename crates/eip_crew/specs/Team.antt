@@ -8,12 +8,12 @@ use Rattle.eip_endpoint.specs.Outside.{calls}
 use Rattle.eip_history.specs.Rules.{IsLegal}
 use Rattle.eip_plan.specs.Plan.{plan_of}
 use Rattle.eip_processor.specs.Registered.{RegistryView}
-use Rattle.eip_core.specs.Doors.{doors_among}
+use Rattle.eip_worker.specs.Doors.{doors_among}
 use Rattle.eip_turnstile.specs.Rule.{entries_by, AllBelow}
-use Rattle.eip_shared.specs.Deeds.{own_answers}
-use Rattle.eip_shared.specs.Shared.{SharedView, beginning, log}
-use Rattle.eip_shared.specs.declared.beginning.Beginning.{Beginning}
-use Rattle.eip_shared.specs.declared.deed.Deed.{Deed}
+use Rattle.eip_worker.specs.Deeds.{own_answers}
+use Rattle.eip_worker.specs.Shared.{SharedView, beginning, log}
+use Rattle.eip_worker.specs.Beginning.{Beginning}
+use Rattle.eip_worker.specs.Deed.{Deed}
 use Rattle.eip_worker.specs.Serves.{AreTheirDeeds, IsEquipped, own_acts}
 
 -- the items of list k, and nothing where there are not so many lists

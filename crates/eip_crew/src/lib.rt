@@ -7,4 +7,5 @@ mod seats;
 mod team;
 
 pub use crew::Crew;
+pub use eip_worker::{Gate, Hub, NoGate, SharedRun};
 pub use team::work_together;

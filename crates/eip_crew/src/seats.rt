@@ -4,9 +4,8 @@ ghost use Rattle.eip_crew.specs.Crew.{IsNew, Splits, Mans, own_of, Gathers};
 
 use eip_endpoint::{Endpoint, Inlet, Lane, Source};
 use eip_route::RouteSet;
-use eip_shared::SharedRun;
 use eip_turnstile::{Seat, Turnstile};
-use eip_worker::Worker;
+use eip_worker::{SharedRun, Worker};
 
 /// Makes a worker of each set and two lists, in their order, with the seat that comes next. It takes no memory.
 pub(crate) fn seat_workers<E: Endpoint, S: Source>(

@@ -10,3 +10,4 @@ mod waits;
 
 pub use cursor::Advance;
 pub use eip_progress::{Cursor, Next};
+pub use eip_turns::{faults, values};

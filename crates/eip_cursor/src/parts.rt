@@ -13,10 +13,10 @@ use eip_copies::copy_seed;
 use eip_exchange::{Ended, Message};
 use eip_frames::{Answer, Request, Seed};
 use eip_meaning::Context;
-use eip_parts::fans::{one, parts_in, stops, waits};
 use eip_progress::{Asking, Progress, Queue, Task, Wait};
 use eip_route::{RouteSet, Step};
 use eip_text::{Boxed, NoMemory, Series};
+use eip_turns::fans::{one, parts_in, stops, waits};
 use eip_turns::step_at;
 use std::alloc::Global;
 

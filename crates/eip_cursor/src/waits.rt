@@ -12,9 +12,8 @@ use eip_frames::{Answer, Request};
 use eip_meaning::Context;
 use eip_progress::{Asking, Now, Progress, Task, Tried, Wait};
 use eip_route::RouteSet;
-use eip_steps::{fault_of, goes_on, is_tried_again, to_answered};
 use eip_text::{Boxed, NoMemory};
-use eip_turns::{after_try, begin, hold, step_at};
+use eip_turns::{after_try, begin, fault_of, goes_on, hold, is_tried_again, step_at, to_answered};
 use eip_uri::Uri;
 use std::alloc::Global;
 

@@ -1,5 +1,5 @@
 use eip_dump::{DumpFault, dump, migrate, read_dump};
-use eip_text::NoMemory;
+use eip_text::{NoMemory, Text};
 use std::alloc::Global;
 use std::test::*;
 
@@ -40,10 +40,15 @@ fn bad_line(alloc: Global, bytes: &[u8]) -> Result<u64, NoMemory> {
     }
 }
 
+/// The journal of a text, as it is printed.
+fn printed(alloc: Global, bytes: &[u8]) -> Result<Text, DumpFault> {
+    let journal = read_dump(alloc, bytes)?;
+    Ok(dump(alloc, &journal)?)
+}
+
 /// Whether the text is read as a journal that prints as `wanted`.
 fn is_printed(alloc: Global, bytes: &[u8], wanted: &str) -> Result<bool, DumpFault> {
-    let journal = read_dump(alloc, bytes)?;
-    let printed = dump(alloc, &journal)?;
+    let printed = printed(alloc, bytes)?;
     let migrated = migrate(alloc, bytes)?;
     Ok(printed.as_str() == wanted && migrated.as_str() == wanted)
 }
@@ -56,27 +61,44 @@ fn prints(alloc: Global, bytes: &[u8], wanted: &str) -> Result<bool, NoMemory> {
     }
 }
 
+/// The first lines of both versions.
+const FIRST: &str = "eip-journal 1 0 100000\n";
+
+const SECOND: &str = "eip-journal 2 0 100000 16\n";
+
+/// Whether a dump with this first line is read, and written in the second version.
+fn is_written_anew(alloc: Global, first: &str) -> Result<bool, NoMemory> {
+    let text = joined(alloc, &[first, ENTRIES])?;
+    let wanted = joined(alloc, &[SECOND, ENTRIES])?;
+    prints(alloc, text.as_bytes(), wanted.as_str())
+}
+
 #[test]
 fn both_versions_are_read_and_the_second_is_written(rt: HostRuntime) -> Result<(), Fail> {
-    let old = joined(rt.alloc(), &["eip-journal 1 0 100000\n", ENTRIES])?;
-    let new = joined(rt.alloc(), &["eip-journal 2 0 100000 16\n", ENTRIES])?;
-    assert!(rt; prints(rt.alloc(), old.as_bytes(), new.as_str())?);
-    assert!(rt; prints(rt.alloc(), new.as_bytes(), new.as_str())?);
+    for first in &[FIRST, SECOND] {
+        assert!(rt; is_written_anew(rt.alloc(), first)?, "from {first}");
+    }
     Ok(())
+}
+
+/// The first bad line of a text once this line is appended, without its end and with it.
+fn bad_lines(alloc: Global, front: &mut String, line: &str) -> Result<(u64, u64), NoMemory> {
+    front.push_str(line)?;
+    let before = bad_line(alloc, front.as_bytes())?;
+    front.push_str("\n")?;
+    Ok((before, bad_line(alloc, front.as_bytes())?))
 }
 
 /// A text of version 1 may end behind each line, and inside a line it is bad there.
 #[test]
 fn a_cut_text_is_bad_where_it_was_cut(rt: HostRuntime) -> Result<(), Fail> {
-    let old = joined(rt.alloc(), &["eip-journal 1 0 100000\n", ENTRIES])?;
+    let old = joined(rt.alloc(), &[FIRST, ENTRIES])?;
     let mut lines = old.as_str().split('\n');
     let mut front = String::new(rt.alloc());
     for number in 1..18 {
         let line = lines.next().unwrap_or("");
-        front.push_str(line)?;
-        assert_eq!(rt; bad_line(rt.alloc(), front.as_bytes())?, number);
-        front.push_str("\n")?;
-        assert_eq!(rt; bad_line(rt.alloc(), front.as_bytes())?, 0);
+        let told = bad_lines(rt.alloc(), &mut front, line)?;
+        assert!(rt; told == (number, 0), "at {line}");
     }
     Ok(())
 }
@@ -107,8 +129,8 @@ const TEXTS: [(&str, u64); 20] = [
 
 #[test]
 fn the_first_bad_line_is_told(rt: HostRuntime) -> Result<(), Fail> {
-    for (text, line) in &TEXTS {
-        assert_eq!(rt; bad_line(rt.alloc(), text.as_bytes())?, *line, "{text}");
+    for &(text, line) in &TEXTS {
+        assert!(rt; bad_line(rt.alloc(), text.as_bytes())? == line, "{text}");
     }
     Ok(())
 }

@@ -7,7 +7,7 @@ use Rattle.eip_history.specs.Place.{place}
 use Rattle.eip_history.specs.Counts.{total_count}
 use Rattle.eip_history.specs.Stop.{open_groups}
 use Rattle.eip_history.specs.BookText.{origin_at, exchange_line, exchanges_text, groups_text, log_text_of, summary_text_of, book_text_of, total_line}
-use Rattle.eip_books.specs.View.{BooksView, plan}
+use Rattle.eip_hub.specs.View.{BooksView, plan}
 use Rattle.eip_endbook.specs.Names.{route_names}
 use Rattle.eip_endbook.specs.declared.counts.Summary.{Summary}
 

@@ -1,6 +1,6 @@
 ghost use Rattle.std.specs.Prelude.{◌≡◌, ◌+◌, ◌<◌, ◌≤◌, ◌-◌, ◌^◌, reverse};
 ghost use Rattle.eip_history.specs.Counts.{accepted_in, refused_in, accepted_count, refused_count, total_count, completed_count, handled_count, failed_count, waiting_count};
-ghost use Rattle.eip_books.specs.View.{plan};
+ghost use Rattle.eip_hub.specs.View.{plan};
 ghost use Rattle.eip_endbook.specs.Totals.{counted, CountsFirst};
 
 use eip_exchange::Ending;

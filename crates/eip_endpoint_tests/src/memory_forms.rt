@@ -1,12 +1,12 @@
 ghost use Rattle.std.specs.Prelude.{◌≡◌, IfOk, length};
 ghost use Rattle.eip_endpoint.specs.MemorySources.{AreNew};
 
+use crate::folders::{Found, Row, Step, files_of, wrong_row};
 use eip_endpoint::{
-    Call, CommitFault, Endpoint, FileRead, Files, FilesFault, Inlet, Inlets, Lane, Lanes,
-    MemoryFiles, MemoryLane, MemorySink, MemorySource, Outcome, PullFault, Pulled, Refusal,
-    SendFault, Sink, SinkFault, Source, find_inlet, find_lane,
+    Call, CommitFault, Endpoint, Inlet, Inlets, Lane, Lanes, MemoryLane, MemorySink, MemorySource,
+    Outcome, PullFault, Pulled, Refusal, SendFault, Sink, SinkFault, Source, find_inlet, find_lane,
 };
-use eip_exchange::End;
+use eip_exchange::{End, Message};
 use eip_frames::Target;
 use eip_test_support::{item, message_of, two_of_stream};
 use eip_text::{NoMemory, Series, Text};
@@ -34,22 +34,43 @@ fn are_kept(calls: &[Call]) -> bool {
     }
 }
 
-/// Whether a lane that fails its second call answers so to `one` and twice to `two`, and keeps these calls.
+/// The lane of this name as a target, and a message of this body.
+fn call_of(alloc: Global, lane: &str, body: &str) -> Result<(Target, Message), NoMemory> {
+    let target = Target::Lane(Text::of_str(alloc, lane)?);
+    Ok((target, message_of(alloc, body)?))
+}
+
+/// What a lane answers to a body that is sent to the lane `x`.
+fn sent(
+    alloc: Global,
+    lane: &mut MemoryLane,
+    body: &str,
+) -> Result<Result<(), SendFault>, NoMemory> {
+    let (target, message) = call_of(alloc, "x", body)?;
+    Ok(lane.send(&target, &message))
+}
+
+/// Bodies that are sent, and what a lane that fails its second call answers.
+static SENT: [(&str, Result<(), SendFault>); 3] = [
+    ("one", Ok(())),
+    ("two", Err(SendFault::Failed)),
+    ("two", Ok(())),
+];
+
+/// Whether a lane answers so.
+fn are_answered(alloc: Global, lane: &mut MemoryLane) -> Result<bool, NoMemory> {
+    for (body, answer) in &SENT {
+        if sent(alloc, lane, body)? != *answer {
+            return Ok(false);
+        }
+    }
+    Ok(true)
+}
+
+/// Whether a lane that fails its second call answers so, and keeps these calls.
 fn sent_thrice(alloc: Global) -> Result<[bool; 2], NoMemory> {
-    let failing = vec![in alloc; 2]?;
-    let target = Target::Lane(Text::of_str(alloc, "x")?);
-    let first = message_of(alloc, "one")?;
-    let second = message_of(alloc, "two")?;
-    let mut lane = MemoryLane::new(alloc, failing);
-    let answers = [
-        lane.send(&target, &first),
-        lane.send(&target, &second),
-        lane.send(&target, &second),
-    ];
-    Ok([
-        answers == [Ok(()), Err(SendFault::Failed), Ok(())],
-        are_kept(lane.calls()),
-    ])
+    let mut lane = MemoryLane::new(alloc, vec![in alloc; 2]?);
+    Ok([are_answered(alloc, &mut lane)?, are_kept(lane.calls())])
 }
 
 #[test]
@@ -84,45 +105,54 @@ fn two_items(alloc: Global) -> Result<Vec<(Text, Series<Pulled>)>, NoMemory>
     two_of_stream(alloc, item(alloc, "1", "a")?, second)
 }
 
-/// Whether these are the first item, a failure and the end.
-fn are_first(pulls: &[Result<Pulled, PullFault>]) -> bool {
-    match pulls {
+/// Whether three pulls give the first item, a failure and the end.
+fn are_first(source: &mut MemorySource) -> bool {
+    let pulls = [
+        source.pull(&Uri::StreamIn),
+        source.pull(&Uri::StreamIn),
+        source.pull(&Uri::Load(7)),
+    ];
+    match &pulls {
         [Ok(first), Err(PullFault::Failed), Ok(Pulled::End)] => is_item(first, "1", "a"),
         _ => false,
     }
 }
 
-/// Whether these are the second item and twice the end.
-fn are_last(pulls: &[Result<Pulled, PullFault>]) -> bool {
-    match pulls {
+/// Whether of two commits of an item the second one fails.
+fn are_committed(source: &mut MemorySource, item: &Text) -> bool {
+    let commits = [
+        source.commit(&Uri::StreamIn, item, &End::Completed),
+        source.commit(&Uri::StreamIn, item, &End::Completed),
+    ];
+    commits == [Ok(()), Err(CommitFault::Failed)]
+}
+
+/// Whether three pulls give the second item and twice the end.
+fn are_last(source: &mut MemorySource) -> bool {
+    let pulls = [
+        source.pull(&Uri::StreamIn),
+        source.pull(&Uri::StreamIn),
+        source.pull(&Uri::StreamIn),
+    ];
+    match &pulls {
         [Ok(second), Ok(Pulled::End), Ok(Pulled::End)] => is_refused(second, "2"),
         _ => false,
     }
 }
 
+/// A source of the two items, whose calls of these numbers fail.
+fn source_of(alloc: Global, failing: Vec<u64>) -> Result<MemorySource, NoMemory> {
+    Ok(MemorySource::new(alloc, two_items(alloc)?, failing))
+}
+
 /// Whether a source of two items that fails its calls 2 and 5 answers so to three pulls, two commits and three pulls.
 fn pulled_and_told(alloc: Global) -> Result<[bool; 3], NoMemory> {
-    let failing = vec![in alloc; 2, 5]?;
     let item = Text::of_str(alloc, "1")?;
-    let mut source = MemorySource::new(alloc, two_items(alloc)?, failing);
-    let first = [
-        source.pull(&Uri::StreamIn),
-        source.pull(&Uri::StreamIn),
-        source.pull(&Uri::Load(7)),
-    ];
-    let commits = [
-        source.commit(&Uri::StreamIn, &item, &End::Completed),
-        source.commit(&Uri::StreamIn, &item, &End::Completed),
-    ];
-    let last = [
-        source.pull(&Uri::StreamIn),
-        source.pull(&Uri::StreamIn),
-        source.pull(&Uri::StreamIn),
-    ];
+    let mut source = source_of(alloc, vec![in alloc; 2, 5]?)?;
     Ok([
-        are_first(&first),
-        commits == [Ok(()), Err(CommitFault::Failed)],
-        are_last(&last),
+        are_first(&mut source),
+        are_committed(&mut source, &item),
+        are_last(&mut source),
     ])
 }
 
@@ -150,58 +180,34 @@ fn a_memory_sink_writes_nothing_at_its_failing_numbers(rt: HostRuntime) -> Resul
     Ok(())
 }
 
-/// One file of these bytes. The fourth reading fails.
-fn one_file(
-    alloc: Global,
-    folder: &Text,
-    name: &Text,
-    bytes: &[u8],
-) -> Result<MemoryFiles, NoMemory> {
-    let failing = vec![in alloc; 4]?;
-    let mut copy = Vec::new(alloc);
-    copy.extend_from_slice(bytes)?;
-    let file = (folder.copy()?, name.copy()?, Series::of(copy));
-    Ok(MemoryFiles::new(alloc, vec![in alloc; file]?, failing))
-}
+/// Readings of one file, of which the fourth fails; it stays the only one.
+static READINGS: [Row; 5] = [
+    ("in", "a.txt", Step::Read(2, Found::Bytes(b"hi"))),
+    ("in", "a.txt", Step::Read(1, Found::TooLong)),
+    ("a.txt", "in", Step::Read(2, Found::Missing)),
+    ("in", "a.txt", Step::Read(2, Found::Failed)),
+    ("", "", Step::Count(1)),
+];
 
-/// Whether these are `hi`, too many bytes, no file and a failure.
-fn are_read(reads: &[Result<FileRead, FilesFault>]) -> bool {
-    match reads {
-        [
-            Ok(FileRead::Bytes(bytes)),
-            Ok(FileRead::TooLong),
-            Ok(FileRead::Missing),
-            Err(FilesFault::Failed),
-        ] => bytes.items() == b"hi".as_slice(),
-        _ => false,
-    }
-}
-
-/// Whether the file `a.txt` of the folder `in` is read within a limit, and stays the only one.
-fn read_within_a_limit(alloc: Global) -> Result<[bool; 2], NoMemory> {
-    let folder = Text::of_str(alloc, "in")?;
-    let name = Text::of_str(alloc, "a.txt")?;
-    let mut files = one_file(alloc, &folder, &name, b"hi")?;
-    let reads = [
-        files.read(&folder, &name, 2),
-        files.read(&folder, &name, 1),
-        files.read(&name, &folder, 2),
-        files.read(&folder, &name, 2),
-    ];
-    Ok([are_read(&reads), files.content().len() == 1])
+/// The number of the first of these readings, from 0, that is answered otherwise.
+fn wrong_reading(alloc: Global) -> Result<Option<usize>, NoMemory> {
+    let rows = [("in", "a.txt", "hi")];
+    let mut files = files_of(alloc, &rows, vec![in alloc; 4]?)?;
+    wrong_row(alloc, &mut files, &READINGS)
 }
 
 #[test]
 fn memory_files_are_read_up_to_the_limit(rt: HostRuntime) -> Result<(), Fail> {
-    let told = read_within_a_limit(rt.alloc())?;
-    assert!(rt; told == [true; 2]);
+    let wrong = wrong_reading(rt.alloc())?;
+    assert!(rt; wrong == None, "row {wrong:?}");
     Ok(())
 }
 
-/// A lane of this name, which fails the calls of these numbers.
-fn lane(alloc: Global, name: &str, failing: Vec<u64>) -> Result<Lane<Box<dyn Endpoint>>, NoMemory> {
+/// A lane of this name, which fails the call of this number, from 1.
+fn lane(alloc: Global, name: &str, failing: u64) -> Result<Lane<Box<dyn Endpoint>>, NoMemory> {
     let name = Text::of_str(alloc, name)?;
-    let object: Box<dyn Endpoint> = Box::new(alloc, MemoryLane::new(alloc, failing))?;
+    let object = MemoryLane::new(alloc, vec![in alloc; failing]?);
+    let object: Box<dyn Endpoint> = Box::new(alloc, object)?;
     Ok(Lane { name, object })
 }
 
@@ -209,8 +215,8 @@ fn lane(alloc: Global, name: &str, failing: Vec<u64>) -> Result<Lane<Box<dyn End
 fn two_lanes(alloc: Global) -> Result<Vec<Lane<Box<dyn Endpoint>>>, NoMemory>
     ensures { IfOk result (λ v. length v.items ≡ 2) }
 {
-    let sound = lane(alloc, "lane:a", Vec::new(alloc))?;
-    let broken = lane(alloc, "lane:b", vec![in alloc; 1]?)?;
+    let sound = lane(alloc, "lane:a", 0)?;
+    let broken = lane(alloc, "lane:b", 1)?;
     Ok(vec![in alloc; sound, broken]?)
 }
 
@@ -219,20 +225,21 @@ fn one_inlet(alloc: Global) -> Result<Vec<Inlet<MemorySource>>, NoMemory>
     ensures { IfOk result (λ v. length v.items ≡ 1) }
 {
     let name = Text::of_str(alloc, "stream")?;
-    let object = MemorySource::new(alloc, two_items(alloc)?, Vec::new(alloc));
+    let object = source_of(alloc, Vec::new(alloc))?;
     Ok(vec![in alloc; Inlet { name, object }]?)
 }
 
-/// Whether of two lanes the second one and no other is found by its name, and fails when it is called by its index.
-fn found_and_sent(alloc: Global) -> Result<[bool; 3], NoMemory> {
-    let target = Target::Lane(Text::of_str(alloc, "b")?);
-    let sent = message_of(alloc, "one")?;
+/// Whether of two lanes the second one and no other is found by its name.
+fn is_found(alloc: Global) -> Result<bool, NoMemory> {
+    let lanes = two_lanes(alloc)?;
+    Ok(find_lane(&lanes, b"lane:b") == Some(1) && find_lane(&lanes, b"lane:c") == None)
+}
+
+/// What the second of two lanes answers when it is called by its index.
+fn sent_second(alloc: Global) -> Result<Result<(), SendFault>, NoMemory> {
+    let (target, message) = call_of(alloc, "b", "one")?;
     let mut lanes = two_lanes(alloc)?;
-    Ok([
-        find_lane(&lanes, b"lane:b") == Some(1),
-        find_lane(&lanes, b"lane:c") == None,
-        lanes.send_at(1, &target, &sent) == Err(SendFault::Failed),
-    ])
+    Ok(lanes.send_at(1, &target, &message))
 }
 
 /// Whether the item `1` with the body `a` was pulled.
@@ -259,11 +266,19 @@ fn told_an_end(alloc: Global) -> Result<Result<(), CommitFault>, NoMemory> {
     Ok(inlets.commit_at(0, &Uri::StreamIn, &item, &End::Handled))
 }
 
+/// Whether two lanes and an inlet are found by their names and answer by their index.
+fn are_called(alloc: Global) -> Result<[bool; 4], NoMemory> {
+    Ok([
+        is_found(alloc)?,
+        sent_second(alloc)? == Err(SendFault::Failed),
+        found_and_pulled(alloc)? == [true; 2],
+        told_an_end(alloc)? == Ok(()),
+    ])
+}
+
 #[test]
 fn lanes_and_inlets_are_called_by_their_index(rt: HostRuntime) -> Result<(), Fail> {
-    let sent = found_and_sent(rt.alloc())?;
-    let pulled = found_and_pulled(rt.alloc())?;
-    assert!(rt; sent == [true; 3] && pulled == [true; 2]);
-    assert!(rt; told_an_end(rt.alloc())? == Ok(()));
+    let told = are_called(rt.alloc())?;
+    assert!(rt; told == [true; 4]);
     Ok(())
 }

@@ -3,7 +3,7 @@ use eip_text::{NoMemory, Series, Text};
 use std::alloc::Global;
 
 /// A file by its folder, its name and its bytes.
-pub fn file(
+fn file(
     alloc: Global,
     folder: &str,
     name: &str,
@@ -18,16 +18,25 @@ pub fn file(
     ))
 }
 
+/// Such files in a list.
+fn content_of(
+    alloc: Global,
+    rows: &[(&str, &str, &[u8])],
+) -> Result<Vec<(Text, Text, Series<u8>)>, NoMemory> {
+    let mut content = Vec::new(alloc);
+    for (folder, name, bytes) in rows {
+        content.push(file(alloc, folder, name, bytes)?)?;
+    }
+    Ok(content)
+}
+
 /// Files in memory, by folder, name and bytes, and by the number of the call that is to fail.
 pub fn files_of(
     alloc: Global,
-    rows: &[(&str, &str, &str)],
+    rows: &[(&str, &str, &[u8])],
     failing: u64,
 ) -> Result<MemoryFiles, NoMemory> {
-    let mut content = Vec::new(alloc);
-    for (folder, name, bytes) in rows {
-        content.push(file(alloc, folder, name, bytes.as_bytes())?)?;
-    }
+    let content = content_of(alloc, rows)?;
     Ok(MemoryFiles::new(alloc, content, vec![in alloc; failing]?))
 }
 

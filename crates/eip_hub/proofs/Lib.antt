@@ -1,1 +1,2 @@
+pub use Rattle.eip_books.proofs.RowsSend
 pub mod Forcing

@@ -4,7 +4,7 @@
 mod hub;
 
 pub use eip_aggregator::OpenGroup;
-pub use eip_books::{Inner, OriginView, Ticket};
+pub use eip_books::{Books, Inner, OriginView, SourceState, Ticket};
 pub use eip_exchange::Ending;
 pub use eip_ledger::{Note, Place, Stop};
 pub use hub::Hub;

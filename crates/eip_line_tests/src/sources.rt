@@ -1,10 +1,11 @@
 ghost use Rattle.std.specs.Prelude.{◌≡◌};
 ghost use Rattle.eip_text.specs.Causes.{Rises};
 
+use crate::lanes::link_of;
 use eip_endpoint::{PullFault, Pulled, Refusal, Source};
 use eip_exchange::End;
 use eip_frames::Target;
-use eip_line::{LineSource, Link, LinkFault, MemoryLink};
+use eip_line::{LineSource, Link, LinkFault};
 use eip_text::{NoMemory, Text};
 use eip_uri::Uri;
 use std::alloc::Global;
@@ -101,14 +102,22 @@ impl Wanted {
     }
 }
 
+/// Whether these are given, one by each pull.
+fn gives<S: Source>(source: &mut S, wanted: &[Wanted]) -> bool {
+    for next in wanted {
+        if !next.is(&source.pull(&Uri::StreamIn)) {
+            return false;
+        }
+    }
+    true
+}
+
 /// Pulls from the lines of a link once for each that is wanted: how many pulls failed by the link and how many met a
 /// line without end, or none where another was given.
 fn faults_behind(alloc: Global, link: Pieces<'_>, wanted: &[Wanted]) -> Option<(u64, u64)> {
     let mut source = LineSource::new(alloc, link);
-    for next in wanted {
-        if !next.is(&source.pull(&Uri::StreamIn)) {
-            return None;
-        }
+    if !gives(&mut source, wanted) {
+        return None;
     }
     Some((source.link.faults, source.endless))
 }
@@ -163,34 +172,79 @@ fn long(alloc: Global, front: &[u8], count: usize, end: &[u8]) -> Result<Vec<u8>
     Ok(bytes)
 }
 
+/// A line that is long, by its front, the count of `x` behind that, its end and the size of the pieces that it comes in,
+/// with what is to be given of it and how many pulls are to meet a line without end.
+type Row = (
+    &'static [u8],
+    usize,
+    &'static [u8],
+    usize,
+    &'static [Wanted],
+    u64,
+);
+
+/// Whether this is given of it.
+fn is_given(alloc: Global, row: &Row) -> Result<bool, NoMemory> {
+    let (front, count, end, size, wanted, endless) = row;
+    let bytes = long(alloc, front, *count, end)?;
+    let link = Pieces::new(bytes.as_slice(), *size, 0);
+    Ok(faults_behind(alloc, link, wanted) == Some((0, *endless)))
+}
+
+static BODIES: [Row; 2] = [
+    (
+        b"",
+        65_536,
+        b"\r\n",
+        50_000,
+        &[Wanted::Long("1", 65_536)],
+        0,
+    ),
+    (
+        b"\xff",
+        65_536,
+        b"\r\n",
+        50_000,
+        &[Wanted::Refused("1", Refusal::TooLong)],
+        0,
+    ),
+];
+
 #[test]
 fn a_body_has_at_most_65536_bytes(rt: HostRuntime) -> Result<(), Fail> {
-    let bytes = long(rt.alloc(), b"", 65_536, b"\r\n")?;
-    let link = Pieces::new(bytes.as_slice(), 50_000, 0);
-    let most = faults_behind(rt.alloc(), link, &[Wanted::Long("1", 65_536)]);
-    assert!(rt; most == Some((0, 0)));
-    let bytes = long(rt.alloc(), b"\xff", 65_536, b"\r\n")?;
-    let link = Pieces::new(bytes.as_slice(), 50_000, 0);
-    let wanted = [Wanted::Refused("1", Refusal::TooLong)];
-    let more = faults_behind(rt.alloc(), link, &wanted);
-    assert!(rt; more == Some((0, 0)));
+    for (number, row) in BODIES.iter().enumerate() {
+        assert!(rt; is_given(rt.alloc(), row)?, "row {number}");
+    }
     Ok(())
 }
 
+static LINES: [Row; 2] = [
+    (
+        b"",
+        1_048_575,
+        b"\nb\n",
+        50_000,
+        &[
+            Wanted::Refused("1", Refusal::TooLong),
+            Wanted::Item("2", "b"),
+        ],
+        0,
+    ),
+    (
+        b"",
+        1_048_576,
+        b"\nb\n",
+        60_000,
+        &[Wanted::Failed, Wanted::Failed],
+        2,
+    ),
+];
+
 #[test]
 fn a_line_ends_within_1048576_bytes(rt: HostRuntime) -> Result<(), Fail> {
-    let bytes = long(rt.alloc(), b"", 1_048_575, b"\nb\n")?;
-    let link = Pieces::new(bytes.as_slice(), 50_000, 0);
-    let wanted = [
-        Wanted::Refused("1", Refusal::TooLong),
-        Wanted::Item("2", "b"),
-    ];
-    let ended = faults_behind(rt.alloc(), link, &wanted);
-    assert!(rt; ended == Some((0, 0)));
-    let bytes = long(rt.alloc(), b"", 1_048_576, b"\nb\n")?;
-    let link = Pieces::new(bytes.as_slice(), 60_000, 0);
-    let endless = faults_behind(rt.alloc(), link, &[Wanted::Failed, Wanted::Failed]);
-    assert!(rt; endless == Some((0, 2)));
+    for (number, row) in LINES.iter().enumerate() {
+        assert!(rt; is_given(rt.alloc(), row)?, "row {number}");
+    }
     Ok(())
 }
 
@@ -219,36 +273,52 @@ fn a_peer_that_closes_in_mid_line_has_given_a_last_line(rt: HostRuntime) -> Resu
     Ok(())
 }
 
-/// Links have one list of bytes, so that an endpoint which is pulled from later gets what no reading took before.
+/// Pulls from two ports, and what each gives. Links have one list of bytes, so that an endpoint which is pulled from
+/// later gets what no reading took before.
+static TWO_PORTS: [(u16, Wanted); 6] = [
+    (7_001, Wanted::Item("1", "a")),
+    (7_002, Wanted::Item("1", "")),
+    (7_002, Wanted::Item("2", "d")),
+    (7_001, Wanted::Item("2", "bc")),
+    (7_001, Wanted::End),
+    (7_002, Wanted::End),
+];
+
+/// The number of the first of these pulls, from 0, that gives something else.
+fn wrong_pull(alloc: Global, link: Pieces<'_>, rows: &[(u16, Wanted)]) -> Option<usize> {
+    let mut source = LineSource::new(alloc, link);
+    for (number, (port, wanted)) in rows.iter().enumerate() {
+        if !wanted.is(&source.pull(&Uri::Listen(*port))) {
+            return Some(number);
+        }
+    }
+    None
+}
+
 #[test]
 fn each_endpoint_has_a_buffer_and_numbers_of_its_own(rt: HostRuntime) -> Result<(), Fail> {
-    let mut source = LineSource::new(rt.alloc(), Pieces::new(b"a\nbc\nd\n", 4, 0));
-    let first = Uri::Listen(7_001);
-    let second = Uri::Listen(7_002);
-    assert!(rt; Wanted::Item("1", "a").is(&source.pull(&first)));
-    assert!(rt; Wanted::Item("1", "").is(&source.pull(&second)));
-    assert!(rt; Wanted::Item("2", "d").is(&source.pull(&second)));
-    assert!(rt; Wanted::Item("2", "bc").is(&source.pull(&first)));
-    assert!(rt; Wanted::End.is(&source.pull(&first)));
-    assert!(rt; Wanted::End.is(&source.pull(&second)));
+    let link = Pieces::new(b"a\nbc\nd\n", 4, 0);
+    let wrong = wrong_pull(rt.alloc(), link, &TWO_PORTS);
+    assert!(rt; wrong == None, "row {wrong:?}");
     Ok(())
+}
+
+/// Whether a link that fails its first call fails the first pull alone, and then takes the end of an item.
+fn fails_once(alloc: Global) -> Result<[bool; 2], NoMemory> {
+    let item = Text::of_str(alloc, "1")?;
+    let mut source = LineSource::new(alloc, link_of(alloc, b"ab\n", 1)?);
+    let wanted = [Wanted::Failed, Wanted::Item("1", "ab"), Wanted::End];
+    Ok([
+        gives(&mut source, &wanted),
+        source
+            .commit(&Uri::StreamIn, &item, &End::Completed)
+            .is_ok(),
+    ])
 }
 
 #[test]
 fn a_link_in_memory_fails_at_its_numbers(rt: HostRuntime) -> Result<(), Fail> {
-    let alloc = rt.alloc();
-    let mut input = Vec::new(alloc);
-    input.extend_from_slice(b"ab\n")?;
-    let link = MemoryLink::new(alloc, input, vec![in alloc; 1]?);
-    let mut source = LineSource::new(alloc, link);
-    assert!(rt; Wanted::Failed.is(&source.pull(&Uri::StreamIn)));
-    assert!(rt; Wanted::Item("1", "ab").is(&source.pull(&Uri::StreamIn)));
-    assert!(rt; Wanted::End.is(&source.pull(&Uri::StreamIn)));
-    let item = Text::of_str(alloc, "1")?;
-    assert!(rt;
-        source
-            .commit(&Uri::StreamIn, &item, &End::Completed)
-            .is_ok()
-    );
+    let told = fails_once(rt.alloc())?;
+    assert!(rt; told == [true; 2]);
     Ok(())
 }

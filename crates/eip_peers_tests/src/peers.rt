@@ -98,28 +98,56 @@ fn told(pulled: &Result<Pulled, PullFault>) -> &str {
     }
 }
 
+/// Whether these are given, one by each pull from a port, or from standard input where there is none.
+fn gives(
+    source: &mut LineSource<PeerLink<Wires, Wire>>,
+    port: Option<u16>,
+    wanted: &[&str],
+) -> bool {
+    let from = match port {
+        Some(port) => Uri::Listen(port),
+        None => Uri::StreamIn,
+    };
+    for next in wanted {
+        if told(&source.pull(&from)) != *next {
+            return false;
+        }
+    }
+    true
+}
+
+/// A port, what pulls from it are to give, and how many connections are to be asked for by then.
+type Row = (Option<u16>, &'static [&'static str], u64);
+
+/// The number of the first row, from 0, that gives something else, and the count of faults behind it or the last one.
+fn wrong_row(alloc: Global, broken: u64, rows: &[Row]) -> (Option<usize>, u64) {
+    let mut source = LineSource::new(alloc, link_of(alloc, broken, 0));
+    for (number, (port, wanted, opened)) in rows.iter().enumerate() {
+        if !gives(&mut source, *port, wanted) || source.link.network.opened != *opened {
+            return (Some(number), source.link.faults);
+        }
+    }
+    (None, source.link.faults)
+}
+
+static PULLED: [Row; 3] = [
+    (Some(7), &["a", "b", "end", "end"], 1),
+    (Some(8), &["a"], 2),
+    (None, &["failed"], 2),
+];
+
 #[test]
 fn a_port_has_one_peer(rt: HostRuntime) -> Result<(), Fail> {
-    let mut source = LineSource::new(rt.alloc(), link_of(rt.alloc(), 0, 0));
-    for wanted in ["a", "b", "end", "end"] {
-        assert!(rt; told(&source.pull(&Uri::Listen(7))) == wanted);
-    }
-    assert!(rt; source.link.network.opened == 1);
-    assert!(rt; told(&source.pull(&Uri::Listen(8))) == "a");
-    assert!(rt; source.link.network.opened == 2);
-    assert!(rt; told(&source.pull(&Uri::StreamIn)) == "failed");
-    assert!(rt; source.link.network.opened == 2);
+    let (wrong, _) = wrong_row(rt.alloc(), 0, &PULLED);
+    assert!(rt; wrong == None, "row {wrong:?}");
     Ok(())
 }
 
+static BROKEN: [Row; 1] = [(Some(7), &["failed", "failed"], 1)];
+
 #[test]
 fn a_peer_that_breaks_off_fails_the_pull(rt: HostRuntime) -> Result<(), Fail> {
-    let mut source = LineSource::new(rt.alloc(), link_of(rt.alloc(), 1, 0));
-    for _ in 0..2 {
-        assert!(rt; told(&source.pull(&Uri::Listen(7))) == "failed");
-    }
-    assert!(rt; source.link.network.opened == 1);
-    assert!(rt; source.link.faults == 2);
+    assert!(rt; wrong_row(rt.alloc(), 1, &BROKEN) == (None, 2));
     Ok(())
 }
 
@@ -134,27 +162,46 @@ fn send(
     Ok(lane.send(&Target::Line { host, port: 7 }, &message))
 }
 
+/// Hosts that are sent to, and how many connections are to be asked for by then.
+static CALLED: [(&str, u64); 4] = [("h", 1), ("h", 1), ("i", 2), ("h", 2)];
+
+/// The number of the first of these sends, from 0, that fails or needs another count of connections.
+fn wrong_call(alloc: Global, rows: &[(&str, u64)]) -> Result<Option<usize>, NoMemory> {
+    let mut lane = LineLane::new(alloc, link_of(alloc, 0, 0));
+    for (number, (host, opened)) in rows.iter().enumerate() {
+        if send(alloc, &mut lane, host)? != Ok(()) || lane.link.network.opened != *opened {
+            return Ok(Some(number));
+        }
+    }
+    Ok(None)
+}
+
 #[test]
 fn an_address_is_connected_to_once(rt: HostRuntime) -> Result<(), Fail> {
-    let alloc = rt.alloc();
-    let mut lane = LineLane::new(alloc, link_of(alloc, 0, 0));
-    for (host, opened) in [("h", 1), ("h", 1), ("i", 2), ("h", 2)] {
-        assert!(rt; send(alloc, &mut lane, host)? == Ok(()));
-        assert!(rt; lane.link.network.opened == opened);
-    }
+    let wrong = wrong_call(rt.alloc(), &CALLED)?;
+    assert!(rt; wrong == None, "row {wrong:?}");
     Ok(())
+}
+
+/// Whether of three sends to a host the first one fails and the others don't, with two connections and one fault.
+fn is_called_again(alloc: Global, broken: u64, refused: u64) -> Result<bool, NoMemory> {
+    let mut lane = LineLane::new(alloc, link_of(alloc, broken, refused));
+    let answers = [
+        send(alloc, &mut lane, "h")?,
+        send(alloc, &mut lane, "h")?,
+        send(alloc, &mut lane, "h")?,
+    ];
+    let counts = (lane.link.network.opened, lane.link.faults);
+    Ok(answers == [Err(SendFault::Failed), Ok(()), Ok(())] && counts == (2, 1))
 }
 
 #[test]
 fn an_address_is_connected_to_again_behind_a_failed_send(rt: HostRuntime) -> Result<(), Fail> {
-    let alloc = rt.alloc();
     for (broken, refused) in [(1, 0), (0, 1)] {
-        let mut lane = LineLane::new(alloc, link_of(alloc, broken, refused));
-        assert!(rt; send(alloc, &mut lane, "h")? == Err(SendFault::Failed));
-        assert!(rt; send(alloc, &mut lane, "h")? == Ok(()));
-        assert!(rt; send(alloc, &mut lane, "h")? == Ok(()));
-        assert!(rt; lane.link.network.opened == 2);
-        assert!(rt; lane.link.faults == 1);
+        assert!(rt;
+            is_called_again(rt.alloc(), broken, refused)?,
+            "broken {broken}"
+        );
     }
     Ok(())
 }

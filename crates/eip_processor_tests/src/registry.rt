@@ -42,91 +42,186 @@ impl Processor for Keep {
     }
 }
 
-/// The text of a word.
-fn text(alloc: Global, word: &str) -> Result<Text, NoMemory> {
-    Text::of_str(alloc, word)
+/// The registry that is tested.
+type Tested = Registry<Box<dyn Processor>, StoredPredicate>;
+
+/// A name, and a processor that answers its message or refuses it.
+fn named_keep(
+    alloc: Global,
+    name: &str,
+    refuses: bool,
+) -> Result<(Text, Box<dyn Processor>), NoMemory> {
+    let keep = Box::new(alloc, Keep { alloc, refuses })?;
+    Ok((Text::of_str(alloc, name)?, keep))
 }
 
-/// A registry with the processors `keep` and `refuse` and the predicate `empty`.
-fn registry_of(alloc: Global) -> Result<Registry<Box<dyn Processor>, StoredPredicate>, Fail> {
-    let mut registry: Registry<Box<dyn Processor>, StoredPredicate> = Registry::new(alloc);
-    let refuses = false;
-    let keep = Box::new(alloc, Keep { alloc, refuses })?;
-    registry.add_processor(text(alloc, "keep")?, keep)?;
-    let refuses = true;
-    let refuse = Box::new(alloc, Keep { alloc, refuses })?;
-    registry.add_processor(text(alloc, "refuse")?, refuse)?;
+/// Adds such a processor: what the registry answers.
+fn add_keep(
+    alloc: Global,
+    registry: &mut Tested,
+    name: &str,
+    refuses: bool,
+) -> Result<(), AddFault> {
+    match named_keep(alloc, name, refuses) {
+        Ok((name, keep)) => registry.add_processor(name, keep),
+        Err(NoMemory) => Err(AddFault::NoMemory),
+    }
+}
+
+/// Adds a predicate under the name `empty`: what the registry answers.
+fn add_empty(alloc: Global, registry: &mut Tested, test: StoredPredicate) -> Result<(), AddFault> {
+    match Text::of_str(alloc, "empty") {
+        Ok(name) => registry.add_predicate(name, test),
+        Err(NoMemory) => Err(AddFault::NoMemory),
+    }
+}
+
+/// The predicate that an empty body passes.
+fn empty(alloc: Global) -> Result<StoredPredicate, NoMemory> {
     let test = Box::new(alloc, |m: &Message| m.body.bytes().is_empty())?;
-    registry.add_predicate(text(alloc, "empty")?, StoredPredicate::new(test))?;
+    Ok(StoredPredicate::new(test))
+}
+
+/// The predicate that each message passes.
+fn always(alloc: Global) -> Result<StoredPredicate, NoMemory> {
+    let test = Box::new(alloc, |_: &Message| true)?;
+    Ok(StoredPredicate::new(test))
+}
+
+/// Adds the processors `keep` and `refuse` and the predicate `empty`.
+fn fill(alloc: Global, registry: &mut Tested) -> Result<(), Fail> {
+    add_keep(alloc, registry, "keep", false)?;
+    add_keep(alloc, registry, "refuse", true)?;
+    let test = empty(alloc)?;
+    Ok(add_empty(alloc, registry, test)?)
+}
+
+/// A registry with these.
+fn registry_of(alloc: Global) -> Result<Tested, Fail> {
+    let mut registry = Registry::new(alloc);
+    fill(alloc, &mut registry)?;
     Ok(registry)
 }
 
+/// What comes of a call by a name.
+enum Called {
+    /// An answer with this body.
+    Answered(&'static str),
+    /// A fault of this kind.
+    Raised(&'static str),
+    /// There is no processor of the name.
+    Missing,
+}
+
+/// Whether this is such an answer.
+fn is_answer(answer: &Result<Message, ProcessFault>, wanted: &Called) -> bool {
+    match wanted {
+        Called::Answered(body) => matches!(answer, Ok(answer) if answer.body.as_str() == *body),
+        Called::Raised(kind) => {
+            matches!(answer, Err(ProcessFault::Raised(fault)) if fault.kind.as_str() == *kind)
+        }
+        Called::Missing => false,
+    }
+}
+
+/// A message of this body.
+fn message_of(alloc: Global, body: &str) -> Result<Message, NoMemory> {
+    Ok(Message::of_body(alloc, Text::of_str(alloc, body)?))
+}
+
+/// Whether this is what comes of a call by this name on `hi`.
+fn is_called(alloc: Global, name: &str, wanted: &Called) -> Result<bool, Fail> {
+    let message = message_of(alloc, "hi")?;
+    let registry = registry_of(alloc)?;
+    match registry.find(name.as_bytes()) {
+        Some(processor) => Ok(is_answer(&processor.process(&message), wanted)),
+        None => Ok(matches!(wanted, Called::Missing)),
+    }
+}
+
+/// Names, and what comes of a call on `hi`.
+const CALLED: [(&str, Called); 4] = [
+    ("keep", Called::Answered("hi")),
+    ("refuse", Called::Raised("Refused")),
+    ("Keep", Called::Missing),
+    ("empty", Called::Missing),
+];
+
 #[test]
 fn a_processor_is_called_by_its_name(rt: HostRuntime) -> Result<(), Fail> {
-    let alloc = rt.alloc();
-    let registry = registry_of(alloc)?;
-    let message = Message::of_body(alloc, text(alloc, "hi")?);
-    let Some(keep) = registry.find(b"keep") else {
-        panic!(rt; "no keep");
-    };
-    let kept = keep.process(&message);
-    assert!(rt; matches!(&kept, Ok(answer) if answer.body.as_str() == "hi"));
-    let Some(refuse) = registry.find(b"refuse") else {
-        panic!(rt; "no refuse");
-    };
-    let refused = refuse.process(&message);
-    assert!(rt;
-        matches!(&refused, Err(ProcessFault::Raised(fault)) if fault.kind.as_str() == "Refused")
-    );
-    assert!(rt; registry.find(b"Keep").is_none());
-    assert!(rt; registry.find(b"empty").is_none());
+    for (name, wanted) in &CALLED {
+        assert!(rt; is_called(rt.alloc(), name, wanted)?, "of {name}");
+    }
     Ok(())
 }
 
+/// What the predicate of this name tells of a message of this body, or `None` where there is none.
+fn told(alloc: Global, name: &str, body: &str) -> Result<Option<bool>, Fail> {
+    let message = message_of(alloc, body)?;
+    let registry = registry_of(alloc)?;
+    match registry.find_predicate(name.as_bytes()) {
+        Some(predicate) => Ok(Some(predicate.test(&message))),
+        None => Ok(None),
+    }
+}
+
+/// Names, bodies, and what the predicate of the name tells, or `None` where there is none.
+const TOLD: [(&str, &str, Option<bool>); 3] = [
+    ("empty", "", Some(true)),
+    ("empty", "x", Some(false)),
+    ("keep", "", None),
+];
+
 #[test]
 fn a_predicate_is_asked_by_its_name(rt: HostRuntime) -> Result<(), Fail> {
-    let alloc = rt.alloc();
-    let registry = registry_of(alloc)?;
-    let Some(empty) = registry.find_predicate(b"empty") else {
-        panic!(rt; "no empty");
-    };
-    assert!(rt; empty.test(&Message::of_body(alloc, text(alloc, "")?)));
-    assert!(rt; !empty.test(&Message::of_body(alloc, text(alloc, "x")?)));
-    assert!(rt; registry.find_predicate(b"keep").is_none());
+    for (name, body, wanted) in &TOLD {
+        assert!(rt;
+            told(rt.alloc(), name, body)? == *wanted,
+            "of {name} and {body}"
+        );
+    }
     Ok(())
+}
+
+/// What is answered where the processor `keep` is added again, a processor as `empty`, and the predicate `empty` again.
+fn added_again(alloc: Global) -> Result<[Result<(), AddFault>; 3], Fail> {
+    let test = always(alloc)?;
+    let mut registry = registry_of(alloc)?;
+    Ok([
+        add_keep(alloc, &mut registry, "keep", true),
+        add_keep(alloc, &mut registry, "empty", true),
+        add_empty(alloc, &mut registry, test),
+    ])
 }
 
 #[test]
 fn a_name_is_taken_once_among_its_own_kind(rt: HostRuntime) -> Result<(), Fail> {
-    let alloc = rt.alloc();
-    let mut registry = registry_of(alloc)?;
-    let refuses = true;
-    let again = Box::new(alloc, Keep { alloc, refuses })?;
-    assert!(rt; registry.add_processor(text(alloc, "keep")?, again) == Err(AddFault::NameTaken));
-    let other = Box::new(alloc, Keep { alloc, refuses })?;
-    assert!(rt; registry.add_processor(text(alloc, "empty")?, other).is_ok());
-    let test = Box::new(alloc, |_: &Message| true)?;
-    let stored = StoredPredicate::new(test);
-    assert!(rt; registry.add_predicate(text(alloc, "empty")?, stored) == Err(AddFault::NameTaken));
+    let taken = Err(AddFault::NameTaken);
+    assert!(rt; added_again(rt.alloc())? == [taken, Ok(()), taken]);
     Ok(())
 }
 
 /// Whether the name at a place is this one, or there is none.
 fn is_at(name: Option<&Text>, wanted: Option<&str>) -> bool {
-    match (name, wanted) {
-        (Some(name), Some(wanted)) => name.as_str() == wanted,
-        (None, None) => true,
-        _ => false,
-    }
+    name.map(Text::as_str) == wanted
+}
+
+/// Whether the processors are told in the order of adding.
+fn are_processors_told(registry: &Tested) -> bool {
+    is_at(registry.processor_at(0), Some("keep"))
+        && is_at(registry.processor_at(1), Some("refuse"))
+        && is_at(registry.processor_at(2), None)
+}
+
+/// Whether the predicate is told, and no other.
+fn are_predicates_told(registry: &Tested) -> bool {
+    is_at(registry.predicate_at(0), Some("empty")) && is_at(registry.predicate_at(1), None)
 }
 
 #[test]
 fn names_are_told_in_order_of_adding(rt: HostRuntime) -> Result<(), Fail> {
     let registry = registry_of(rt.alloc())?;
-    assert!(rt; is_at(registry.processor_at(0), Some("keep")));
-    assert!(rt; is_at(registry.processor_at(1), Some("refuse")));
-    assert!(rt; is_at(registry.processor_at(2), None));
-    assert!(rt; is_at(registry.predicate_at(0), Some("empty")));
-    assert!(rt; is_at(registry.predicate_at(1), None));
+    assert!(rt; are_processors_told(&registry));
+    assert!(rt; are_predicates_told(&registry));
     Ok(())
 }

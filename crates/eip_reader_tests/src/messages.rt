@@ -202,20 +202,20 @@ fn filled_message(alloc: Global) -> Result<Message, HeaderFault> {
     })
 }
 
-/// A message and a copy of it, which share their pairs until a header of the message is set, another removed from the copy, and
-/// the property from the message.
-fn changed_apart(alloc: Global) -> Result<(Message, Message), HeaderFault> {
-    let mut message = filled_message(alloc)?;
+/// A copy of a message, which shares its pairs until a header of the message is set, another removed from the copy, and the
+/// property from the message.
+fn changed_copy(alloc: Global, message: &mut Message) -> Result<Message, HeaderFault> {
     let mut copy = message.copy(alloc)?;
     set_header(alloc, &mut message.headers, "A", "9")?;
     let _ = copy.headers.remove(b"b")?;
     let _ = message.properties.remove(b"p")?;
-    Ok((message, copy))
+    Ok(copy)
 }
 
 /// Whether each of the two has its own changes, and none of the other's.
 fn stand_alone(alloc: Global) -> Result<[bool; 5], HeaderFault> {
-    let (message, copy) = changed_apart(alloc)?;
+    let mut message = filled_message(alloc)?;
+    let copy = changed_copy(alloc, &mut message)?;
     Ok([
         are_headers(&message.headers, &[("a", "A", "9"), ("b", "B", "2")]),
         are_properties(&message.properties, &[]),

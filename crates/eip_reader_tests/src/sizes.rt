@@ -49,7 +49,7 @@ fn uri_at_size(alloc: Global, marked: &str) -> Result<(usize, bool), NoMemory> {
 
 #[test]
 fn uris_of_300_bytes_are_read_and_printed(rt: HostRuntime) -> Result<(), Fail> {
-    for (uri, len) in URIS {
+    for &(uri, len) in &URIS {
         assert!(rt; uri_at_size(rt.alloc(), uri)? == (len, true), "of {uri}");
     }
     Ok(())

@@ -4,15 +4,20 @@ use eip_uri::{Uri, UriFault, grammar_laws};
 use std::alloc::Global;
 use std::test::*;
 
+/// The URI that a text spells, with a parameter where one is given.
+fn uri_of(alloc: Global, text: &str, parameter: Option<(&str, &str)>) -> Result<Uri, UriFault> {
+    let text = Text::of_str(alloc, text)?;
+    let parameters = parameters_of(alloc, parameter)?;
+    Uri::read(alloc, &text, parameters.as_slice())
+}
+
 /// What a text is read as, with a parameter where one is given: the printed form, or the fault.
 pub fn said(
     alloc: Global,
     text: &str,
     parameter: Option<(&str, &str)>,
 ) -> Result<String, NoMemory> {
-    let text = Text::of_str(alloc, text)?;
-    let parameters = parameters_of(alloc, parameter)?;
-    match Uri::read(alloc, &text, parameters.as_slice()) {
+    match uri_of(alloc, text, parameter) {
         Ok(uri) => string_of(alloc, uri.print(alloc)),
         Err(fault) => fault_said(alloc, &fault),
     }
@@ -105,7 +110,7 @@ const FORMS: [(&str, &str); 21] = [
 
 #[test]
 fn every_form_is_read_and_printed_without_its_defaults(rt: HostRuntime) -> Result<(), Fail> {
-    for (text, want) in FORMS {
+    for &(text, want) in &FORMS {
         assert!(rt; is_said(rt.alloc(), text, None, want)?, "at {text}");
         assert!(rt; is_said(rt.alloc(), want, None, want)?, "again at {text}");
     }
@@ -162,7 +167,7 @@ const FAULTS: [(&str, &str); 41] = [
 
 #[test]
 fn the_first_fault_is_told(rt: HostRuntime) -> Result<(), Fail> {
-    for (text, want) in FAULTS {
+    for &(text, want) in &FAULTS {
         assert!(rt; is_said(rt.alloc(), text, None, want)?, "at {text}");
     }
     Ok(())
@@ -186,7 +191,7 @@ const PARAMETERS: [(&str, &str, &str, &str); 7] = [
 
 #[test]
 fn parameters_are_read_behind_the_query(rt: HostRuntime) -> Result<(), Fail> {
-    for (text, name, value, want) in PARAMETERS {
+    for &(text, name, value, want) in &PARAMETERS {
         let parameter = Some((name, value));
         assert!(rt; is_said(rt.alloc(), text, parameter, want)?, "at {text}");
     }
@@ -210,7 +215,7 @@ const ENDS: [(&str, bool, bool); 11] = [
 
 #[test]
 fn copies_stand_where_their_uri_may(rt: HostRuntime) -> Result<(), Fail> {
-    for (text, from, to) in ENDS {
+    for &(text, from, to) in &ENDS {
         let got = copy_said(rt.alloc(), text)?;
         assert!(rt; got == Some((true, from, to)), "of {text}");
     }
@@ -231,8 +236,7 @@ fn copy_shown(alloc: Global, uri: &Uri, text: &str) -> Result<(bool, bool, bool)
 
 /// The same of the URI that a text spells, or `None` where it spells none.
 fn copy_said(alloc: Global, text: &str) -> Result<Option<(bool, bool, bool)>, NoMemory> {
-    let spelled = Text::of_str(alloc, text)?;
-    match Uri::read(alloc, &spelled, &[]) {
+    match uri_of(alloc, text, None) {
         Ok(uri) => Ok(Some(copy_shown(alloc, &uri, text)?)),
         Err(UriFault::NoMemory) => Err(NoMemory),
         Err(_) => Ok(None),

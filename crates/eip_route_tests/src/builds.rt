@@ -127,7 +127,7 @@ const ROWS: [(&str, u64, &str); 8] = [
 
 #[test]
 fn each_pattern_is_asked_for_once_from_the_left(rt: HostRuntime) -> Result<(), Fail> {
-    for (step, refused, wanted) in ROWS {
+    for &(step, refused, wanted) in &ROWS {
         let alloc = rt.alloc();
         let file = format!(in alloc;
             "[{{\"from\":{{\"uri\":\"stream:in\",\"steps\":[{step}]}}}}]"

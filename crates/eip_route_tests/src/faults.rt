@@ -128,7 +128,7 @@ const FAULTS: [(&str, &str); 28] = [
 
 #[test]
 fn the_first_fault_is_found(rt: HostRuntime) -> Result<(), Fail> {
-    for (file, wanted) in FAULTS {
+    for &(file, wanted) in &FAULTS {
         assert!(rt; is_fault(rt.alloc(), file, wanted)?, "at {file}");
     }
     Ok(())
@@ -149,7 +149,7 @@ const FAULTLESS: [&str; 9] = [
 
 #[test]
 fn objects_with_their_keys_have_no_fault(rt: HostRuntime) -> Result<(), Fail> {
-    for file in FAULTLESS {
+    for file in &FAULTLESS {
         assert!(rt; is_faultless(rt.alloc(), file)?, "at {file}");
     }
     Ok(())
@@ -182,7 +182,7 @@ const REFUSED: [(u64, &str); 3] = [
 
 #[test]
 fn each_pattern_is_built_once_from_the_left(rt: HostRuntime) -> Result<(), Fail> {
-    for (refused, wanted) in REFUSED {
+    for &(refused, wanted) in &REFUSED {
         assert!(rt;
             is_told(rt.alloc(), PATTERNS.as_bytes(), given(refused), wanted)?,
             "at {refused}"

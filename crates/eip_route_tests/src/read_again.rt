@@ -68,7 +68,7 @@ const KEYS: [&str; 5] = [
 
 #[test]
 fn keys_that_are_unknown_missing_or_too_many_are_told(rt: HostRuntime) -> Result<(), Fail> {
-    for rows in KEYS {
+    for rows in &KEYS {
         let row = wrong(rt.alloc(), rows, ALL)?;
         assert!(rt; row.is_empty(), "of {row}");
     }
@@ -80,7 +80,7 @@ const VALUES: [&str; 5] = [WRONG_KINDS, BAD_VALUES, BAD_SIMPLE, BAD_URIS, WRONG_
 
 #[test]
 fn values_that_may_not_stand_there_are_told(rt: HostRuntime) -> Result<(), Fail> {
-    for rows in VALUES {
+    for rows in &VALUES {
         let row = wrong(rt.alloc(), rows, ALL)?;
         assert!(rt; row.is_empty(), "of {row}");
     }
@@ -103,7 +103,7 @@ const REFUSED: [(&str, u64); 2] = [(FIRST_PATTERN_REFUSED, 1), (SECOND_PATTERN_R
 
 #[test]
 fn a_refused_pattern_stands_before_what_comes_behind_it(rt: HostRuntime) -> Result<(), Fail> {
-    for (rows, refused) in REFUSED {
+    for &(rows, refused) in &REFUSED {
         let given = Given {
             handed: Handed::Everything,
             refused,
@@ -119,7 +119,7 @@ const SEVERAL: [&str; 3] = [WHOLE_OBJECTS, SEVERAL_FAULTS, LATER_FAULTS];
 
 #[test]
 fn the_first_of_the_faults_of_objects_and_items_is_told(rt: HostRuntime) -> Result<(), Fail> {
-    for rows in SEVERAL {
+    for rows in &SEVERAL {
         let row = wrong(rt.alloc(), rows, ALL)?;
         assert!(rt; row.is_empty(), "of {row}");
     }
@@ -144,7 +144,7 @@ const READ: [&str; 12] = [
 
 #[test]
 fn files_print_in_one_form(rt: HostRuntime) -> Result<(), Fail> {
-    for rows in READ {
+    for rows in &READ {
         let row = wrong(rt.alloc(), rows, ALL)?;
         assert!(rt; row.is_empty(), "of {row}");
     }
@@ -153,7 +153,7 @@ fn files_print_in_one_form(rt: HostRuntime) -> Result<(), Fail> {
 
 #[test]
 fn canonical_text_is_read_and_printed_as_it_stands(rt: HostRuntime) -> Result<(), Fail> {
-    for rows in READ {
+    for rows in &READ {
         let row = changed(rt.alloc(), rows)?;
         assert!(rt; row.is_empty(), "of {row}");
     }

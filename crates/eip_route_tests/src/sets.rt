@@ -63,7 +63,7 @@ const ROWS: [(&str, &str); 8] = [
 
 #[test]
 fn routes_have_their_names_and_blocks(rt: HostRuntime) -> Result<(), Fail> {
-    for (file, expected) in ROWS {
+    for &(file, expected) in &ROWS {
         assert!(rt; is_counted(rt.alloc(), file, expected)?, "of {file}");
     }
     Ok(())

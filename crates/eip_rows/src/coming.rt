@@ -3,10 +3,10 @@ ghost use Rattle.eip_plan.specs.Plan.{setting_of};
 ghost use Rattle.eip_rows.specs.Coming.{IsComing, IsToldOf, Comes, ComesTo, outcome};
 
 use eip_aggregator::{ArriveFault, Arrived, Closed, Groups};
+use eip_cursor::faults::strategy_fault;
+use eip_cursor::values::{empty, route_id};
 use eip_exchange::{Fault, Message};
 use eip_frames::Request;
-use eip_parts::faults::strategy_fault;
-use eip_parts::values::{empty, route_id};
 use eip_route::{Aggregate, RouteSet};
 use eip_tables::aggregators::{aggregator_among, plain_aggregate};
 use eip_tables::row::Row;

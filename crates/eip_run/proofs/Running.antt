@@ -16,7 +16,7 @@ use Rattle.eip_history.specs.Stop.{stop_of, IsPlain}
 use Rattle.eip_history.proofs.Owned.{owned-none}
 use Rattle.eip_history.proofs.ServedSteps.{served-none}
 use Rattle.eip_history.proofs.Steps.{source-none}
-use Rattle.eip_books.specs.View.{BooksView, plan, IsLegalRun, IsSameRun}
+use Rattle.eip_core.specs.View.{BooksView, plan, IsLegalRun, IsSameRun}
 use Rattle.eip_outlets.specs.Outlets.{outlets}
 use Rattle.eip_owners.specs.Owners.{entries_of, OwnersPull, IsOwnedBehind}
 use Rattle.eip_owners.proofs.Owned.{owned-whole}

@@ -1,6 +1,6 @@
-use crate::given::{DRAIN, comes_to};
+use crate::given::{DRAIN, comes_to, numbered};
 use eip_test_support::joined;
-use eip_text::{NoMemory, decimal};
+use eip_text::NoMemory;
 use std::alloc::Global;
 use std::sync::Wait;
 use std::test::Fail;
@@ -66,7 +66,7 @@ const DRAINED: [(&str, &str); 7] = [
 
 #[test]
 fn routes_call_one_another_and_offer_to_queues(rt: HostRuntime) -> Result<(), Fail> {
-    for (routes, text) in DRAINED {
+    for &(routes, text) in &DRAINED {
         let told = comes_to(&rt, &DRAIN, routes, &["a"], 0, text)?;
         assert!(rt; told, "of {routes}");
     }
@@ -95,7 +95,7 @@ const LIMITED: [(&str, u8, &str); 3] = [
 
 #[test]
 fn a_run_stops_behind_the_turns_that_the_words_name(rt: HostRuntime) -> Result<(), Fail> {
-    for (turns, status, text) in LIMITED {
+    for &(turns, status, text) in &LIMITED {
         let words = ["drain", "r.json", "--turns", turns];
         let told = comes_to(&rt, &words, DEEP, &["a"], status, text)?;
         assert!(rt; told, "of {turns}");
@@ -109,13 +109,11 @@ const ROUND: &str =
 
 /// The book's lines of the line that was offered and of the copies up to this number, which are all completed.
 fn completed_to(alloc: Global, last: u64) -> Result<String, NoMemory> {
-    let mut out = String::from_str(alloc, "exchange 1 source route1 completed\n")?;
-    for number in 2..=last {
-        out.push_str("exchange ")?;
-        out.push_str(decimal(alloc, number)?.as_str())?;
-        out.push_str(" queue l completed\n")?;
-    }
-    Ok(out)
+    let copies = numbered(alloc, 2, last, "exchange ", " queue l completed\n")?;
+    joined(
+        alloc,
+        &["exchange 1 source route1 completed\n", copies.as_str()],
+    )
 }
 
 /// Whether a drain by these words of the line `a`, which goes round, comes to this status, and the book has so many

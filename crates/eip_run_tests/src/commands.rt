@@ -3,7 +3,8 @@ use eip_command::{
 };
 use eip_route_grammar::{Cause, RouteFault};
 use eip_test_support::texts;
-use eip_text::Text;
+use eip_text::{NoMemory, Text};
+use std::alloc::Global;
 use std::test::Fail;
 
 /// Words that are a command, the folder and the name of its file, and its limit on turns.
@@ -56,30 +57,36 @@ const TWO_FILES: [(&[&str], &str, &str); 2] = [
     (&["migrate", "b/j", "k"], ".", "k"),
 ];
 
+/// The command that words are.
+fn read(alloc: Global, words: &[&str]) -> Result<Command, WordsFault> {
+    let words = texts(alloc, words)?;
+    read_words(alloc, &words)
+}
+
+/// Whether a file is named, in this folder and by this name.
+fn is_at(file: Option<&Path>, folder: &str, name: &str) -> bool {
+    match file {
+        Some(file) => file.folder.as_str() == folder && file.name.as_str() == name,
+        None => false,
+    }
+}
+
 #[test]
 fn an_audit_and_a_migration_name_a_second_file(rt: HostRuntime) -> Result<(), Fail> {
-    for (words, folder, name) in TWO_FILES {
-        let command = read_words(rt.alloc(), &texts(rt.alloc(), words)?)?;
-        let Some(file) = second_file(&command) else {
-            panic!(rt; "no second file");
-        };
-        assert!(rt; file.folder.as_str() == folder && file.name.as_str() == name);
+    for &(words, folder, name) in &TWO_FILES {
+        let command = read(rt.alloc(), words)?;
+        assert!(rt; is_at(second_file(&command), folder, name), "of {name}");
     }
     Ok(())
 }
 
 #[test]
 fn a_command_names_its_file_and_its_limit_on_turns(rt: HostRuntime) -> Result<(), Fail> {
-    for (words, folder, name, limit) in COMMANDS {
-        let command = read_words(rt.alloc(), &texts(rt.alloc(), words)?)?;
-        let (word, routes, turns) = parts(&command);
-        let Some(routes) = routes else {
-            panic!(rt; "no file");
-        };
-        assert!(rt; word == words[0]);
-        assert!(rt; routes.folder.as_str() == folder);
-        assert!(rt; routes.name.as_str() == name);
-        assert!(rt; turns == limit);
+    for &(words, folder, name, limit) in &COMMANDS {
+        let command = read(rt.alloc(), words)?;
+        let (word, file, turns) = parts(&command);
+        assert!(rt; word == words[0] && turns == limit, "of {name}");
+        assert!(rt; is_at(file, folder, name), "of {name}");
     }
     Ok(())
 }
@@ -118,8 +125,8 @@ fn workers(command: &Command) -> Option<u32> {
 
 #[test]
 fn a_drain_and_a_load_name_their_workers(rt: HostRuntime) -> Result<(), Fail> {
-    for (words, number) in BY_WORKERS {
-        let command = read_words(rt.alloc(), &texts(rt.alloc(), words)?)?;
+    for &(words, number) in &BY_WORKERS {
+        let command = read(rt.alloc(), words)?;
         assert!(rt; workers(&command) == Some(number));
     }
     Ok(())
@@ -165,11 +172,19 @@ const NO_COMMANDS: [&[&str]; 36] = [
     &["check", "r.json", "--workers", "2"],
 ];
 
+/// Whether words are refused.
+fn is_refused(alloc: Global, words: &[&str]) -> Result<bool, NoMemory> {
+    match read(alloc, words) {
+        Ok(_) => Ok(false),
+        Err(WordsFault::Refused) => Ok(true),
+        Err(WordsFault::NoMemory) => Err(NoMemory),
+    }
+}
+
 #[test]
 fn other_words_are_no_command(rt: HostRuntime) -> Result<(), Fail> {
-    for words in NO_COMMANDS {
-        let words = texts(rt.alloc(), words)?;
-        assert!(rt; matches!(read_words(rt.alloc(), &words), Err(WordsFault::Refused)));
+    for words in &NO_COMMANDS {
+        assert!(rt; is_refused(rt.alloc(), words)?);
     }
     Ok(())
 }
@@ -190,49 +205,50 @@ const LISTEN: Form = Form {
     ],
 };
 
-/// Words that go by that form.
-const LISTENING: [&[&str]; 4] = [
-    &["r.json", "1"],
-    &["r.json", "8", "--turns", "1000000"],
-    &["r.json", "8", "--turns", "1", "--journal", "a/j"],
-    &["r.json", "8", "--journal", "j", "--turns", "1"],
-];
-
-/// Words that don't.
-const NOT_LISTENING: [&[&str]; 15] = [
-    &[],
-    &["r.json"],
-    &["8", "r.json"],
-    &["r.json", "0"],
-    &["r.json", "9"],
-    &["r.json", "08"],
-    &["r.json", "+8"],
-    &["r.json", "8", "--turns"],
-    &["r.json", "8", "--turns", "0"],
-    &["r.json", "8", "--turns", "1000001"],
-    &["r.json", "8", "--turns=5"],
-    &["r.json", "8", "--turns", "5", "--turns", "5"],
-    &["r.json", "8", "--workers", "5"],
-    &["r.json", "8", "--journal", "a/"],
-    &["--turns", "5", "r.json", "8"],
+/// Words, and whether they go by that form.
+const LISTENING: [(&[&str], bool); 19] = [
+    (&["r.json", "1"], true),
+    (&["r.json", "8", "--turns", "1000000"], true),
+    (&["r.json", "8", "--turns", "1", "--journal", "a/j"], true),
+    (&["r.json", "8", "--journal", "j", "--turns", "1"], true),
+    (&[], false),
+    (&["r.json"], false),
+    (&["8", "r.json"], false),
+    (&["r.json", "0"], false),
+    (&["r.json", "9"], false),
+    (&["r.json", "08"], false),
+    (&["r.json", "+8"], false),
+    (&["r.json", "8", "--turns"], false),
+    (&["r.json", "8", "--turns", "0"], false),
+    (&["r.json", "8", "--turns", "1000001"], false),
+    (&["r.json", "8", "--turns=5"], false),
+    (&["r.json", "8", "--turns", "5", "--turns", "5"], false),
+    (&["r.json", "8", "--workers", "5"], false),
+    (&["r.json", "8", "--journal", "a/"], false),
+    (&["--turns", "5", "r.json", "8"], false),
 ];
 
 #[test]
 fn options_come_behind_the_operands_in_pairs_each_once(rt: HostRuntime) -> Result<(), Fail> {
-    for words in LISTENING {
-        assert!(rt; LISTEN.admits(&texts(rt.alloc(), words)?));
-    }
-    for words in NOT_LISTENING {
-        assert!(rt; !LISTEN.admits(&texts(rt.alloc(), words)?));
+    for &(words, is_admitted) in &LISTENING {
+        assert!(rt; LISTEN.admits(&texts(rt.alloc(), words)?) == is_admitted);
     }
     Ok(())
+}
+
+/// Whether the value of an option among these pairs is this one.
+fn is_value(pairs: &[Text], option: &str, wanted: &str) -> bool {
+    match value_of(pairs, option) {
+        Some(value) => value.as_str() == wanted,
+        None => false,
+    }
 }
 
 #[test]
 fn an_option_has_the_word_behind_it(rt: HostRuntime) -> Result<(), Fail> {
     let pairs = texts(rt.alloc(), &["--journal", "j", "--turns", "5"])?;
-    assert!(rt; value_of(&pairs, "--turns").is_some_and(|value| value.as_str() == "5"));
-    assert!(rt; value_of(&pairs, "--journal").is_some_and(|value| value.as_str() == "j"));
+    assert!(rt; is_value(&pairs, "--turns", "5"));
+    assert!(rt; is_value(&pairs, "--journal", "j"));
     assert!(rt; value_of(&pairs, "5").is_none());
     Ok(())
 }

@@ -1,11 +1,11 @@
 ghost use Rattle.std.specs.Prelude.{None};
 
-use crate::given::{Failing, Given, SOUND, given_with, reported};
+use crate::given::{Failing, Given, SOUND, came, file_of, given_with, reported};
 use eip_endpoint::{FileRead, Files, FilesFault, MemoryFiles};
 use eip_run::run;
 use eip_simple_read::CratePatterns;
 use eip_test_support::joined;
-use eip_text::{NoMemory, Series, Text};
+use eip_text::{NoMemory, Text};
 use std::alloc::Global;
 use std::sync::Wait;
 use std::test::Fail;
@@ -33,16 +33,17 @@ const TICK: &str = "0 tick 1000\n";
 const TRIED: &str =
     "0 take 1\n0 answer 1 failed\n0 answer 1 slept 2000\n0 tick 2000\n0 take 1\n0 answer 1 done\n0 answer 1 noted\n0 answer 1 finished\n";
 
-/// The entries in pieces.
-const ENTRIES: [&str; 5] = [TAKEN, FAILED, SLEPT, TICK, TRIED];
+/// A dump of the whole run with this first line.
+fn dump_of(alloc: Global, first: &str) -> Result<String, NoMemory> {
+    joined(alloc, &[first, TAKEN, FAILED, SLEPT, TICK, TRIED])
+}
 
-/// A file of the folder that a command runs in.
-fn file_of(alloc: Global, name: &str, bytes: &str) -> Result<(Text, Text, Series<u8>), NoMemory> {
-    let folder = Text::of_str(alloc, ".")?;
-    let name = Text::of_str(alloc, name)?;
-    let mut copy = Vec::new(alloc);
-    copy.extend_from_slice(bytes.as_bytes())?;
-    Ok((folder, name, Series::of(copy)))
+/// The folder with the retrying routes as `r.json` and this dump as `j`.
+fn dump_files(alloc: Global, dump: &str, failing: u64) -> Result<MemoryFiles, NoMemory> {
+    let failing = vec![in alloc; failing]?;
+    let routes = file_of(alloc, "r.json", RETRYING)?;
+    let content = vec![in alloc; routes, file_of(alloc, "j", dump)?]?;
+    Ok(MemoryFiles::new(alloc, content, failing))
 }
 
 /// What is handed to a command of these words, where `r.json` has the retrying routes and `j` is this dump.
@@ -53,11 +54,7 @@ fn given_dump(
     failing: Failing,
 ) -> Result<Given, NoMemory> {
     let mut given = given_with(alloc, words, RETRYING, &[], failing)?;
-    let content = vec![in alloc;
-        file_of(alloc, "r.json", RETRYING)?,
-        file_of(alloc, "j", dump)?,
-    ]?;
-    given.files = MemoryFiles::new(alloc, content, vec![in alloc; failing.reading]?);
+    given.files = dump_files(alloc, dump, failing.reading)?;
     Ok(given)
 }
 
@@ -102,18 +99,33 @@ const AUDITS: [(&[&str], u8, &str); 11] = [
     (&[], 1, "error dump 1\n"),
 ];
 
+/// Whether the dump `j` is there and is this one.
+fn has_dump(given: &Given, dump: &str) -> bool {
+    held(given, "j") == Some(dump.as_bytes())
+}
+
+/// Whether an audit of a dump in these pieces comes to this status and text, has no journal, and leaves the dump as it was.
+fn is_audited<W: AllocGlobal + Threads + Wait + Sync>(
+    rt: &W,
+    pieces: &[&str],
+    status: u8,
+    text: &str,
+) -> Result<[bool; 3], NoMemory> {
+    let dump = joined(rt.alloc(), pieces)?;
+    let mut given = given_dump(rt.alloc(), &["audit", "r.json", "j"], dump.as_str(), SOUND)?;
+    let report = reported(rt, &mut given);
+    Ok([
+        report.status == status && given.out.bytes() == text.as_bytes(),
+        report.journal.entries().is_empty(),
+        has_dump(&given, dump.as_str()),
+    ])
+}
+
 #[test]
 fn the_journal_of_a_dump_is_judged_by_the_routes(rt: HostRuntime) -> Result<(), Fail> {
-    for (pieces, status, text) in AUDITS {
-        let dump = joined(rt.alloc(), pieces)?;
-        let mut given = given_dump(rt.alloc(), &["audit", "r.json", "j"], dump.as_str(), SOUND)?;
-        let report = reported(&rt, &mut given);
-        assert!(rt;
-            report.status == status && given.out.bytes() == text.as_bytes(),
-            "of {dump}"
-        );
-        assert!(rt; report.journal.entries().is_empty());
-        assert!(rt; held(&given, "j") == Some(dump.as_bytes()));
+    for &(pieces, status, text) in &AUDITS {
+        let told = is_audited(&rt, pieces, status, text)?;
+        assert!(rt; told == [true; 3], "to {text}");
     }
     Ok(())
 }
@@ -143,14 +155,25 @@ const FAILING_AUDITS: [(Failing, &str, u8, &str); 5] = [
     (Failing { write: 1, ..SOUND }, "", 1, ""),
 ];
 
+/// Whether an audit of the dump with this first line, where these calls fail, comes to this status and text.
+fn audit_comes_to<W: AllocGlobal + Threads + Wait + Sync>(
+    rt: &W,
+    first: &str,
+    failing: Failing,
+    status: u8,
+    text: &str,
+) -> Result<bool, NoMemory> {
+    let dump = dump_of(rt.alloc(), first)?;
+    let words = ["audit", "r.json", "j"];
+    let mut given = given_dump(rt.alloc(), &words, dump.as_str(), failing)?;
+    Ok(came(rt, &mut given, status, text))
+}
+
 #[test]
 fn a_file_or_a_sink_that_fails_ends_an_audit(rt: HostRuntime) -> Result<(), Fail> {
-    for (failing, first, status, text) in FAILING_AUDITS {
-        let dump = joined(rt.alloc(), &[first, TAKEN, FAILED, SLEPT, TICK, TRIED])?;
-        let words = ["audit", "r.json", "j"];
-        let mut given = given_dump(rt.alloc(), &words, dump.as_str(), failing)?;
-        let report = reported(&rt, &mut given);
-        assert!(rt; report.status == status && given.out.bytes() == text.as_bytes());
+    for &(failing, first, status, text) in &FAILING_AUDITS {
+        let told = audit_comes_to(&rt, first, failing, status, text)?;
+        assert!(rt; told, "to {text} from {first}");
     }
     Ok(())
 }
@@ -163,13 +186,23 @@ const REFUSED: [(&[&str], u8, &str); 4] = [
     (&["migrate", "k", "l"], 1, "error dump 0\n"),
 ];
 
+/// Whether a command of these words comes to this status and text, and leaves as many files as there were.
+fn is_refused<W: AllocGlobal + Threads + Wait + Sync>(
+    rt: &W,
+    words: &[&str],
+    status: u8,
+    text: &str,
+) -> Result<bool, NoMemory> {
+    let mut given = given_dump(rt.alloc(), words, FIRST, SOUND)?;
+    let told = came(rt, &mut given, status, text);
+    Ok(told && given.files.content().len() == 2)
+}
+
 #[test]
 fn the_routes_are_looked_at_before_the_dump(rt: HostRuntime) -> Result<(), Fail> {
-    for (words, status, text) in REFUSED {
-        let mut given = given_dump(rt.alloc(), words, FIRST, SOUND)?;
-        let report = reported(&rt, &mut given);
-        assert!(rt; report.status == status && given.out.bytes() == text.as_bytes());
-        assert!(rt; given.files.content().len() == 2);
+    for &(words, status, text) in &REFUSED {
+        let told = is_refused(&rt, words, status, text)?;
+        assert!(rt; told, "to {text}");
     }
     Ok(())
 }
@@ -189,23 +222,20 @@ fn migrates<W: AllocGlobal + Threads + Wait + Sync>(
     name: &str,
     first: &str,
 ) -> Result<[bool; 3], NoMemory> {
-    let alloc = rt.alloc();
-    let entries = joined(alloc, &ENTRIES)?;
-    let dump = joined(alloc, &[first, entries.as_str()])?;
-    let latest = joined(alloc, &[SECOND, entries.as_str()])?;
+    let dump = dump_of(rt.alloc(), first)?;
+    let latest = dump_of(rt.alloc(), SECOND)?;
     let words = ["migrate", "j", name];
-    let mut given = given_dump(alloc, &words, dump.as_str(), SOUND)?;
-    let status = reported(rt, &mut given).status;
+    let mut given = given_dump(rt.alloc(), &words, dump.as_str(), SOUND)?;
     Ok([
-        status == 0 && given.out.bytes() == "migrated 16\n".as_bytes(),
+        came(rt, &mut given, 0, "migrated 16\n"),
         held(&given, name) == Some(latest.as_bytes()),
-        held(&given, "j") == Some(dump.as_bytes()),
+        has_dump(&given, dump.as_str()),
     ])
 }
 
 #[test]
 fn a_dump_of_any_version_is_written_in_the_latest(rt: HostRuntime) -> Result<(), Fail> {
-    for (name, first, stays) in MIGRATIONS {
+    for &(name, first, stays) in &MIGRATIONS {
         let told = migrates(&rt, name, first)?;
         assert!(rt; told == [true, true, stays], "to {name} from {first}");
     }
@@ -240,15 +270,30 @@ const FAILING_MIGRATIONS: [(Failing, &str, u8, &str, bool); 5] = [
     (Failing { write: 1, ..SOUND }, "", 1, "", false),
 ];
 
+/// Whether a migration of a short dump with this first line, where these calls fail, comes to this status and text, whether the new dump
+/// is there, and whether the old one is as it was.
+fn fails_to_migrate<W: AllocGlobal + Threads + Wait + Sync>(
+    rt: &W,
+    first: &str,
+    failing: Failing,
+    status: u8,
+    text: &str,
+) -> Result<[bool; 3], NoMemory> {
+    let dump = joined(rt.alloc(), &[first, TAKEN])?;
+    let words = ["migrate", "j", "k"];
+    let mut given = given_dump(rt.alloc(), &words, dump.as_str(), failing)?;
+    Ok([
+        came(rt, &mut given, status, text),
+        held(&given, "k").is_some(),
+        has_dump(&given, dump.as_str()),
+    ])
+}
+
 #[test]
 fn a_dump_that_is_refused_and_files_that_fail_write_nothing(rt: HostRuntime) -> Result<(), Fail> {
-    for (failing, first, status, text, written) in FAILING_MIGRATIONS {
-        let dump = joined(rt.alloc(), &[first, TAKEN])?;
-        let mut given = given_dump(rt.alloc(), &["migrate", "j", "k"], dump.as_str(), failing)?;
-        let report = reported(&rt, &mut given);
-        assert!(rt; report.status == status && given.out.bytes() == text.as_bytes());
-        assert!(rt; held(&given, "k").is_some() == written);
-        assert!(rt; held(&given, "j") == Some(dump.as_bytes()));
+    for &(failing, first, status, text, written) in &FAILING_MIGRATIONS {
+        let told = fails_to_migrate(&rt, first, failing, status, text)?;
+        assert!(rt; told == [true, written, true], "to {text} from {first}");
     }
     Ok(())
 }

@@ -1,4 +1,4 @@
-use crate::given::{DRAIN, Given, SOUND, given_with, lane, reported};
+use crate::given::{DRAIN, Given, SOUND, came, given_with, lane, push_all, reported};
 use eip_endpoint::{Lane, MemoryLane};
 use eip_frames::Answer;
 use eip_ledger::{Entry, Kind};
@@ -239,41 +239,53 @@ pub fn ticks_of(alloc: Global, entries: &[Entry]) -> Result<String, NoMemory> {
     let mut ticks = String::new(alloc);
     for entry in entries {
         if let Kind::Tick(now) = &entry.kind {
-            ticks.push_str(decimal(alloc, *now)?.as_str())?;
-            ticks.push_str(" ")?;
+            let moment = decimal(alloc, *now)?;
+            push_all(&mut ticks, &[moment.as_str(), " "])?;
         }
     }
     Ok(ticks)
+}
+
+/// The letters of a journal's answers, and the moments of its ticks.
+fn answers_and_ticks(alloc: Global, entries: &[Entry]) -> Result<(String, String), NoMemory> {
+    let letters = letters_of(alloc, entries)?;
+    Ok((letters, ticks_of(alloc, entries)?))
 }
 
 /// Whether a drain prints this, with answers of these letters and with these ticks.
 pub fn runs_so<W: AllocGlobal + Threads + Wait + Sync>(
     rt: &W,
     given: &mut Given,
-    text: &str,
-    letters: &str,
-    ticks: &str,
+    wanted: (&str, &str, &str),
 ) -> Result<bool, NoMemory> {
-    let alloc = rt.alloc();
     let report = reported(rt, given);
-    let entries = report.journal.entries();
-    let (answered, ticked) = (letters_of(alloc, entries), ticks_of(alloc, entries));
+    let told = answers_and_ticks(rt.alloc(), report.journal.entries());
     let status = report.status;
     drop(report);
-    Ok(
-        status == 0
-            && given.out.bytes() == text.as_bytes()
-            && answered?.as_str() == letters
-            && ticked?.as_str() == ticks,
-    )
+    let (answered, ticked) = told?;
+    let (text, letters, ticks) = wanted;
+    let is_printed = status == 0 && given.out.bytes() == text.as_bytes();
+    Ok(is_printed && answered.as_str() == letters && ticked.as_str() == ticks)
+}
+
+/// Whether a drain of these routes and this line, where the lane `x` fails its first calls, prints this, with calls of these letters and
+/// with these ticks.
+fn is_tried<W: AllocGlobal + Threads + Wait + Sync>(
+    rt: &W,
+    routes: &str,
+    failing: Failing,
+    line: &str,
+    wanted: (&str, &str, &str),
+) -> Result<bool, NoMemory> {
+    let mut given = given_failing(rt.alloc(), &DRAIN, routes, failing, line)?;
+    runs_so(rt, &mut given, wanted)
 }
 
 #[test]
 fn what_fails_is_tried_again_and_handled_as_the_file_says(rt: HostRuntime) -> Result<(), Fail> {
-    for (handler, steps, failing, line, text, calls, ticks) in RUNS {
+    for &(handler, steps, failing, line, text, calls, ticks) in &RUNS {
         let routes = routes_of(rt.alloc(), handler, steps)?;
-        let mut given = given_failing(rt.alloc(), &DRAIN, routes.as_str(), failing, line)?;
-        let told = runs_so(&rt, &mut given, text, calls, ticks)?;
+        let told = is_tried(&rt, routes.as_str(), failing, line, (text, calls, ticks))?;
         assert!(rt; told, "of {routes} failing {failing}");
     }
     Ok(())
@@ -288,7 +300,7 @@ fn who_sleeps_when_the_turns_are_spent_is_told(rt: HostRuntime) -> Result<(), Fa
     let words = ["drain", "r.json", "--turns", "3"];
     let routes = routes_of(rt.alloc(), DEAD_LOG, SENT)?;
     let mut given = given_failing(rt.alloc(), &words, routes.as_str(), 1, "a")?;
-    let report = reported(&rt, &mut given);
-    assert!(rt; report.status == 4 && given.out.bytes() == ASLEEP.as_bytes());
+    let told = came(&rt, &mut given, 4, ASLEEP);
+    assert!(rt; told);
     Ok(())
 }

@@ -5,7 +5,7 @@ use eip_run::{Report, run};
 use eip_samples::{SamplePredicate, SampleProcessor, registry};
 use eip_simple_read::CratePatterns;
 use eip_test_support::{joined, texts};
-use eip_text::{NoMemory, Series, Text};
+use eip_text::{NoMemory, Series, Text, decimal};
 use std::alloc::Global;
 use std::sync::Wait;
 use std::thread::Threads;
@@ -59,20 +59,59 @@ impl Drop for Given {
     }
 }
 
+/// Appends these pieces.
+pub fn push_all(out: &mut String, pieces: &[&str]) -> Result<(), NoMemory> {
+    for piece in pieces {
+        out.push_str(piece)?;
+    }
+    Ok(())
+}
+
+/// A line for each of these numbers, with this front and this back.
+pub fn numbered(
+    alloc: Global,
+    first: u64,
+    last: u64,
+    front: &str,
+    back: &str,
+) -> Result<String, NoMemory> {
+    let mut out = String::new(alloc);
+    for number in first..=last {
+        let digits = decimal(alloc, number)?;
+        push_all(&mut out, &[front, digits.as_str(), back])?;
+    }
+    Ok(out)
+}
+
 /// A route file of one route from standard input with these steps.
 pub fn route_of(alloc: Global, steps: &str) -> Result<String, NoMemory> {
     let front = "[{\"from\":{\"uri\":\"stream:in\",\"steps\":";
     joined(alloc, &[front, steps, "}}]"])
 }
 
-/// The file `r.json` with these bytes.
-fn file_of(alloc: Global, bytes: &str, failing: u64) -> Result<MemoryFiles, NoMemory> {
+/// The bytes of a text.
+fn bytes_of(alloc: Global, text: &str) -> Result<Series<u8>, NoMemory> {
+    let mut bytes = Vec::new(alloc);
+    bytes.extend_from_slice(text.as_bytes())?;
+    Ok(Series::of(bytes))
+}
+
+/// A file of the folder that a command runs in.
+pub fn file_of(
+    alloc: Global,
+    name: &str,
+    text: &str,
+) -> Result<(Text, Text, Series<u8>), NoMemory> {
     let folder = Text::of_str(alloc, ".")?;
-    let name = Text::of_str(alloc, "r.json")?;
-    let mut copy = Vec::new(alloc);
-    copy.extend_from_slice(bytes.as_bytes())?;
-    let content = vec![in alloc; (folder, name, Series::of(copy))]?;
-    Ok(MemoryFiles::new(alloc, content, vec![in alloc; failing]?))
+    let name = Text::of_str(alloc, name)?;
+    Ok((folder, name, bytes_of(alloc, text)?))
+}
+
+/// The file `r.json` with these routes.
+fn route_files(alloc: Global, routes: &str, failing: u64) -> Result<MemoryFiles, NoMemory> {
+    let failing = vec![in alloc; failing]?;
+    let content = vec![in alloc; file_of(alloc, "r.json", routes)?]?;
+    Ok(MemoryFiles::new(alloc, content, failing))
 }
 
 /// A lane of this name that fails the calls of these numbers.
@@ -93,10 +132,36 @@ fn lanes(alloc: Global) -> Result<Vec<Lane<MemoryLane>>, NoMemory> {
 }
 
 /// These lines as the inlet of standard input.
-fn stream(alloc: Global, lines: Vec<Text>, failing: u64) -> Result<Vec<Inlet<Lines>>, NoMemory> {
+fn stream(alloc: Global, lines: &[&str], failing: u64) -> Result<Vec<Inlet<Lines>>, NoMemory> {
+    let object = Lines::new(alloc, texts(alloc, lines)?, failing);
     let name = Text::of_str(alloc, "stream")?;
-    let object = Lines::new(alloc, lines, failing);
     Ok(vec![in alloc; Inlet { name, object }]?)
+}
+
+/// What is handed to a command without words, files, lanes and inlets.
+fn given_nothing(alloc: Global) -> Result<Given, NoMemory> {
+    Ok(Given {
+        words: Vec::new(alloc),
+        files: MemoryFiles::new(alloc, Vec::new(alloc), Vec::new(alloc)),
+        lanes: Vec::new(alloc),
+        inlets: Vec::new(alloc),
+        registry: registry(alloc)?,
+        out: MemorySink::new(alloc, Vec::new(alloc)),
+    })
+}
+
+/// Hands in these routes as `r.json`, these lines as standard input, and a sink.
+fn hand_in(
+    alloc: Global,
+    given: &mut Given,
+    routes: &str,
+    lines: &[&str],
+    failing: Failing,
+) -> Result<(), NoMemory> {
+    given.files = route_files(alloc, routes, failing.reading)?;
+    given.inlets = stream(alloc, lines, failing.pull)?;
+    given.out = MemorySink::new(alloc, vec![in alloc; failing.write]?);
+    Ok(())
 }
 
 /// What is handed to a command of these words, where `r.json` has these routes and standard input these lines.
@@ -107,19 +172,17 @@ pub fn given_with(
     lines: &[&str],
     failing: Failing,
 ) -> Result<Given, NoMemory> {
-    let failing_writes = vec![in alloc; failing.write]?;
-    let words = texts(alloc, words)?;
-    let files = file_of(alloc, routes, failing.reading)?;
-    let lanes = lanes(alloc)?;
-    let inlets = stream(alloc, texts(alloc, lines)?, failing.pull)?;
-    Ok(Given {
-        words,
-        files,
-        lanes,
-        inlets,
-        registry: registry(alloc)?,
-        out: MemorySink::new(alloc, failing_writes),
-    })
+    let mut given = given_nothing(alloc)?;
+    given.words = texts(alloc, words)?;
+    given.lanes = lanes(alloc)?;
+    hand_in(alloc, &mut given, routes, lines, failing)?;
+    Ok(given)
+}
+
+/// What is handed to a drain of these lines, which come through these steps.
+pub fn given_steps(alloc: Global, steps: &str, lines: &[&str]) -> Result<Given, NoMemory> {
+    let routes = route_of(alloc, steps)?;
+    given_with(alloc, &DRAIN, routes.as_str(), lines, SOUND)
 }
 
 /// The report of a command.
@@ -140,7 +203,7 @@ pub fn reported<W: AllocGlobal + Threads + Wait + Sync>(rt: &W, given: &mut Give
 }
 
 /// Whether a command comes to this status and writes this.
-fn came<W: AllocGlobal + Threads + Wait + Sync>(
+pub fn came<W: AllocGlobal + Threads + Wait + Sync>(
     rt: &W,
     given: &mut Given,
     status: u8,

@@ -1,5 +1,5 @@
 use crate::errors::{failing_lane, ticks_of};
-use crate::given::{DRAIN, Given, SOUND, given_with, reported, route_of};
+use crate::given::{DRAIN, Given, SOUND, given_steps, given_with, reported};
 use eip_text::NoMemory;
 use std::alloc::Global;
 use std::sync::Wait;
@@ -135,9 +135,8 @@ fn ends_so<W: AllocGlobal + Threads + Wait + Sync>(
 
 #[test]
 fn groups_and_batches_go_on_when_they_are_closed(rt: HostRuntime) -> Result<(), Fail> {
-    for (steps, lines, status, text, ticks) in DRAINED {
-        let routes = route_of(rt.alloc(), steps)?;
-        let mut given = given_with(rt.alloc(), &DRAIN, routes.as_str(), lines, SOUND)?;
+    for &(steps, lines, status, text, ticks) in &DRAINED {
+        let mut given = given_steps(rt.alloc(), steps, lines)?;
         let told = ends_so(&rt, &mut given, status, text, ticks)?;
         assert!(rt; told, "of {steps} over {text}");
     }

@@ -2,7 +2,9 @@ use crate::errors::{failing_lane, routes_of, runs_so};
 use crate::given::{DRAIN, Given, SOUND, given_with, lane};
 use eip_text::NoMemory;
 use std::alloc::Global;
+use std::sync::Wait;
 use std::test::Fail;
+use std::thread::Threads;
 
 /// A dead letter channel to a log, with one attempt more.
 const DEAD: &str =
@@ -223,7 +225,7 @@ const RUNS: [(&str, &str, u64, &[&str], &str, &str, &str); 17] = [
 ];
 
 /// What is handed to a drain of these lines, where the lane `x` fails its first calls and the lane `y` its third.
-pub fn given_lines(
+fn given_lines(
     alloc: Global,
     routes: &str,
     failing: u64,
@@ -231,18 +233,29 @@ pub fn given_lines(
 ) -> Result<Given, NoMemory> {
     let mut given = given_with(alloc, &DRAIN, routes, lines, SOUND)?;
     given.lanes = failing_lane(alloc, failing)?;
-    given
-        .lanes
-        .push(lane(alloc, "lane:y", vec![in alloc; 3]?)?)?;
+    let third = lane(alloc, "lane:y", vec![in alloc; 3]?)?;
+    given.lanes.push(third)?;
     Ok(given)
+}
+
+/// Whether a drain of these lines, where the lanes fail so, prints this, with answers of these letters and with these ticks.
+pub fn lines_run_so<W: AllocGlobal + Threads + Wait + Sync>(
+    rt: &W,
+    routes: &str,
+    failing: u64,
+    lines: &[&str],
+    wanted: (&str, &str, &str),
+) -> Result<bool, NoMemory> {
+    let mut given = given_lines(rt.alloc(), routes, failing, lines)?;
+    runs_so(rt, &mut given, wanted)
 }
 
 #[test]
 fn a_key_is_held_as_its_step_says(rt: HostRuntime) -> Result<(), Fail> {
-    for (handler, steps, failing, lines, text, letters, ticks) in RUNS {
+    for &(handler, steps, failing, lines, text, letters, ticks) in &RUNS {
         let routes = routes_of(rt.alloc(), handler, steps)?;
-        let mut given = given_lines(rt.alloc(), routes.as_str(), failing, lines)?;
-        let told = runs_so(&rt, &mut given, text, letters, ticks)?;
+        let wanted = (text, letters, ticks);
+        let told = lines_run_so(&rt, routes.as_str(), failing, lines, wanted)?;
         assert!(rt; told, "of {routes} failing {failing}");
     }
     Ok(())

@@ -1,5 +1,5 @@
-use crate::given::{DRAIN, comes_to, is_stepped, route_of};
-use crate::runs::{COMPLETED, FAILED};
+use crate::given::{DRAIN, comes_to, is_stepped, push_all, route_of};
+use crate::runs::{COMPLETED, DOUBLED, FAILED, is_doubled};
 use eip_test_support::{joined, repeated};
 use eip_text::{NoMemory, decimal};
 use std::alloc::Global;
@@ -135,7 +135,7 @@ const DRAINED: [(&str, &str, &str, &str); 13] = [
 
 #[test]
 fn parts_are_born_in_order_and_joined_by_index(rt: HostRuntime) -> Result<(), Fail> {
-    for (steps, line, front, totals) in DRAINED {
+    for &(steps, line, front, totals) in &DRAINED {
         let told = is_stepped(&rt, steps, line, front, totals)?;
         assert!(rt; told, "of {steps} with {line}");
     }
@@ -187,11 +187,16 @@ const BARE: &str = r#"[{"split":{"tokenize":",","steps":[]}}]"#;
 fn parts_to(alloc: Global, count: u64) -> Result<String, NoMemory> {
     let mut out = String::from_str(alloc, "exchange 1 source route1 completed\n")?;
     for index in 0..count {
-        out.push_str("exchange ")?;
-        out.push_str(decimal(alloc, index.saturating_add(2))?.as_str())?;
-        out.push_str(" part 1.")?;
-        out.push_str(decimal(alloc, index)?.as_str())?;
-        out.push_str(" completed\n")?;
+        let number = decimal(alloc, index.saturating_add(2))?;
+        let place = decimal(alloc, index)?;
+        let pieces = [
+            "exchange ",
+            number.as_str(),
+            " part 1.",
+            place.as_str(),
+            " completed\n",
+        ];
+        push_all(&mut out, &pieces)?;
     }
     Ok(out)
 }
@@ -217,12 +222,17 @@ fn are_split<W: AllocGlobal + Threads + Wait + Sync>(
     )
 }
 
-#[test]
-fn a_message_has_ten_thousand_parts_at_most(rt: HostRuntime) -> Result<(), Fail> {
+/// Whether a line of ten thousand commas comes to as many parts.
+fn are_most_parts_born<W: AllocGlobal + Threads + Wait + Sync>(rt: &W) -> Result<bool, NoMemory> {
     let front = parts_to(rt.alloc(), 10_000)?;
     let totals =
         "accepted 1 refused 0\ntotal 10001 completed 10001 handled 0 failed 0 waiting 0\ndrained\n";
-    let most = are_split(&rt, 10_000, front.as_str(), totals)?;
+    are_split(rt, 10_000, front.as_str(), totals)
+}
+
+#[test]
+fn a_message_has_ten_thousand_parts_at_most(rt: HostRuntime) -> Result<(), Fail> {
+    let most = are_most_parts_born(&rt)?;
     assert!(rt; most);
     let front = "exchange 1 source route1 failed TooManyParts \"10001\"\n";
     let more = are_split(&rt, 10_001, front, FAILED)?;
@@ -230,18 +240,11 @@ fn a_message_has_ten_thousand_parts_at_most(rt: HostRuntime) -> Result<(), Fail>
     Ok(())
 }
 
-/// Steps that double a body.
-const DOUBLED: &str = r#"[{"setBody":{"simple":"${body}${body}"}}]"#;
-
 #[test]
 fn a_body_that_grows_too_long_fails(rt: HostRuntime) -> Result<(), Fail> {
-    let half = repeated(rt.alloc(), "x", 32_768)?;
-    let line = "exchange 1 source route1 completed\n";
-    let kept = is_stepped(&rt, DOUBLED, half.as_str(), line, COMPLETED)?;
-    assert!(rt; kept);
-    let more = repeated(rt.alloc(), "x", 32_769)?;
-    let line = "exchange 1 source route1 failed TooLong \"\"\n";
-    let over = is_stepped(&rt, DOUBLED, more.as_str(), line, FAILED)?;
-    assert!(rt; over);
+    for &(length, front, totals) in &DOUBLED {
+        let told = is_doubled(&rt, length, front, totals)?;
+        assert!(rt; told, "of {length}");
+    }
     Ok(())
 }

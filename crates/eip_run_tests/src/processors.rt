@@ -1,6 +1,6 @@
-use crate::errors::{routes_of, runs_so};
+use crate::errors::routes_of;
 use crate::given::{DRAIN, comes_to, route_of};
-use crate::keys::given_lines;
+use crate::keys::lines_run_so;
 use std::test::Fail;
 
 /// A dead letter channel to a log, with one attempt more.
@@ -125,10 +125,9 @@ const RUNS: [(&str, &str, &[&str], &str, &str, &str); 10] = [
 
 #[test]
 fn what_is_handed_in_answers_for_its_steps(rt: HostRuntime) -> Result<(), Fail> {
-    for (handler, steps, lines, text, letters, ticks) in RUNS {
+    for &(handler, steps, lines, text, letters, ticks) in &RUNS {
         let routes = routes_of(rt.alloc(), handler, steps)?;
-        let mut given = given_lines(rt.alloc(), routes.as_str(), 0, lines)?;
-        let told = runs_so(&rt, &mut given, text, letters, ticks)?;
+        let told = lines_run_so(&rt, routes.as_str(), 0, lines, (text, letters, ticks))?;
         assert!(rt; told, "of {routes}");
     }
     Ok(())
@@ -164,7 +163,7 @@ const UNKNOWN: [(&str, &str); 6] = [
 
 #[test]
 fn a_name_that_nobody_has_is_refused_with_its_place(rt: HostRuntime) -> Result<(), Fail> {
-    for (steps, text) in UNKNOWN {
+    for &(steps, text) in &UNKNOWN {
         let routes = route_of(rt.alloc(), steps)?;
         let told = comes_to(&rt, &DRAIN, routes.as_str(), &[], 1, text)?;
         assert!(rt; told, "of {steps}");

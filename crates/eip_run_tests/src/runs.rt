@@ -1,12 +1,12 @@
 use crate::given::{
-    CHECK, DRAIN, Failing, SOUND, comes_at_fault_to, comes_to, given_with, is_stepped, reported,
-    route_of,
+    CHECK, DRAIN, Failing, SOUND, comes_at_fault_to, comes_to, given_with, is_stepped, numbered,
+    reported, route_of,
 };
 use eip_endpoint::{Call, Lane, MemoryLane, Outcome};
 use eip_frames::Answer;
 use eip_ledger::{Entry, Kind};
-use eip_test_support::repeated;
-use eip_text::{NoMemory, decimal};
+use eip_test_support::{joined, repeated};
+use eip_text::NoMemory;
 use std::alloc::Global;
 use std::sync::Wait;
 use std::test::Fail;
@@ -87,7 +87,7 @@ const OTHER_WORDS: [&[&str]; 4] = [
 
 #[test]
 fn other_words_are_refused(rt: HostRuntime) -> Result<(), Fail> {
-    for words in OTHER_WORDS {
+    for words in &OTHER_WORDS {
         let told = comes_to(&rt, words, STEPS, &[], 1, "error words\n")?;
         assert!(rt; told);
     }
@@ -316,7 +316,7 @@ const STEPPED: [(&str, &str, &str, &str); 13] = [
 
 #[test]
 fn simple_steps_do_what_they_mean(rt: HostRuntime) -> Result<(), Fail> {
-    for (steps, body, front, totals) in STEPPED {
+    for &(steps, body, front, totals) in &STEPPED {
         let told = is_stepped(&rt, steps, body, front, totals)?;
         assert!(rt; told, "of {steps}");
     }
@@ -324,7 +324,7 @@ fn simple_steps_do_what_they_mean(rt: HostRuntime) -> Result<(), Fail> {
 }
 
 /// Whether a line of so many bytes, doubled by a step, comes to this book.
-fn is_doubled<W: AllocGlobal + Threads + Wait + Sync>(
+pub fn is_doubled<W: AllocGlobal + Threads + Wait + Sync>(
     rt: &W,
     length: usize,
     front: &str,
@@ -336,42 +336,60 @@ fn is_doubled<W: AllocGlobal + Threads + Wait + Sync>(
     is_stepped(rt, steps, body.as_str(), front, totals)
 }
 
+/// Lengths of a line that is doubled, and its book.
+pub const DOUBLED: [(usize, &str, &str); 2] = [
+    (32_768, "exchange 1 source route1 completed\n", COMPLETED),
+    (
+        32_769,
+        "exchange 1 source route1 failed TooLong \"\"\n",
+        FAILED,
+    ),
+];
+
 #[test]
 fn a_body_of_more_than_its_bytes_fails(rt: HostRuntime) -> Result<(), Fail> {
-    let line = "exchange 1 source route1 completed\n";
-    let longest = is_doubled(&rt, 32_768, line, COMPLETED)?;
-    assert!(rt; longest);
-    let line = "exchange 1 source route1 failed TooLong \"\"\n";
-    let longer = is_doubled(&rt, 32_769, line, FAILED)?;
-    assert!(rt; longer);
+    for &(length, front, totals) in &DOUBLED {
+        let told = is_doubled(&rt, length, front, totals)?;
+        assert!(rt; told, "of {length}");
+    }
     Ok(())
 }
 
 /// Steps that set the headers `h1` to `hN`.
 fn headers_to(alloc: Global, count: u64) -> Result<String, NoMemory> {
-    let mut steps = String::from_str(alloc, "[")?;
-    for number in 1..count {
-        steps.push_str("{\"setHeader\":{\"name\":\"h")?;
-        steps.push_str(decimal(alloc, number)?.as_str())?;
-        steps.push_str("\",\"constant\":1}},")?;
-    }
-    steps.push_str("{\"setHeader\":{\"name\":\"h")?;
-    steps.push_str(decimal(alloc, count)?.as_str())?;
-    steps.push_str("\",\"constant\":1}}]")?;
-    Ok(steps)
+    let front = ",{\"setHeader\":{\"name\":\"h";
+    let steps = numbered(alloc, 1, count, front, "\",\"constant\":1}}")?;
+    let listed = steps.as_str().strip_prefix(',').unwrap_or("");
+    joined(alloc, &["[", listed, "]"])
 }
+
+/// Whether a line that comes through steps which set so many headers comes to this book.
+fn are_set<W: AllocGlobal + Threads + Wait + Sync>(
+    rt: &W,
+    count: u64,
+    front: &str,
+    totals: &str,
+) -> Result<bool, NoMemory> {
+    let steps = headers_to(rt.alloc(), count)?;
+    is_stepped(rt, steps.as_str(), "x", front, totals)
+}
+
+/// Numbers of headers that are set, and the book.
+const HEADERS: [(u64, &str, &str); 2] = [
+    (64, "exchange 1 source route1 completed\n", COMPLETED),
+    (
+        65,
+        "exchange 1 source route1 failed TooManyHeaders \"h65\"\n",
+        FAILED,
+    ),
+];
 
 #[test]
 fn the_sixty_fifth_header_fails(rt: HostRuntime) -> Result<(), Fail> {
-    let alloc = rt.alloc();
-    let steps = headers_to(alloc, 64)?;
-    let line = "exchange 1 source route1 completed\n";
-    let most = is_stepped(&rt, steps.as_str(), "x", line, COMPLETED)?;
-    assert!(rt; most);
-    let steps = headers_to(alloc, 65)?;
-    let line = "exchange 1 source route1 failed TooManyHeaders \"h65\"\n";
-    let more = is_stepped(&rt, steps.as_str(), "x", line, FAILED)?;
-    assert!(rt; more);
+    for &(count, front, totals) in &HEADERS {
+        let told = are_set(&rt, count, front, totals)?;
+        assert!(rt; told, "of {count}");
+    }
     Ok(())
 }
 
@@ -389,7 +407,7 @@ const REFUSED: [(&str, &str); 2] = [
 
 #[test]
 fn routes_that_are_wrong_are_refused(rt: HostRuntime) -> Result<(), Fail> {
-    for (steps, text) in REFUSED {
+    for &(steps, text) in &REFUSED {
         let routes = route_of(rt.alloc(), steps)?;
         let told = is_refused(&rt, "r.json", routes.as_str(), text)?;
         assert!(rt; told, "of {steps}");
@@ -424,7 +442,7 @@ const CHECKED: [(&str, u8, &str); 3] = [
 
 #[test]
 fn a_check_prints_the_canonical_text_or_the_first_fault(rt: HostRuntime) -> Result<(), Fail> {
-    for (routes, status, text) in CHECKED {
+    for &(routes, status, text) in &CHECKED {
         let told = is_checked(&rt, routes, status, text)?;
         assert!(rt; told, "of {routes}");
     }

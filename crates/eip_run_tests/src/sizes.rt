@@ -1,7 +1,7 @@
-use crate::given::{CHECK, DRAIN, comes_to, is_stepped, route_of};
+use crate::given::{CHECK, DRAIN, comes_to, is_stepped, numbered, route_of};
 use crate::runs::{COMPLETED, FAILED};
 use eip_test_support::{joined, repeated};
-use eip_text::{NoMemory, decimal};
+use eip_text::NoMemory;
 use std::alloc::Global;
 use std::sync::Wait;
 use std::test::Fail;
@@ -16,29 +16,22 @@ const TOO_LONG: &str = "exchange 1 source route1 failed TooLong \"\"\n";
 /// Steps to a log and to two lanes.
 const SENT: &str = "[{\"to\":\"log:o\"},{\"to\":\"lane:a\"},{\"to\":\"lane:b\"}]";
 
-/// So many lines with this front, the number from 1, and this back.
-fn numbered(alloc: Global, count: u64, front: &str, back: &str) -> Result<String, NoMemory> {
-    let mut out = String::new(alloc);
-    for number in 1..=count {
-        let digits = decimal(alloc, number)?;
-        out.push_str(front)?;
-        out.push_str(digits.as_str())?;
-        out.push_str(back)?;
-    }
-    Ok(out)
+/// What a drain of 300 lines prints that are sent to a log and to two lanes.
+fn book_of_300(alloc: Global) -> Result<String, NoMemory> {
+    let log = numbered(alloc, 1, 300, "log ", " o: x\n")?;
+    let exchanges = numbered(alloc, 1, 300, "exchange ", " source route1 completed\n")?;
+    let counts = "accepted 300 refused 0\ntotal 300 completed 300 handled 0 failed 0 waiting 0\n";
+    joined(
+        alloc,
+        &[log.as_str(), exchanges.as_str(), counts, "drained\n"],
+    )
 }
 
 /// Whether 300 lines that are sent to a log and to two lanes are logged, are completed one by one and are counted.
 fn are_all_completed<W: AllocGlobal + Threads + Wait + Sync>(rt: &W) -> Result<bool, NoMemory> {
     let alloc = rt.alloc();
     let routes = route_of(alloc, SENT)?;
-    let log = numbered(alloc, 300, "log ", " o: x\n")?;
-    let exchanges = numbered(alloc, 300, "exchange ", " source route1 completed\n")?;
-    let counts = "accepted 300 refused 0\ntotal 300 completed 300 handled 0 failed 0 waiting 0\n";
-    let text = joined(
-        alloc,
-        &[log.as_str(), exchanges.as_str(), counts, "drained\n"],
-    )?;
+    let text = book_of_300(alloc)?;
     comes_to(rt, &DRAIN, routes.as_str(), &["x"; 300], 0, text.as_str())
 }
 
@@ -138,7 +131,7 @@ fn is_kept<W: AllocGlobal + Threads + Wait + Sync>(
 
 #[test]
 fn a_value_of_the_most_bytes_is_kept(rt: HostRuntime) -> Result<(), Fail> {
-    for (steps, front, back, totals) in KEPT {
+    for &(steps, front, back, totals) in &KEPT {
         let told = is_kept(&rt, steps, front, back, totals)?;
         assert!(rt; told, "of {steps}");
     }
@@ -172,7 +165,7 @@ fn is_over<W: AllocGlobal + Threads + Wait + Sync>(rt: &W, steps: &str) -> Resul
 
 #[test]
 fn a_value_of_one_byte_more_fails_its_exchange(rt: HostRuntime) -> Result<(), Fail> {
-    for (what, steps) in OVER {
+    for &(what, steps) in &OVER {
         let told = is_over(&rt, steps)?;
         assert!(rt; told, "of {what}");
     }

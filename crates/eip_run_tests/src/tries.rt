@@ -66,7 +66,7 @@ const TRIED: [(&str, &str, &str); 6] = [
 
 #[test]
 fn a_try_is_caught_and_its_last_steps_run_in_any_case(rt: HostRuntime) -> Result<(), Fail> {
-    for (steps, front, totals) in TRIED {
+    for &(steps, front, totals) in &TRIED {
         let told = is_stepped(&rt, steps, "a", front, totals)?;
         assert!(rt; told, "of {steps}");
     }

@@ -1,6 +1,6 @@
 ghost use Rattle.std.specs.Prelude.{None};
 
-use crate::given::{DRAIN, SOUND, given_with, route_of};
+use crate::given::given_steps;
 use eip_endpoint::{Endpoint, Lane, SendFault};
 use eip_exchange::Message;
 use eip_frames::Target;
@@ -30,6 +30,13 @@ impl Endpoint for WantingLane {
 const SENT: &str =
     r#"[{"split":{"tokenize":",","parallelProcessing":true,"steps":[{"filter":{"simple":"${exchangeProperty.CamelSplitIndex} != '0'","steps":[{"to":"lane:w"}]}}]}},{"to":"log:out"}]"#;
 
+/// The lane `lane:w`, which never has memory.
+fn wanting_lanes(alloc: Global) -> Result<Vec<Lane<WantingLane>>, NoMemory> {
+    let name = Text::of_str(alloc, "lane:w")?;
+    let object = WantingLane {};
+    Ok(vec![in alloc; Lane { name, object }]?)
+}
+
 /// Whether a line that comes through these steps is drained with this text, where `lane:w` never has memory.
 fn is_drained<W: AllocGlobal + Threads + Wait + Sync>(
     rt: &W,
@@ -38,12 +45,9 @@ fn is_drained<W: AllocGlobal + Threads + Wait + Sync>(
     text: &str,
 ) -> Result<bool, NoMemory> {
     let alloc = rt.alloc();
-    let routes = route_of(alloc, steps)?;
-    let name = Text::of_str(alloc, "lane:w")?;
-    let object = WantingLane {};
-    let mut lanes = vec![in alloc; Lane { name, object }]?;
+    let mut lanes = wanting_lanes(alloc)?;
+    let mut given = given_steps(alloc, steps, &[line])?;
     let mut patterns = CratePatterns::new(Vec::new(alloc));
-    let mut given = given_with(alloc, &DRAIN, routes.as_str(), &[line], SOUND)?;
     let report: Report = run(
         rt,
         alloc,

@@ -5,7 +5,7 @@ use Rattle.eip_ledger.specs.declared.entry.Kind.{Kind}
 use Rattle.eip_history.specs.Own.{Past}
 use Rattle.eip_history.specs.Owner.{Outlets, outlet_in, IsOwner}
 use Rattle.eip_history.specs.Plan.{Plan}
-use Rattle.eip_books.specs.View.{BooksView, plan, Adds, AddsNone}
+use Rattle.eip_hub.specs.View.{BooksView, plan, Adds, AddsNone}
 use Rattle.eip_plan.specs.Plan.{plan_of}
 use Rattle.eip_outlets.specs.Outlets.{outlets}
 use Rattle.eip_owners.specs.Owners.{IsOwnedBehind}

@@ -1,7 +1,7 @@
 -- What an outcome that is entered does to a run that is shared.
 use Rattle.std.proofs.Common.{◌≡◌, ℕ, [], ◌∷◌, refl, sym, subst}
 use Rattle.eip_exchange.specs.declared.birth.Origin.{Origin}
-use Rattle.eip_books.specs.View.{BooksView, plan, Adds}
+use Rattle.eip_hub.specs.View.{BooksView, plan, Adds}
 use Rattle.eip_outlets.specs.Outlets.{outlets}
 use Rattle.eip_shared.specs.Deeds.{deed}
 use Rattle.eip_shared.specs.Shared.{SharedView, SharedFacts, Does, Makes, MayEnter, kind_of}

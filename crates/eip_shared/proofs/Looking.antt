@@ -27,7 +27,7 @@ use Rattle.eip_tables.specs.Outside.{is_among, unlooked_numbers}
 use Rattle.eip_tables.specs.Places.{inner_of}
 use Rattle.eip_tables.specs.declared.asking.Inner.{Inner}
 use Rattle.eip_tables.specs.declared.asking.Inner.TheVariants as inner
-use Rattle.eip_books.specs.View.{BooksView, plan, Adds, AddsAnswer, AddsNone, StartsFirst}
+use Rattle.eip_hub.specs.View.{BooksView, plan, Adds, AddsAnswer, AddsNone, StartsFirst}
 use Rattle.eip_outlets.specs.Outlets.{outlets}
 use Rattle.eip_shared.specs.Deeds.{IsInner, begins, deed, given_to, is_from_outside}
 use Rattle.eip_shared.specs.Shared.{IsPulled}

@@ -28,7 +28,7 @@ use Rattle.eip_route.specs.contracts.route.Block as block
 use Rattle.eip_route.specs.contracts.route.RouteSet as set
 use Rattle.eip_ledger.proofs.journal.Journal.TheSendSync as journal
 use Rattle.eip_ledger.proofs.place.Note.TheSendSync as note
-use Rattle.eip_rows.proofs.rows.Rows.TheSendSync as rows
+use Rattle.eip_hub.proofs.RowsSend as rows
 use Rattle.eip_tables.proofs.rising.RisingNumbers.TheSendSync as rising
 use Rattle.eip_tables.proofs.sources.Sources.TheSendSync as sources
 use Rattle.eip_tables.proofs.table.Table.TheSendSync as table
@@ -37,7 +37,7 @@ use Rattle.eip_join.proofs.joins.Joins.TheSendSync as joins
 use Rattle.eip_redelivery.proofs.retries.Retries.TheSendSync as retries
 use Rattle.eip_aggregator.proofs.groups.Groups.TheSendSync as groups
 use Rattle.eip_idempotent.proofs.repo.Repo.TheSendSync as repo
-use Rattle.eip_books.specs.contracts.books.Books as books
+use Rattle.eip_hub.specs.Books as books
 use Rattle.eip_hub.specs.contracts.hub.Hub as hub
 use Rattle.eip_shared.specs.contracts.shared.SharedRun as run
 

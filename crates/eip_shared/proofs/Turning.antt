@@ -3,7 +3,7 @@ use Rattle.std.proofs.Common.{◌≡◌, ℕ, List, [], ◌∷◌, ◌++◌, Som
 use Rattle.std.proofs.lemmas.List.{append_cancel_left}
 use Rattle.eip_exchange.specs.declared.birth.Origin.{Origin}
 use Rattle.eip_history.specs.Rules.{KeepsRules, IsLegal}
-use Rattle.eip_books.specs.View.{plan, IsLegalRun}
+use Rattle.eip_hub.specs.View.{plan, IsLegalRun}
 use Rattle.eip_plan.specs.Plan.{plan_of}
 use Rattle.eip_outlets.specs.Outlets.{outlets}
 use Rattle.eip_turnstile.specs.Rule.{entries_by, StartsWith, AllBy}

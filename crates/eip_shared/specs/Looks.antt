@@ -12,7 +12,7 @@ use Rattle.eip_history.specs.Own.{Past}
 use Rattle.eip_history.specs.Owner.{Outlets}
 use Rattle.eip_history.specs.Plan.{Plan}
 use Rattle.eip_history.specs.Stop.{stop_of}
-use Rattle.eip_books.specs.View.{BooksView, plan}
+use Rattle.eip_hub.specs.View.{BooksView, plan}
 use Rattle.eip_plan.specs.Plan.{plan_of}
 use Rattle.eip_outlets.specs.Outlets.{outlets}
 use Rattle.eip_turnstile.specs.declared.view.View.{View}

@@ -13,7 +13,7 @@ use Rattle.eip_history.specs.Owner.{Outlets, owner, outlet_for, IsOwner}
 use Rattle.eip_history.specs.Place.{place}
 use Rattle.eip_history.specs.Plan.{Plan}
 use Rattle.eip_history.specs.Rules.{IsSource}
-use Rattle.eip_books.specs.View.{BooksView, plan, IsSameRun}
+use Rattle.eip_hub.specs.View.{BooksView, plan, IsSameRun}
 use Rattle.eip_plan.specs.Plan.{plan_of}
 use Rattle.eip_outlets.specs.Outlets.{outlets}
 use Rattle.eip_owners.specs.Owners.{entries_of, answers_of, answered, IsOwnedBehind}

@@ -1,7 +1,7 @@
 ghost use Rattle.std.specs.Prelude.{◌≡◌, ◌≤◌, Some, IfOk, IfSome, IfNone};
 ghost use Rattle.eip_ledger.specs.declared.place.Place.TheVariants.{Ready};
 ghost use Rattle.eip_history.specs.Births.{Asked, asked};
-ghost use Rattle.eip_books.specs.View.{plan, IsLegalRun};
+ghost use Rattle.eip_hub.specs.View.{plan, IsLegalRun};
 ghost use Rattle.eip_hub.specs.Events.{IsBelowLimit, place_in};
 ghost use Rattle.eip_shared.specs.Looks.{LooksIn, told_by};
 ghost use Rattle.eip_shared.specs.declared.looks.Look.TheVariants.{Did};

@@ -1,6 +1,6 @@
 ghost use Rattle.std.specs.Prelude.{◌≡◌, ◌≤◌, ◌++◌, ◌∷◌, [], ℕ};
 ghost use Rattle.eip_exchange.specs.declared.birth.Origin.{Origin};
-ghost use Rattle.eip_books.specs.View.{plan, IsLegalRun};
+ghost use Rattle.eip_hub.specs.View.{plan, IsLegalRun};
 ghost use Rattle.eip_shared.specs.Deeds.{deed};
 ghost use Rattle.eip_shared.specs.Looks.{Looks};
 ghost use Rattle.eip_shared.specs.Shared.{SharedFacts, beginning_of, log, beginning, since, Makes, MayEnter, Part, kind_of};

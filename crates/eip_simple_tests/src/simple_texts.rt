@@ -63,7 +63,7 @@ const TEMPLATES: [(&str, &str); 10] = [
 
 #[test]
 fn templates_are_read_and_printed(rt: HostRuntime) -> Result<(), Fail> {
-    for (text, want) in TEMPLATES {
+    for (text, want) in &TEMPLATES {
         assert!(rt; is_template_said(rt.alloc(), text, want)?, "of {text}");
     }
     Ok(())
@@ -117,7 +117,7 @@ const PREDICATES: [(&str, &str); 27] = [
 
 #[test]
 fn predicates_are_read_and_printed(rt: HostRuntime) -> Result<(), Fail> {
-    for (text, want) in PREDICATES {
+    for (text, want) in &PREDICATES {
         assert!(rt; is_predicate_said(rt.alloc(), text, 0, want)?, "of {text}");
     }
     Ok(())
@@ -156,9 +156,9 @@ const MATCHED: [(&str, bool); 5] = [
 
 #[test]
 fn a_pattern_matches_whole_texts(rt: HostRuntime) -> Result<(), Fail> {
-    for (text, want) in MATCHED {
+    for (text, want) in &MATCHED {
         let got = matched(rt.alloc(), "${body} regex 'a|ab'", text)?;
-        assert!(rt; got == Some(want), "of {text}");
+        assert!(rt; got == Some(*want), "of {text}");
     }
     Ok(())
 }
@@ -172,9 +172,9 @@ const TOO_LARGE: [(&str, u64, &str); 3] = [
 
 #[test]
 fn a_failing_build_is_too_large(rt: HostRuntime) -> Result<(), Fail> {
-    for (text, refused, want) in TOO_LARGE {
+    for (text, refused, want) in &TOO_LARGE {
         assert!(rt;
-            is_predicate_said(rt.alloc(), text, refused, want)?,
+            is_predicate_said(rt.alloc(), text, *refused, want)?,
             "of {text}"
         );
     }

@@ -295,7 +295,7 @@ const VALUES: [(&str, &str); 4] = [
 
 #[test]
 fn a_template_joins_its_values(rt: HostRuntime) -> Result<(), Fail> {
-    for (text, want) in VALUES {
+    for (text, want) in &VALUES {
         assert!(rt; is_value_said(rt.alloc(), text, want)?, "of {text}");
     }
     Ok(())

@@ -44,9 +44,9 @@ fn says_at_size(alloc: Global, marked: &str) -> Result<Option<bool>, NoMemory> {
 
 #[test]
 fn sides_and_bodies_of_65536_bytes_are_compared(rt: HostRuntime) -> Result<(), Fail> {
-    for (predicate, want) in SIDES {
+    for (predicate, want) in &SIDES {
         let got = says_at_size(rt.alloc(), predicate)?;
-        assert!(rt; got == Some(want), "of {predicate}");
+        assert!(rt; got == Some(*want), "of {predicate}");
     }
     Ok(())
 }
@@ -74,9 +74,9 @@ fn matched_at_size(alloc: Global, pattern: &str, text: &str) -> Result<Option<bo
 
 #[test]
 fn patterns_of_200_bytes_are_built_and_match(rt: HostRuntime) -> Result<(), Fail> {
-    for (pattern, text, want) in PATTERNS {
+    for (pattern, text, want) in &PATTERNS {
         let got = matched_at_size(rt.alloc(), pattern, text)?;
-        assert!(rt; got == Some(want), "of {pattern}");
+        assert!(rt; got == Some(*want), "of {pattern}");
     }
     Ok(())
 }
@@ -96,15 +96,17 @@ const TOO_LARGE: [(&str, &str); 4] = [
     ),
 ];
 
+/// Whether that is told of a predicate.
+fn is_said_at_size(alloc: Global, marked: &str, want: &str) -> Result<bool, NoMemory> {
+    let text = written_out(alloc, marked)?;
+    let want = written_out(alloc, want)?;
+    is_predicate_said(alloc, text.as_str(), 0, want.as_str())
+}
+
 #[test]
 fn the_patterns_of_a_builder_share_a_room(rt: HostRuntime) -> Result<(), Fail> {
-    for (marked, want) in TOO_LARGE {
-        let text = written_out(rt.alloc(), marked)?;
-        let want = written_out(rt.alloc(), want)?;
-        assert!(rt;
-            is_predicate_said(rt.alloc(), text.as_str(), 0, want.as_str())?,
-            "of {marked}"
-        );
+    for (marked, want) in &TOO_LARGE {
+        assert!(rt; is_said_at_size(rt.alloc(), marked, want)?, "of {marked}");
     }
     Ok(())
 }
@@ -138,9 +140,9 @@ fn template_at_size(
 
 #[test]
 fn templates_of_65000_bytes_are_read_printed_and_evaluated(rt: HostRuntime) -> Result<(), Fail> {
-    for (template, body, want) in TEMPLATES {
-        let got = template_at_size(rt.alloc(), template, body)?;
-        assert!(rt; got == (65_000, true, want), "of {template}");
+    for (template, body, want) in &TEMPLATES {
+        let got = template_at_size(rt.alloc(), template, *body)?;
+        assert!(rt; got == (65_000, true, *want), "of {template}");
     }
     Ok(())
 }

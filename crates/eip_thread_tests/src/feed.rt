@@ -4,9 +4,11 @@ use crate::given::told;
 use eip_endpoint::{Inlet, Lane, MemoryFiles};
 use eip_file::{FileLane, FileSource};
 use eip_samples::registry;
-use eip_text::{NoMemory, Series, Text, decimal};
+use eip_text::{NoMemory, Series, Text};
 use std::alloc::Global;
+use std::sync::Wait;
 use std::test::Fail;
+use std::thread::Threads;
 
 /// Orders that are cut into lines: those of `c0` are refused and left in a folder, those of another field go on ten by ten.
 const ORDERS: &str =
@@ -25,13 +27,10 @@ fn push_order(alloc: Global, bytes: &mut Vec<u8>, file: u64, order: u64) -> Resu
     requires file { file < 40 }
     requires order { order < 5 }
 {
-    let field = decimal(alloc, (file + order) % 4)?;
-    let amount = decimal(alloc, 10 * file + order)?;
-    bytes.push(b'c')?;
-    bytes.extend_from_slice(field.bytes())?;
-    bytes.push(b',')?;
-    bytes.extend_from_slice(amount.bytes())?;
-    bytes.push(b'\n')?;
+    let field = (file + order) % 4;
+    let amount = 10 * file + order;
+    let line = format!(in alloc; "c{field},{amount}\n")?;
+    bytes.extend_from_slice(line.as_bytes())?;
     Ok(())
 }
 
@@ -48,22 +47,33 @@ fn orders_of(alloc: Global, file: u64) -> Result<Series<u8>, NoMemory>
 
 /// The name of the file with this number, `f` and two digits.
 fn name_of(alloc: Global, file: u64) -> Result<Text, NoMemory> {
-    let mut name = String::from_str(alloc, "f")?;
-    name.push_str(decimal(alloc, file / 10)?.as_str())?;
-    name.push_str(decimal(alloc, file % 10)?.as_str())?;
-    Ok(Text::of(name))
+    let tens = file / 10;
+    let ones = file % 10;
+    Ok(Text::of(format!(in alloc; "f{tens}{ones}")?))
+}
+
+/// The file of orders with this number.
+fn file_of(alloc: Global, file: u64) -> Result<(Text, Text, Series<u8>), NoMemory>
+    requires { file < 40 }
+{
+    let folder = Text::of_str(alloc, "orders")?;
+    let name = name_of(alloc, file)?;
+    Ok((folder, name, orders_of(alloc, file)?))
+}
+
+/// All files of orders.
+fn files_of(alloc: Global) -> Result<MemoryFiles, NoMemory> {
+    let mut content = Vec::new(alloc);
+    for file in 0..FILES {
+        content.push(file_of(alloc, file)?)?;
+    }
+    Ok(MemoryFiles::new(alloc, content, Vec::new(alloc)))
 }
 
 /// The inlet of all files of orders.
 fn inlets_of(alloc: Global) -> Result<Vec<Inlet<FileSource<MemoryFiles>>>, NoMemory> {
-    let mut content = Vec::new(alloc);
-    for file in 0..FILES {
-        let folder = Text::of_str(alloc, "orders")?;
-        content.push((folder, name_of(alloc, file)?, orders_of(alloc, file)?))?;
-    }
-    let files = MemoryFiles::new(alloc, content, Vec::new(alloc));
+    let object = FileSource::new(alloc, files_of(alloc)?);
     let name = Text::of_str(alloc, "file")?;
-    let object = FileSource::new(alloc, files);
     Ok(vec![in alloc; Inlet { name, object }]?)
 }
 
@@ -81,29 +91,43 @@ fn are_all_in(files: &MemoryFiles, folder: &str) -> bool {
         && files.content().iter().all(|file| file.0.as_str() == folder)
 }
 
-#[test]
-fn eight_workers_feed_orders_and_leave_the_refused_ones(rt: HostRuntime) -> Result<(), Fail> {
-    let alloc = rt.alloc();
-    let mut lanes = lanes_of(alloc)?;
-    let mut inlets = inlets_of(alloc)?;
+/// Whether the files of orders are all taken.
+fn are_taken(inlets: &[Inlet<FileSource<MemoryFiles>>]) -> bool {
+    match inlets.first() {
+        Some(inlet) => are_all_in(&inlet.object.files, "orders/.camel"),
+        None => false,
+    }
+}
+
+/// Whether the refused orders are all left.
+fn are_dead(lanes: &[Lane<FileLane<MemoryFiles>>]) -> bool {
+    match lanes.first() {
+        Some(lane) => are_all_in(&lane.object.files, "dead"),
+        None => false,
+    }
+}
+
+/// Whether a drain by eight workers over these lanes and inlets comes to the totals.
+fn are_fed<W: Threads + Wait + Sync>(
+    rt: &W,
+    alloc: Global,
+    lanes: &mut Vec<Lane<FileLane<MemoryFiles>>>,
+    inlets: &mut Vec<Inlet<FileSource<MemoryFiles>>>,
+) -> Result<bool, NoMemory> {
     let registry = registry(alloc)?;
     let words = ["drain", "r.json", "--workers", "8"];
-    let text = told(
-        &rt,
-        alloc,
-        &words,
-        ORDERS,
-        &mut lanes,
-        &mut inlets,
-        &registry,
-    );
-    assert!(rt; text.is_some_and(|text| text.as_str().ends_with(TOTALS)));
-    let are_taken = inlets
-        .first()
-        .is_some_and(|inlet| are_all_in(&inlet.object.files, "orders/.camel"));
-    let are_dead = lanes
-        .first()
-        .is_some_and(|lane| are_all_in(&lane.object.files, "dead"));
-    assert!(rt; are_taken && are_dead);
+    match told(rt, alloc, &words, ORDERS, lanes, inlets, &registry) {
+        Some(text) => Ok(text.as_str().ends_with(TOTALS)),
+        None => Ok(false),
+    }
+}
+
+#[test]
+fn eight_workers_feed_orders_and_leave_the_refused_ones(rt: HostRuntime) -> Result<(), Fail> {
+    let mut lanes = lanes_of(rt.alloc())?;
+    let mut inlets = inlets_of(rt.alloc())?;
+    let are_fed = are_fed(&rt, rt.alloc(), &mut lanes, &mut inlets)?;
+    assert!(rt; are_fed);
+    assert!(rt; are_taken(&inlets) && are_dead(&lanes));
     Ok(())
 }

@@ -62,3 +62,11 @@ pub fn told<E: Endpoint, S: Source, R: Registered + Sync, W: Threads + Wait + Sy
     }
     Text::read(alloc, out.bytes()).ok()
 }
+
+/// Whether a command has printed this.
+pub fn is_text(told: Option<Text>, wanted: &str) -> bool {
+    match told {
+        Some(text) => text.as_str() == wanted,
+        None => false,
+    }
+}

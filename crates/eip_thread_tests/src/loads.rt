@@ -1,5 +1,5 @@
-use crate::given::{stream, told};
-use eip_endpoint::{Inlet, Lane, MemoryLane};
+use crate::given::{is_text, stream, told};
+use eip_endpoint::{Inlet, Lane, MemoryLane, MemorySource};
 use eip_load::LoadSource;
 use eip_samples::registry;
 use eip_test_support::{item, two_of_stream};
@@ -48,14 +48,18 @@ fn loaded<W: Threads + Wait + Sync>(
 
 #[test]
 fn a_load_comes_to_the_same_with_and_without_workers(rt: HostRuntime) -> Result<(), Fail> {
-    for workers in ["0", "4"] {
+    for workers in &["0", "4"] {
         let text = loaded(&rt, rt.alloc(), workers)?;
-        assert!(rt;
-            text.is_some_and(|text| text.as_str() == LOADED),
-            "by {workers}"
-        );
+        assert!(rt; is_text(text, LOADED), "by {workers}");
     }
     Ok(())
+}
+
+/// The inlet of two lines.
+fn two_lines(alloc: Global) -> Result<Vec<Inlet<MemorySource>>, NoMemory> {
+    let first = item(alloc, "1", "a")?;
+    let second = item(alloc, "2", "b")?;
+    stream(alloc, two_of_stream(alloc, first, second)?)
 }
 
 /// What a drain of two lines by so many workers prints.
@@ -64,8 +68,7 @@ fn drained<W: Threads + Wait + Sync>(
     alloc: Global,
     workers: &str,
 ) -> Result<Option<Text>, NoMemory> {
-    let lines = two_of_stream(alloc, item(alloc, "1", "a")?, item(alloc, "2", "b")?)?;
-    let mut inlets = stream(alloc, lines)?;
+    let mut inlets = two_lines(alloc)?;
     let mut lanes: Vec<Lane<MemoryLane>> = Vec::new(alloc);
     let registry = registry(alloc)?;
     let words = ["drain", "r.json", "--workers", workers];
@@ -88,15 +91,26 @@ fn has_lines(text: &str, lines: &str) -> bool {
             .all(|line| text.split('\n').any(|other| other == line))
 }
 
+/// Whether that has the lines of a drain without workers, and the totals last.
+fn is_drained<W: Threads + Wait + Sync>(
+    rt: &W,
+    alloc: Global,
+    workers: &str,
+) -> Result<[bool; 2], NoMemory> {
+    match drained(rt, alloc, workers)? {
+        Some(text) => Ok([
+            has_lines(text.as_str(), LINES),
+            text.as_str().ends_with(TOTALS),
+        ]),
+        None => Ok([false; 2]),
+    }
+}
+
 #[test]
 fn one_worker_and_sixteen_print_what_none_prints(rt: HostRuntime) -> Result<(), Fail> {
-    for workers in ["0", "1", "16"] {
-        let text = drained(&rt, rt.alloc(), workers)?;
-        let Some(text) = text else {
-            panic!(rt; "not drained by {workers}")
-        };
-        assert!(rt; has_lines(text.as_str(), LINES), "by {workers}");
-        assert!(rt; text.as_str().ends_with(TOTALS), "by {workers}");
+    for workers in &["0", "1", "16"] {
+        let told = is_drained(&rt, rt.alloc(), workers)?;
+        assert!(rt; told == [true; 2], "by {workers}");
     }
     Ok(())
 }

@@ -1,15 +1,17 @@
 ghost use Rattle.std.specs.Prelude.{◌≡◌, IfOk};
 
-use crate::given::{stream, told};
+use crate::given::{is_text, stream, told};
 use crate::signals::Signal;
-use eip_endpoint::{Lane, MemoryLane};
+use eip_endpoint::{Inlet, Lane, MemoryLane, MemorySource};
 use eip_exchange::Message;
 use eip_processor::{ProcessFault, Processor, Registry};
 use eip_samples::SamplePredicate;
 use eip_test_support::item;
 use eip_text::{NoMemory, Series, Text};
 use std::alloc::Global;
+use std::sync::Wait;
 use std::test::Fail;
+use std::thread::Threads;
 
 /// The parts of a line are worked on at one time.
 const PARTS: &str =
@@ -53,26 +55,31 @@ fn registry_of(
     }
 }
 
-#[test]
-fn a_processor_is_called_by_two_workers_at_one_time(rt: HostRuntime) -> Result<(), Fail> {
-    let alloc = rt.alloc();
+/// The inlet of the line `a,b`.
+fn line_inlets(alloc: Global) -> Result<Vec<Inlet<MemorySource>>, NoMemory> {
     let line = Series::of(vec![in alloc; item(alloc, "1", "a,b")?]?);
     let items = vec![in alloc; (Text::of_str(alloc, "stream:in")?, line)]?;
-    let mut inlets = stream(alloc, items)?;
+    stream(alloc, items)
+}
+
+/// What a drain of that line by two workers prints.
+fn drained<W: Threads + Wait + Sync>(
+    rt: &W,
+    alloc: Global,
+    begun: &Signal,
+) -> Result<Option<Text>, NoMemory> {
+    let mut inlets = line_inlets(alloc)?;
     let mut lanes: Vec<Lane<MemoryLane>> = Vec::new(alloc);
-    let begun = Signal::new();
-    let registry = registry_of(alloc, &begun)?;
+    let registry = registry_of(alloc, begun)?;
     let words = ["drain", "r.json", "--workers", "2"];
-    let text = told(
-        &rt,
-        alloc,
-        &words,
-        PARTS,
-        &mut lanes,
-        &mut inlets,
-        &registry,
-    );
+    Ok(told(rt, alloc, &words, PARTS, &mut lanes, &mut inlets, &registry))
+}
+
+#[test]
+fn a_processor_is_called_by_two_workers_at_one_time(rt: HostRuntime) -> Result<(), Fail> {
+    let begun = Signal::new();
+    let text = drained(&rt, rt.alloc(), &begun)?;
     assert!(rt; begun.came());
-    assert!(rt; text.is_some_and(|text| text.as_str() == TEXT));
+    assert!(rt; is_text(text, TEXT));
     Ok(())
 }

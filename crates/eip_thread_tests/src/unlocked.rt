@@ -1,7 +1,7 @@
 ghost use Rattle.std.specs.Prelude.{◌≡◌, IfOk, None};
 ghost use Rattle.eip_endpoint.specs.Pulls.{IsFair};
 
-use crate::given::told;
+use crate::given::{is_text, told};
 use crate::signals::Signal;
 use eip_endpoint::{CommitFault, Endpoint, Inlet, Lane, PullFault, Pulled, SendFault, Source};
 use eip_exchange::{End, Message};
@@ -12,7 +12,9 @@ use eip_test_support::item;
 use eip_text::{NoMemory, Text};
 use eip_uri::Uri;
 use std::alloc::Global;
+use std::sync::Wait;
 use std::test::Fail;
+use std::thread::Threads;
 
 /// The line `a` is sent on a lane, and others are given to a processor.
 const CHOSEN: &str =
@@ -156,29 +158,37 @@ fn registry_of<'a>(
     }
 }
 
-#[test]
-fn others_work_while_a_source_is_pulled_and_while_a_message_is_sent(
-    rt: HostRuntime,
-) -> Result<(), Fail> {
-    let alloc = rt.alloc();
-    let signals = Signals {
-        sends: Signal::new(),
-        processed: Signal::new(),
-    };
-    let mut lanes = lanes_of(alloc, &signals)?;
-    let mut inlets = inlets_of(alloc, &signals)?;
-    let registry = registry_of(alloc, &signals)?;
+/// What a drain of the three lines by two workers prints.
+fn drained<W: Threads + Wait + Sync>(
+    rt: &W,
+    alloc: Global,
+    signals: &Signals,
+) -> Result<Option<Text>, NoMemory> {
+    let mut lanes = lanes_of(alloc, signals)?;
+    let mut inlets = inlets_of(alloc, signals)?;
+    let registry = registry_of(alloc, signals)?;
     let words = ["drain", "r.json", "--workers", "2"];
-    let text = told(
-        &rt,
+    Ok(told(
+        rt,
         alloc,
         &words,
         CHOSEN,
         &mut lanes,
         &mut inlets,
         &registry,
-    );
+    ))
+}
+
+#[test]
+fn others_work_while_a_source_is_pulled_and_while_a_message_is_sent(
+    rt: HostRuntime,
+) -> Result<(), Fail> {
+    let signals = Signals {
+        sends: Signal::new(),
+        processed: Signal::new(),
+    };
+    let text = drained(&rt, rt.alloc(), &signals)?;
     assert!(rt; signals.sends.came() && signals.processed.came());
-    assert!(rt; text.is_some_and(|text| text.as_str() == TEXT));
+    assert!(rt; is_text(text, TEXT));
     Ok(())
 }

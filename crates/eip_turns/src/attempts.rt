@@ -15,9 +15,9 @@ ghost use Rattle.eip_turns.specs.Falls.{now_weight, handling_in, tried_weight, t
 use crate::handling::{faulted, kept_or, number_of_try};
 use eip_exchange::Message;
 use eip_meaning::Context;
-use eip_parts::messages::redelivered;
 use eip_progress::{Now, Task, Tried, Wait};
 use eip_route::{RouteSet, Step};
+use eip_steps::messages::redelivered;
 use eip_steps::{try_step, try_to};
 use eip_text::{Boxed, NoMemory};
 use eip_uri::Uri;

@@ -14,9 +14,9 @@ ghost use Rattle.eip_turns.specs.Falls.{now_weight, clauses_weight, handling_in}
 use eip_error_handler::{choose, delay, may_retry, merged};
 use eip_exchange::{Clause, End, Fault, Message, Policy};
 use eip_meaning::Context;
-use eip_parts::messages::caught_message;
 use eip_progress::{Now, Task, Wait};
 use eip_route::RouteSet;
+use eip_steps::messages::caught_message;
 use eip_text::NoMemory;
 use std::alloc::Global;
 

@@ -6,4 +6,5 @@ mod handling;
 mod turns;
 
 pub use attempts::{Held, after_try, begin, begin_whole, hold, step_at};
+pub use eip_steps::{fans, fault_of, faults, goes_on, is_tried_again, to_answered, values};
 pub use turns::run;

@@ -92,36 +92,44 @@ fn entries_of(alloc: Global, log: &Log, number: u32) -> Result<Vec<u64>, AllocEr
     Ok(found)
 }
 
+/// Whether the entries of this number are 0, 1 and so on, one for each turn.
+fn are_in_order(alloc: Global, log: &Log, number: u32) -> Result<bool, AllocError> {
+    let found = entries_of(alloc, log, number)?;
+    let is_each_at_its_place = found
+        .iter()
+        .enumerate()
+        .all(|(place, entry)| *entry == place as u64);
+    Ok(found.len() as u64 == TURNS && is_each_at_its_place)
+}
+
 #[test]
 fn two_threads_keep_their_order(rt: HostRuntime) -> Result<(), Fail> {
-    let alloc = rt.alloc();
-    let Some(log) = written(&rt, alloc, false) else {
+    let Some(log) = written(&rt, rt.alloc(), false) else {
         panic!(rt; "no memory")
     };
     assert!(rt; log.entries.len() as u64 == 2 * TURNS);
     for number in 1..3 {
-        let found = entries_of(alloc, &log, number)?;
-        assert!(rt; found.len() as u64 == TURNS);
-        assert!(rt;
-            found
-                .iter()
-                .enumerate()
-                .all(|(place, entry)| *entry == place as u64)
-        );
+        assert!(rt; are_in_order(rt.alloc(), &log, number)?, "of {number}");
     }
     Ok(())
 }
 
-#[test]
-fn one_thread_waits_for_the_other(rt: HostRuntime) -> Result<(), Fail> {
-    let alloc = rt.alloc();
-    let Some(log) = written(&rt, alloc, true) else {
-        panic!(rt; "no memory")
-    };
-    assert!(rt; log.entries.len() as u64 == 2 * TURNS);
+/// Whether the first thread's entries stand in their order before the second one's in theirs.
+fn are_one_behind_another(log: &Log) -> bool {
     for (place, (number, entry)) in log.entries.iter().enumerate() {
         let place = place as u64;
-        assert!(rt; *number as u64 == 1 + place / TURNS && *entry == place % TURNS);
+        if *number as u64 != 1 + place / TURNS || *entry != place % TURNS {
+            return false;
+        }
     }
+    true
+}
+
+#[test]
+fn one_thread_waits_for_the_other(rt: HostRuntime) -> Result<(), Fail> {
+    let Some(log) = written(&rt, rt.alloc(), true) else {
+        panic!(rt; "no memory")
+    };
+    assert!(rt; log.entries.len() as u64 == 2 * TURNS && are_one_behind_another(&log));
     Ok(())
 }

@@ -10,7 +10,12 @@ use std::sync::Wait;
 pub const TURNS: u64 = 100;
 
 /// One turn, in which the seat writes this number. False is for want of memory.
-fn turn<R: Wait>(rt: &R, lock: &Turnstile<Log>, seat: Seat<Log>, entry: u64) -> (Seat<Log>, bool)
+pub fn turn<R: Wait>(
+    rt: &R,
+    lock: &Turnstile<Log>,
+    seat: Seat<Log>,
+    entry: u64,
+) -> (Seat<Log>, bool)
     requires { lock_of seat ≡ lock_id lock.now }
     ensures stays { Stays seat result.0 }
     ensures added { IsTrue result.1 → (knows result.0).mine ≡ (knows seat).mine ++ entry ∷ [] }

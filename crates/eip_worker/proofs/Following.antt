@@ -11,7 +11,7 @@ use Rattle.eip_endpoint.specs.Outside.{Doors, calls, calls_for, commits_for, act
 use Rattle.eip_endpoint.proofs.InletLaws.{InletsGrew-names}
 use Rattle.eip_endpoint.proofs.LaneLaws.{LanesGrew-none, LanesGrew-trans, LanesGrew-names}
 use Rattle.eip_owners.specs.Acts.{pulls_in}
-use Rattle.eip_books.specs.declared.ticket.Ticket.{Ticket}
+use Rattle.eip_core.specs.Ticket.{Ticket}
 use Rattle.eip_processor.specs.Registered.{RegistryView}
 use Rattle.eip_core.specs.Doors.{doors_among, doors_of}
 use Rattle.eip_core.specs.Outside.{Asks}

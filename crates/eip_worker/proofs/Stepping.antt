@@ -11,7 +11,7 @@ use Rattle.eip_history.specs.Place.{place}
 use Rattle.eip_plan.specs.Plan.{plan_of}
 use Rattle.eip_outlets.specs.Outlets.{outlets}
 use Rattle.eip_owners.proofs.Pulled.{pulls-none}
-use Rattle.eip_books.specs.declared.ticket.Ticket.{Ticket}
+use Rattle.eip_core.specs.Ticket.{Ticket}
 use Rattle.eip_processor.specs.Registered.{RegistryView}
 use Rattle.eip_core.specs.Doors.{HasInlet, doors_among}
 use Rattle.eip_core.specs.Outside.{IsAskable}

@@ -7,7 +7,7 @@ use Rattle.eip_route.specs.declared.route.RouteSet.{RouteSet}
 use Rattle.eip_endpoint.specs.Inlets.{Act, Gave, Failed, InletView, InletsGrew, inlet_names}
 use Rattle.eip_endpoint.specs.Lanes.{LaneView}
 use Rattle.eip_endpoint.specs.declared.source.Pulled.TheVariants.{Item, Refused as Turned_down, End}
-use Rattle.eip_books.specs.declared.ticket.Ticket.{Ticket}
+use Rattle.eip_core.specs.Ticket.{Ticket}
 use Rattle.eip_processor.specs.Registered.{RegistryView}
 use Rattle.eip_core.specs.Outside.{Asks, acts_from, refusal_of}
 use Rattle.eip_shared.specs.declared.outcome.Outcome.{Outcome}

@@ -1,3 +1,11 @@
+pub use Rattle.eip_core.specs.Doors
+pub use Rattle.eip_core.specs.Drain
+pub use Rattle.eip_core.specs.Outside
+pub use Rattle.eip_core.specs.View
+pub use Rattle.eip_shared.specs.Deeds
+pub use Rattle.eip_shared.specs.Shared
+pub use Rattle.eip_shared.specs.declared.beginning.Beginning
+pub use Rattle.eip_shared.specs.declared.deed.Deed
 pub mod Calls
 pub mod Serves
 pub mod Seats

@@ -11,10 +11,9 @@ ghost use Rattle.eip_tables.specs.Origin.{origin_seen};
 ghost use Rattle.eip_worker.specs.Calls.{Calls, Pulls, origin_told};
 
 use crate::gate::Gate;
-use eip_core::{ask, pull_source, refused};
+use eip_core::{OriginView, Ticket, ask, pull_source, refused};
 use eip_endpoint::{Endpoint, Inlet, Lane, PullFault, Pulled, Source};
 use eip_frames::Request;
-use eip_hub::{OriginView, Ticket};
 use eip_processor::Registered;
 use eip_route::RouteSet;
 use eip_shared::Outcome;

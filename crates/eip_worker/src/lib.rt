@@ -7,6 +7,8 @@ mod pace;
 mod serving;
 mod worker;
 
+pub use eip_core::Hub;
+pub use eip_shared::SharedRun;
 pub use gate::{Gate, NoGate};
 pub use serving::serve;
 pub use worker::{Round, Worker};

@@ -5,9 +5,8 @@ ghost use Rattle.eip_core.specs.Served as served;
 ghost use Rattle.eip_outlets.specs.Outlets.{outlets};
 ghost use Rattle.eip_owners.specs.Owners.{OwnersPull};
 
-use eip_core::names_of;
+use eip_core::{Hub, names_of};
 use eip_endpoint::{Inlet, Inlets, Lane, Lanes, MemoryLane, MemorySource};
-use eip_hub::Hub;
 use eip_processor::{Registered, Registry};
 use eip_route::RouteSet;
 use eip_route_json::read_routes;

@@ -10,12 +10,12 @@ use Rattle.eip_history.specs.Rules.{Served, served, served_in, served_by}
 use Rattle.eip_owners.specs.Acts.{seen_answer, seen_answers}
 use Rattle.eip_owners.specs.Owners.{answered}
 use Rattle.eip_processor.specs.Registered.{RegistryView}
-use Rattle.eip_core.specs.Outside.{AreTheirs}
+use Rattle.eip_crew.specs.Outside.{AreTheirs}
 use Rattle.eip_turnstile.specs.Rule.{entries_by}
 use Rattle.eip_turnstile.proofs.Lists.{by-append}
-use Rattle.eip_shared.specs.Deeds.{deed, deeds, given_by, given_to}
-use Rattle.eip_shared.specs.declared.deed.Deed.{Deed}
-use Rattle.eip_worker.specs.Serves.{AreTheirDeeds, IsTheirDeed}
+use Rattle.eip_crew.specs.Deeds.{deed, deeds, given_by, given_to}
+use Rattle.eip_crew.specs.Deed.{Deed}
+use Rattle.eip_crew.specs.Serves.{AreTheirDeeds, IsTheirDeed}
 
 -- the answers that the entries behind a past give, the oldest first
 abbrev pub given_behind : Plan → Past → Past → List Served

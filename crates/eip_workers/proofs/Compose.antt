@@ -16,7 +16,7 @@ use Rattle.eip_history.specs.Plan.{Plan}
 use Rattle.eip_history.specs.Rules.{Served, served}
 use Rattle.eip_history.specs.Stop.{stop_of}
 use Rattle.eip_ledger.specs.declared.place.Stop.{Stop}
-use Rattle.eip_books.specs.View.{BooksView, plan}
+use Rattle.eip_crew.specs.View.{BooksView, plan}
 use Rattle.eip_outlets.specs.Outlets.{outlets}
 use Rattle.eip_owners.specs.Acts.{inlet_acts, pulls, seen_answer, seen_answers}
 use Rattle.eip_owners.specs.Owners.{IsOwnedBehind, OwnersPull, entries_of}
@@ -24,9 +24,9 @@ use Rattle.eip_owners.proofs.Owned.{owned-append, puller}
 use Rattle.eip_owners.proofs.Pulled.{acts-follow, pulls-append, pulls-none, pulls-tell}
 use Rattle.eip_plan.specs.Plan.{plan_of}
 use Rattle.eip_processor.specs.Registered.{RegistryView}
-use Rattle.eip_core.specs.Doors.{CanRun, doors_among}
-use Rattle.eip_core.specs.Drain.{CanDrain, IsStop}
-use Rattle.eip_core.proofs.Compose.{same-refl, same-trans, doors-same}
+use Rattle.eip_crew.specs.Doors.{CanRun, doors_among}
+use Rattle.eip_crew.specs.Drain.{CanDrain, IsStop}
+use Rattle.eip_crew.proofs.DrainCompose.{same-refl, same-trans, doors-same}
 use Rattle.eip_workers.specs.Works.{Works}
 use Rattle.eip_workers.proofs.Answering.{theirs-append}
 

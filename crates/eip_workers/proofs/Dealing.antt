@@ -11,7 +11,7 @@ use Rattle.eip_endpoint.proofs.LaneLaws.{LanesGrew-length}
 use Rattle.eip_history.specs.Own.{Past}
 use Rattle.eip_history.specs.Rules.{KeepsRules, served}
 use Rattle.eip_plan.specs.Plan.{plan_of}
-use Rattle.eip_books.specs.View.{BooksView, plan, IsLegalRun, IsSameRun}
+use Rattle.eip_crew.specs.View.{BooksView, plan, IsLegalRun, IsSameRun}
 use Rattle.eip_outlets.specs.Outlets.{outlets}
 use Rattle.eip_owners.specs.Acts.{inlet_acts, pulls, seen_answers}
 use Rattle.eip_owners.specs.Owners.{IsOwnedBehind, OwnersPull, acts_by_worker, answered, answers_of, entries_of}
@@ -21,15 +21,15 @@ use Rattle.eip_dealt.proofs.Inlets.{dealt-inlets}
 use Rattle.eip_dealt.proofs.Lanes.{dealt-lanes}
 use Rattle.eip_dealt.proofs.Owning.{own-inlet, own-lane}
 use Rattle.eip_processor.specs.Registered.{RegistryView}
-use Rattle.eip_core.specs.Doors.{doors_among}
-use Rattle.eip_core.specs.Drain.{CanDrain}
-use Rattle.eip_core.specs.Outside.{AreTheirs}
+use Rattle.eip_crew.specs.Doors.{doors_among}
+use Rattle.eip_crew.specs.Drain.{CanDrain}
+use Rattle.eip_crew.specs.Outside.{AreTheirs}
 use Rattle.eip_turnstile.specs.Rule.{entries_by}
 use Rattle.eip_turnstile.proofs.Lists.{by-below}
-use Rattle.eip_shared.specs.Deeds.{own_answers, own_entries}
-use Rattle.eip_shared.specs.Shared.{Part, SharedFacts, SharedView, before, beginning, beginning_of, log, since}
-use Rattle.eip_shared.specs.declared.beginning.Beginning.{Beginning}
-use Rattle.eip_worker.specs.Serves.{AreTheirDeeds, IsEquipped}
+use Rattle.eip_crew.specs.Deeds.{own_answers, own_entries}
+use Rattle.eip_crew.specs.Shared.{Part, SharedFacts, SharedView, before, beginning, beginning_of, log, since}
+use Rattle.eip_crew.specs.Beginning.{Beginning}
+use Rattle.eip_crew.specs.Serves.{AreTheirDeeds, IsEquipped}
 use Rattle.eip_crew.specs.Team.{MayWork, Together, items_at}
 use Rattle.eip_workers.specs.Works.{Works}
 use Rattle.eip_workers.proofs.Answering.{all-theirs, given_behind, seen-behind, served-behind}

@@ -5,13 +5,13 @@ use Rattle.eip_endpoint.specs.Inlets.{InletView, InletsGrew}
 use Rattle.eip_endpoint.specs.Outside.{calls}
 use Rattle.eip_history.specs.Own.{Past}
 use Rattle.eip_history.specs.Rules.{Served, served}
-use Rattle.eip_books.specs.View.{BooksView, plan, IsSameRun}
+use Rattle.eip_crew.specs.View.{BooksView, plan, IsSameRun}
 use Rattle.eip_outlets.specs.Outlets.{outlets}
 use Rattle.eip_owners.specs.Acts.{inlet_acts, seen_answers}
 use Rattle.eip_owners.specs.Owners.{entries_of, IsOwnedBehind}
 use Rattle.eip_processor.specs.Registered.{RegistryView}
-use Rattle.eip_core.specs.Doors.{doors_among}
-use Rattle.eip_core.specs.Outside.{AreTheirs}
+use Rattle.eip_crew.specs.Doors.{doors_among}
+use Rattle.eip_crew.specs.Outside.{AreTheirs}
 
 -- entries were made behind the journal, none of them by worker 0 and each on a lane or an inlet by its owner, and by them requests were
 -- answered; lanes and inlets did what these entries and answers say, in their order, and what was processed or tested was answered by the one

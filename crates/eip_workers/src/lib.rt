@@ -5,4 +5,5 @@ mod rounds;
 mod run;
 mod sources;
 
+pub use eip_crew::{Gate, NoGate};
 pub use run::run_workers;

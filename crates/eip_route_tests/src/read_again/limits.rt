@@ -58,7 +58,7 @@ const TABLES: [(&str, bool); 2] = [(LIMITS, false), (WITHIN, true)];
 
 #[test]
 fn bytes_keys_numbers_routes_and_blocks_have_their_limits(rt: HostRuntime) -> Result<(), Fail> {
-    for (rows, kept) in TABLES {
+    for &(rows, kept) in &TABLES {
         let row = wrong(rt.alloc(), rows, kept)?;
         assert!(rt; row.is_empty(), "of {row}");
     }
@@ -130,7 +130,7 @@ const NOT_TEXT: [&[u8]; 10] = [
 
 #[test]
 fn other_bytes_are_no_json(rt: HostRuntime) -> Result<(), Fail> {
-    for bytes in NOT_TEXT {
+    for bytes in &NOT_TEXT {
         assert!(rt; is_told(rt.alloc(), bytes, ALL, "$ NotJson")?);
     }
     for text in NOT_JSON.lines() {

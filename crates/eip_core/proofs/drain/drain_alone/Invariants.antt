@@ -1,7 +1,7 @@
 use Rattle.std.proofs.Common.{◌≡◌, ◌-◌}
 use Rattle.eip_history.specs.Own.{turns}
 use Rattle.eip_history.specs.Place.{hands}
-use Rattle.eip_books.specs.View.{plan}
+use Rattle.eip_hub.specs.View.{plan}
 use Rattle.eip_core.specs.Drain.{Drains}
 use Rattle.eip_core.proofs.drain.drain_alone.Given as goal
 

@@ -2,7 +2,7 @@ use Rattle.std.proofs.Common.{◌≡◌}
 use Rattle.eip_history.specs.Own.{turns}
 use Rattle.eip_history.specs.Place.{hands}
 use Rattle.eip_history.specs.Work.{work}
-use Rattle.eip_books.specs.View.{plan}
+use Rattle.eip_hub.specs.View.{plan}
 use Rattle.eip_core.specs.Drain.{Drains}
 use Rattle.eip_core.proofs.drain.take_turn.Given as goal
 

@@ -2,7 +2,7 @@ use Rattle.std.proofs.Common.{◌∙◌, ℕ, ◌+◌, ◌<◌, ◌++◌, map, s
 use Rattle.std.specs.Prelude.{reverse}
 use denote.Param.Send.{sendable}
 use Rattle.eip_turnstile.specs.Seats.{knows}
-use Rattle.eip_shared.proofs.Sending.{run-send}
+use Rattle.eip_worker.proofs.Sending.{run-send}
 use Rattle.eip_worker.specs.declared.worker.Worker.{Worker}
 use Rattle.eip_crew.specs.Crew.{IsNew}
 use Rattle.eip_crew.proofs.Lists.{all-more, moved}

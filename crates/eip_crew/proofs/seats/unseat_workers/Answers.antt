@@ -2,7 +2,7 @@ use Rattle.std.proofs.Common.{◌∙◌, [], ◌∷◌, map, refl, sym, ap, subs
 use Rattle.std.proofs.lemmas.List.{nil_from_length}
 use denote.Param.Send.{sendable}
 use Rattle.eip_turnstile.specs.Seats.{lock_id}
-use Rattle.eip_shared.proofs.Sending.{run-send}
+use Rattle.eip_worker.proofs.Sending.{run-send}
 use Rattle.eip_crew.specs.Crew.{Mans, own_of, Gathers}
 use Rattle.eip_crew.proofs.Lists.{cut-more, put, true-of}
 use Rattle.eip_crew.proofs.Seated.{gathers-more}

@@ -4,7 +4,7 @@ use denote.Param.Send.{sendable}
 use Rattle.eip_endpoint.specs.Inlets.{inlet_views}
 use Rattle.eip_endpoint.specs.Lanes.{lane_views}
 use Rattle.eip_turnstile.specs.Seats.{lock_id}
-use Rattle.eip_shared.specs.declared.beginning.Beginning.{Beginning}
+use Rattle.eip_worker.specs.Beginning.{Beginning}
 use Rattle.eip_worker.specs.Seats.{MaySit}
 use Rattle.eip_crew.proofs.Sending.{round-sync, worker-send}
 use Rattle.eip_crew.proofs.team.serve_each.Goals as goal

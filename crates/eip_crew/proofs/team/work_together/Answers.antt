@@ -5,8 +5,8 @@ use Rattle.eip_endpoint.specs.Lanes.{lane_view}
 use denote.Param.Send.{sendable}
 use Rattle.eip_turnstile.specs.Rule.{AllBelow, entries_by}
 use Rattle.eip_turnstile.specs.Seats.{lock_id, knows}
-use Rattle.eip_shared.specs.Shared.{beginning, log}
-use Rattle.eip_shared.proofs.Sending.{run-send}
+use Rattle.eip_worker.specs.Shared.{beginning, log}
+use Rattle.eip_worker.proofs.Sending.{run-send}
 use Rattle.eip_crew.specs.Crew.{IsNew, own_of}
 use Rattle.eip_crew.proofs.Working.{all-did, all-man, all-sit, taken-told}
 use Rattle.eip_crew.proofs.team.work_together.Goals as goal

@@ -5,7 +5,7 @@ use Rattle.eip_history.specs.Counts.{total_count}
 use Rattle.eip_history.specs.BookText.{exchanges_text, refusals_text, summary_text_of, groups_text}
 use Rattle.eip_history.specs.Stop.{open_groups}
 use Rattle.eip_history.proofs.TextSteps.{book-is}
-use Rattle.eip_books.specs.View.{plan}
+use Rattle.eip_hub.specs.View.{plan}
 use Rattle.eip_endbook.specs.Names.{route_names}
 use Rattle.eip_endbook.proofs.Joining.{four-joined}
 use Rattle.eip_endbook.proofs.book.push_book.Goals as goal

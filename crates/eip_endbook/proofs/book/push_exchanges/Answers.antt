@@ -3,7 +3,7 @@ use Rattle.std.proofs.lemmas.List.{append-nil}
 use Rattle.eip_history.specs.Counts.{total_count}
 use Rattle.eip_history.specs.BookText.{exchange_line, exchanges_text}
 use Rattle.eip_history.proofs.TextSteps.{exchanges-none, exchanges-more}
-use Rattle.eip_books.specs.View.{plan}
+use Rattle.eip_hub.specs.View.{plan}
 use Rattle.eip_endbook.specs.Names.{route_names}
 use Rattle.eip_endbook.proofs.Exchanges.{placed, from-somewhere}
 use Rattle.eip_endbook.proofs.Joining.{grown}

@@ -1,6 +1,6 @@
 use Rattle.std.proofs.Common.{◌≡◌, ◌++◌, string_bytes}
 use Rattle.eip_history.specs.BookText.{exchanges_text}
-use Rattle.eip_books.specs.View.{plan}
+use Rattle.eip_hub.specs.View.{plan}
 use Rattle.eip_endbook.specs.Names.{route_names}
 use Rattle.eip_endbook.proofs.book.push_exchanges.Given as goal
 

@@ -2,7 +2,7 @@ use Rattle.std.proofs.Common.{◌+◌, ◌++◌, string_bytes, sym, ap, ◌∙�
 use Rattle.std.proofs.lemmas.List.{append-nil}
 use Rattle.eip_history.specs.BookText.{group_line_of, groups_text}
 use Rattle.eip_history.proofs.TextSteps.{groups-none}
-use Rattle.eip_books.specs.View.{plan}
+use Rattle.eip_hub.specs.View.{plan}
 use Rattle.eip_endbook.proofs.Groups.{shown, shown-more, shown-within, shown-last}
 use Rattle.eip_endbook.proofs.Joining.{grown}
 use Rattle.eip_endbook.proofs.book.push_groups.Goals as goal

@@ -1,7 +1,7 @@
 use Rattle.std.proofs.Common.{◌≡◌, ◌++◌, ◌-◌, length, string_bytes}
 use Rattle.eip_history.specs.BookText.{groups_text}
 use Rattle.eip_history.specs.Stop.{open_groups}
-use Rattle.eip_books.specs.View.{plan}
+use Rattle.eip_hub.specs.View.{plan}
 use Rattle.eip_endbook.proofs.book.push_groups.Given as goal
 
 abbrev pub invariant-loop-group : goal.invariant-loop-group

@@ -1,7 +1,7 @@
 use Rattle.std.proofs.Common.{string_bytes}
 use Rattle.eip_history.specs.BookText.{accepted_line, total_line, stop_line}
 use Rattle.eip_history.proofs.TextSteps.{summary-is}
-use Rattle.eip_books.specs.View.{plan}
+use Rattle.eip_hub.specs.View.{plan}
 use Rattle.eip_endbook.specs.Names.{route_names}
 use Rattle.eip_endbook.proofs.Joining.{three-joined}
 use Rattle.eip_endbook.proofs.book.push_summary.Goals as goal

@@ -2,7 +2,7 @@ use Rattle.std.proofs.Common.{◌<◌, sym, arith}
 use Rattle.eip_history.specs.Texts.{is_completed, is_handled}
 use Rattle.eip_history.specs.Counts.{is_failed, is_waiting, total_count}
 use Rattle.eip_history.proofs.Totals.{count-first-none}
-use Rattle.eip_books.specs.View.{plan}
+use Rattle.eip_hub.specs.View.{plan}
 use Rattle.eip_endbook.proofs.Exchanges.{count-within, counts-next}
 use Rattle.eip_endbook.proofs.counts.count_ends.Goals as goal
 

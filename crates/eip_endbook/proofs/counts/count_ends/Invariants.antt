@@ -1,4 +1,4 @@
-use Rattle.eip_books.specs.View.{plan}
+use Rattle.eip_hub.specs.View.{plan}
 use Rattle.eip_endbook.specs.Totals.{CountsFirst}
 use Rattle.eip_endbook.proofs.counts.count_ends.Given as goal
 

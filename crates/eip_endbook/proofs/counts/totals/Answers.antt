@@ -3,7 +3,7 @@ use Rattle.std.proofs.lemmas.List.{reverse-reverse}
 use Rattle.eip_history.specs.Texts.{is_completed, is_handled}
 use Rattle.eip_history.specs.Counts.{is_failed, is_waiting}
 use Rattle.eip_history.proofs.Totals.{count-first-all, totals-add-up}
-use Rattle.eip_books.specs.View.{plan}
+use Rattle.eip_hub.specs.View.{plan}
 use Rattle.eip_endbook.proofs.counts.totals.Goals as goal
 
 pub returns-clause-accepted : goal.returns-clause-accepted

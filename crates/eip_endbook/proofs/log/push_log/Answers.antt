@@ -3,7 +3,7 @@ use Rattle.std.specs.List.{flat_map}
 use Rattle.eip_history.specs.BookText.{note_line}
 use Rattle.eip_history.proofs.Walk.{flat_map-all}
 use Rattle.eip_history.proofs.TextSteps.{log-is}
-use Rattle.eip_books.specs.View.{plan}
+use Rattle.eip_hub.specs.View.{plan}
 use Rattle.eip_endbook.proofs.log.push_log.Goals as goal
 
 pub returns : goal.returns

@@ -1,5 +1,5 @@
 use Rattle.std.proofs.Common.{[], refl, sym, subst, ◌∙◌}
-use Rattle.eip_books.specs.View.{AddsNone}
+use Rattle.eip_hub.specs.View.{AddsNone}
 use Rattle.eip_ledger.specs.declared.entry.Kind.TheVariants.{Force, Tick}
 use Rattle.eip_shared.proofs.Doing.{does-none}
 use Rattle.eip_shared.proofs.Looking.{looks-behind, looks-did, none-same}

@@ -1,6 +1,6 @@
 use Rattle.std.proofs.Common.{[], ◌∷◌, is_some, refl, sym, ap, subst, ◌∙◌}
 use Rattle.eip_ledger.specs.declared.entry.Kind.TheVariants.{Pull}
-use Rattle.eip_books.specs.View.{AddsNone}
+use Rattle.eip_hub.specs.View.{AddsNone}
 use Rattle.eip_shared.specs.Deeds.{silent}
 use Rattle.eip_shared.specs.declared.looks.Look.TheVariants as look
 use Rattle.eip_shared.proofs.Doing.{does-none, does-one}

@@ -1,6 +1,6 @@
 use Rattle.std.proofs.Common.{[], ◌∷◌, eq-eqb, refl, subst}
 use Rattle.eip_ledger.specs.declared.entry.Kind.TheVariants.{Starve, Take}
-use Rattle.eip_books.specs.View.{Adds}
+use Rattle.eip_hub.specs.View.{Adds}
 use Rattle.eip_shared.specs.Deeds.{silent}
 use Rattle.eip_shared.proofs.Doing.{does-both, does-one}
 use Rattle.eip_shared.proofs.Looking.{owned-now}

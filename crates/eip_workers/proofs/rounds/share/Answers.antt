@@ -3,13 +3,13 @@ use denote.Param.Send.{sendable}
 use Rattle.eip_route.specs.declared.route.RouteSet.{RouteSet}
 use Rattle.eip_endpoint.specs.Inlets.{inlet_view, inlet_views}
 use Rattle.eip_endpoint.specs.Lanes.{lane_view, lane_views}
-use Rattle.eip_books.specs.View.{BooksView}
+use Rattle.eip_crew.specs.View.{BooksView}
 use Rattle.eip_shares.specs.Shares.{share}
 use Rattle.eip_turnstile.specs.Rule.{first_view}
-use Rattle.eip_shared.specs.Shared.{SharedView, beginning_of}
-use Rattle.eip_shared.specs.declared.beginning.Beginning.{Beginning}
-use Rattle.eip_shared.specs.declared.deed.Deed.{Deed}
-use Rattle.eip_shared.proofs.Sending.{run-send}
+use Rattle.eip_crew.specs.Shared.{SharedView, beginning_of}
+use Rattle.eip_crew.specs.Beginning.{Beginning}
+use Rattle.eip_crew.specs.Deed.{Deed}
+use Rattle.eip_crew.proofs.SharedSending.{run-send}
 use Rattle.eip_crew.specs.Team.{items_at}
 use Rattle.eip_workers.specs.Works.{Works}
 use Rattle.eip_workers.proofs.Compose.{works-refl}

@@ -1,7 +1,7 @@
 use Rattle.std.proofs.Common.{Some, None, refl, sym, ◌≡◌, ◌∙◌}
 use Rattle.eip_ledger.specs.declared.entry.Kind.TheVariants.{Force}
 use Rattle.eip_plan.proofs.Laws.{plan-laws}
-use Rattle.eip_books.specs.View.{plan}
+use Rattle.eip_hub.specs.View.{plan}
 use Rattle.eip_hub.proofs.Forcing.{may-force, forced-waits, none-told, some-told}
 use Rattle.eip_audit.proofs.Entering.{enters-none}
 use Rattle.eip_audit.proofs.auditor.Auditor.force.Goals as goal

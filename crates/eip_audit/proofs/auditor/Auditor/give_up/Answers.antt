@@ -2,7 +2,7 @@ use Rattle.std.proofs.Common.{◌≡◌, ◌∙◌, ℕ, Some, None, refl, sym, 
 use Rattle.eip_ledger.specs.declared.entry.Kind.TheVariants.{Starve}
 use Rattle.eip_ledger.specs.declared.place.Place.TheVariants.{InHand}
 use Rattle.eip_history.specs.Place.{place}
-use Rattle.eip_books.specs.View.{plan, Adds}
+use Rattle.eip_hub.specs.View.{plan, Adds}
 use Rattle.eip_audit.proofs.Entering.{enters-own, ticket-gone}
 use Rattle.eip_audit.proofs.OwnEntries.{ticket-told, starved-by, others-starve}
 use Rattle.eip_audit.proofs.auditor.Auditor.give_up.Goals as goal

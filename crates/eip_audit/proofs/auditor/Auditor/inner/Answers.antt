@@ -5,7 +5,7 @@ use Rattle.eip_ledger.specs.declared.entry.Kind.TheVariants.{Answer}
 use Rattle.eip_history.specs.Births.{asked}
 use Rattle.eip_history.specs.Rules.{outside_asked}
 use Rattle.eip_verdict.proofs.Deciding.{reply-one}
-use Rattle.eip_books.specs.View.{plan, Adds}
+use Rattle.eip_hub.specs.View.{plan, Adds}
 use Rattle.eip_audit.specs.Judging.{is_answered}
 use Rattle.eip_audit.proofs.Entering.{enters-free, may-of}
 use Rattle.eip_audit.proofs.OwnEntries.{free-told, free-none, acts-inner, no-inner, answered-one, same-made, answer-told, others-answer}

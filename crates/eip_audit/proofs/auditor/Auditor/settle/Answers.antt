@@ -4,7 +4,7 @@ use Rattle.eip_ledger.specs.declared.entry.Kind.TheVariants.{Answer}
 use Rattle.eip_ledger.specs.declared.place.Place.TheVariants.{InHand}
 use Rattle.eip_history.specs.Place.{place}
 use Rattle.eip_tables.specs.Outside.{IsAsked}
-use Rattle.eip_books.specs.View.{plan, Adds}
+use Rattle.eip_hub.specs.View.{plan, Adds}
 use Rattle.eip_audit.proofs.Entering.{enters-own, ticket-gone}
 use Rattle.eip_audit.proofs.OwnEntries.{ticket-told, answered-by, others-answer}
 use Rattle.eip_audit.proofs.auditor.Auditor.settle.Goals as goal

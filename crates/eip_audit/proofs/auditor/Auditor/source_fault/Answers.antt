@@ -1,6 +1,6 @@
 use Rattle.std.proofs.Common.{refl}
 use Rattle.eip_history.specs.Own as own_of
-use Rattle.eip_books.specs.View.{plan}
+use Rattle.eip_hub.specs.View.{plan}
 use Rattle.eip_ledger.specs.declared.entry.Kind.TheVariants.{SourceFault}
 use Rattle.eip_audit.proofs.Entering.{enters-source}
 use Rattle.eip_audit.proofs.SourceStates.{told-at, failed}

@@ -3,7 +3,7 @@ use Rattle.eip_route.specs.declared.route.RouteSet.{RouteSet}
 use Rattle.eip_ledger.specs.declared.entry.Kind.TheVariants.{Start}
 use Rattle.eip_history.specs.Place.{is_startable}
 use Rattle.eip_history.specs.Rules.{May, IsBelow}
-use Rattle.eip_books.specs.View.{plan, Adds}
+use Rattle.eip_hub.specs.View.{plan, Adds}
 use Rattle.eip_audit.proofs.Behind.{none-on, none-back, adds-on}
 use Rattle.eip_audit.proofs.Entering.{enters-free}
 use Rattle.eip_audit.proofs.Hands.{no-ticket}

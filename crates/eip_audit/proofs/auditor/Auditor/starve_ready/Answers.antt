@@ -2,7 +2,7 @@ use Rattle.std.proofs.Common.{◌≡◌, ◌∙◌, true, false, Some, refl, sym
 use Rattle.eip_ledger.specs.declared.entry.Kind.TheVariants.{Starve}
 use Rattle.eip_ledger.specs.declared.place.Place.TheVariants.{Ready}
 use Rattle.eip_history.specs.Place.{place}
-use Rattle.eip_books.specs.View.{plan}
+use Rattle.eip_hub.specs.View.{plan}
 use Rattle.eip_audit.proofs.Behind.{none-on, adds-on}
 use Rattle.eip_audit.proofs.Entering.{enters-free}
 use Rattle.eip_audit.proofs.OwnEntries.{free-told, free-none, starved-ready, others-starve}

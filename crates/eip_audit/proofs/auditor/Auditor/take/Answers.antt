@@ -4,7 +4,7 @@ use Rattle.eip_ledger.specs.declared.place.Place.TheVariants.{InHand}
 use Rattle.eip_history.specs.Births.{asked}
 use Rattle.eip_history.specs.Place.{place}
 use Rattle.eip_history.specs.Rules.{IsBelow, outside_asked}
-use Rattle.eip_books.specs.View.{plan}
+use Rattle.eip_hub.specs.View.{plan}
 use Rattle.eip_audit.proofs.Behind.{none-on, none-more, adds-on}
 use Rattle.eip_audit.proofs.Entering.{enters-own, ticket-back}
 use Rattle.eip_audit.proofs.OwnEntries.{no-take, among-with, others-take}

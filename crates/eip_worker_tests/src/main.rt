@@ -3,3 +3,6 @@
 
 #[cfg(test)]
 mod workers;
+
+// What is run are the tests; the program itself does nothing.
+fn main(_rt: HostRuntime) {}

@@ -13,3 +13,6 @@ mod parts;
 mod signals;
 #[cfg(test)]
 mod unlocked;
+
+// What is run are the tests; the program itself does nothing.
+fn main(_rt: HostRuntime) {}

@@ -31,3 +31,6 @@ mod tries;
 mod wanting;
 #[cfg(test)]
 mod workers;
+
+// What is run are the tests; the program itself does nothing.
+fn main(_rt: HostRuntime) {}

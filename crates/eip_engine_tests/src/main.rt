@@ -11,3 +11,6 @@ mod hubs;
 mod sizes;
 #[cfg(test)]
 mod support;
+
+// What is run are the tests; the program itself does nothing.
+fn main(_rt: HostRuntime) {}

@@ -9,3 +9,6 @@ mod given;
 mod lines;
 #[cfg(test)]
 mod workers;
+
+// What is run are the tests; the program itself does nothing.
+fn main(_rt: HostRuntime) {}

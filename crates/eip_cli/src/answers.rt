@@ -6,7 +6,7 @@ ghost use Rattle.eip_endpoint.specs.Lanes.{lane_views};
 ghost use Rattle.eip_host.specs.Outputs.{Said};
 ghost use Rattle.eip_host.specs.Words.{question_in, text_of};
 ghost use Rattle.eip_run.specs.Given.{outside};
-ghost use Rattle.eip_program.specs.Answers.{WasRun, Commanded, TellsFault};
+ghost use Rattle.eip_cli.specs.Answers.{WasRun, Commanded, TellsFault};
 
 use eip_endpoint::{Endpoint, Files, Inlet, Lane, Sink, Source};
 use eip_host::{question_of, say};
