@@ -1,6 +1,8 @@
-// Tests of texts, messages and URIs, through public calls.
+// Tests of texts, messages, URIs and the words of a command, through public calls.
 #![tactic(auto)]
 
+#[cfg(test)]
+mod commands;
 #[cfg(test)]
 mod messages;
 #[cfg(test)]

@@ -1,5 +1,5 @@
 use crate::given::{DRAIN, comes_to, numbered};
-use eip_test_support::joined;
+use eip_test_support::{holds, holds_for, joined};
 use eip_text::NoMemory;
 use std::alloc::Global;
 use std::sync::Wait;
@@ -33,7 +33,7 @@ const DEEP: &str =
     r#"[{"from":{"uri":"stream:in","steps":[{"to":"direct:l"}]}},{"from":{"uri":"direct:l","steps":[{"to":"direct:l"}]}}]"#;
 
 /// Routes, and what a drain of the line `a` prints.
-const DRAINED: [(&str, &str); 7] = [
+static DRAINED: [(&str, &str); 7] = [
     (
         THRICE,
         "log 2 q: a\nlog 3 q: a\nexchange 1 source route1 failed QueueFull \"seda:q 2\"\nexchange 2 queue q completed\nexchange 3 queue q completed\naccepted 1 refused 0\ntotal 3 completed 2 handled 0 failed 1 waiting 0\ndrained\n",
@@ -67,15 +67,14 @@ const DRAINED: [(&str, &str); 7] = [
 #[test]
 fn routes_call_one_another_and_offer_to_queues(rt: HostRuntime) -> Result<(), Fail> {
     for &(routes, text) in &DRAINED {
-        let told = comes_to(&rt, &DRAIN, routes, &["a"], 0, text)?;
-        assert!(rt; told, "of {routes}");
+        holds_for(comes_to(&rt, &DRAIN, routes, &["a"], 0, text), routes)?;
     }
     Ok(())
 }
 
 /// Limits on the turns of the deep calls, with the status and what is printed. They take 34: the line is accepted, the
 /// route is entered 32 times, and the exchange ends. Behind the last turn no source is pulled, so its end isn't known.
-const LIMITED: [(&str, u8, &str); 3] = [
+static LIMITED: [(&str, u8, &str); 3] = [
     (
         "33",
         4,
@@ -97,8 +96,7 @@ const LIMITED: [(&str, u8, &str); 3] = [
 fn a_run_stops_behind_the_turns_that_the_words_name(rt: HostRuntime) -> Result<(), Fail> {
     for &(turns, status, text) in &LIMITED {
         let words = ["drain", "r.json", "--turns", turns];
-        let told = comes_to(&rt, &words, DEEP, &["a"], status, text)?;
-        assert!(rt; told, "of {turns}");
+        holds_for(comes_to(&rt, &words, DEEP, &["a"], status, text), turns)?;
     }
     Ok(())
 }
@@ -135,9 +133,7 @@ fn goes_round<W: AllocGlobal + Threads + Wait + Sync>(
 fn a_copy_has_passed_a_hundred_queues_at_most(rt: HostRuntime) -> Result<(), Fail> {
     let back =
         "exchange 101 queue l failed TooManyHops \"seda:l\"\naccepted 1 refused 0\ntotal 101 completed 100 handled 0 failed 1 waiting 0\ndrained\n";
-    let told = goes_round(&rt, &DRAIN, 100, 0, back)?;
-    assert!(rt; told);
-    Ok(())
+    holds(goes_round(&rt, &DRAIN, 100, 0, back))
 }
 
 #[test]
@@ -145,7 +141,5 @@ fn who_waits_where_when_the_turns_are_spent_is_told(rt: HostRuntime) -> Result<(
     let words = ["drain", "r.json", "--turns", "50"];
     let back =
         "exchange 25 queue l waiting ready\nexchange 26 queue l waiting queue l\naccepted 1 refused 0\ntotal 26 completed 24 handled 0 failed 0 waiting 2\nspent 50\n";
-    let told = goes_round(&rt, &words, 24, 4, back)?;
-    assert!(rt; told);
-    Ok(())
+    holds(goes_round(&rt, &words, 24, 4, back))
 }

@@ -4,7 +4,7 @@ use crate::given::{Failing, Given, SOUND, came, file_of, given_with, reported};
 use eip_endpoint::{FileRead, Files, FilesFault, MemoryFiles};
 use eip_run::run;
 use eip_simple_read::CratePatterns;
-use eip_test_support::joined;
+use eip_test_support::{holds_for, joined};
 use eip_text::{NoMemory, Text};
 use std::alloc::Global;
 use std::sync::Wait;
@@ -69,7 +69,7 @@ fn held<'g>(given: &'g Given, name: &str) -> Option<&'g [u8]> {
 }
 
 /// A dump in pieces, and the status and the text of an audit of it.
-const AUDITS: [(&[&str], u8, &str); 11] = [
+static AUDITS: [(&[&str], u8, &str); 11] = [
     (&[FIRST, TAKEN, FAILED, SLEPT, TICK, TRIED], 0, "legal 16\n"),
     (
         &[SECOND, TAKEN, FAILED, SLEPT, TICK, TRIED],
@@ -131,7 +131,7 @@ fn the_journal_of_a_dump_is_judged_by_the_routes(rt: HostRuntime) -> Result<(), 
 }
 
 /// A call of the files or of the sink that fails, and the status and the text of an audit of a dump of which the first piece is this one.
-const FAILING_AUDITS: [(Failing, &str, u8, &str); 5] = [
+static FAILING_AUDITS: [(Failing, &str, u8, &str); 5] = [
     (
         Failing {
             reading: 1,
@@ -172,14 +172,13 @@ fn audit_comes_to<W: AllocGlobal + Threads + Wait + Sync>(
 #[test]
 fn a_file_or_a_sink_that_fails_ends_an_audit(rt: HostRuntime) -> Result<(), Fail> {
     for &(failing, first, status, text) in &FAILING_AUDITS {
-        let told = audit_comes_to(&rt, first, failing, status, text)?;
-        assert!(rt; told, "to {text} from {first}");
+        holds_for(audit_comes_to(&rt, first, failing, status, text), text)?;
     }
     Ok(())
 }
 
 /// Words on files of which one is missing or refused, and the status and the text.
-const REFUSED: [(&[&str], u8, &str); 4] = [
+static REFUSED: [(&[&str], u8, &str); 4] = [
     (&["audit", "s.json", "j"], 1, "error routes $ NoFile\n"),
     (&["audit", "j", "j"], 1, "error routes $ NotJson\n"),
     (&["audit", "r.json", "k"], 1, "error dump 0\n"),
@@ -201,14 +200,13 @@ fn is_refused<W: AllocGlobal + Threads + Wait + Sync>(
 #[test]
 fn the_routes_are_looked_at_before_the_dump(rt: HostRuntime) -> Result<(), Fail> {
     for &(words, status, text) in &REFUSED {
-        let told = is_refused(&rt, words, status, text)?;
-        assert!(rt; told, "to {text}");
+        holds_for(is_refused(&rt, words, status, text), text)?;
     }
     Ok(())
 }
 
 /// A new file for a dump, the first line of the old dump, and whether the old one stays as it was.
-const MIGRATIONS: [(&str, &str, bool); 4] = [
+static MIGRATIONS: [(&str, &str, bool); 4] = [
     ("k", FIRST, true),
     ("k", SECOND, true),
     ("j", FIRST, false),
@@ -244,7 +242,7 @@ fn a_dump_of_any_version_is_written_in_the_latest(rt: HostRuntime) -> Result<(),
 
 /// A call of the files or of the sink that fails, the first line of the old dump, the status and the text, and whether the new dump was
 /// written.
-const FAILING_MIGRATIONS: [(Failing, &str, u8, &str, bool); 5] = [
+static FAILING_MIGRATIONS: [(Failing, &str, u8, &str, bool); 5] = [
     (SOUND, "", 1, "error dump 1\n", false),
     (
         Failing {

@@ -2,7 +2,7 @@ use crate::given::{DRAIN, Given, SOUND, came, given_with, lane, push_all, report
 use eip_endpoint::{Lane, MemoryLane};
 use eip_frames::Answer;
 use eip_ledger::{Entry, Kind};
-use eip_test_support::joined;
+use eip_test_support::{holds_for, joined};
 use eip_text::{NoMemory, decimal};
 use std::alloc::Global;
 use std::sync::Wait;
@@ -54,7 +54,7 @@ type Failing = u64;
 
 /// A handler or a clause, steps, the failing calls, a line, what a drain of it prints, the lane's calls (`f` for one that fails, `d` for
 /// one that is done), and the moments of the ticks.
-const RUNS: [(&str, &str, Failing, &str, &str, &str, &str); 13] = [
+static RUNS: [(&str, &str, Failing, &str, &str, &str, &str); 13] = [
     (
         DEAD_LOG,
         TOLD,
@@ -272,21 +272,21 @@ pub fn runs_so<W: AllocGlobal + Threads + Wait + Sync>(
 /// with these ticks.
 fn is_tried<W: AllocGlobal + Threads + Wait + Sync>(
     rt: &W,
-    routes: &str,
+    (handler, steps): (&str, &str),
     failing: Failing,
     line: &str,
     wanted: (&str, &str, &str),
 ) -> Result<bool, NoMemory> {
-    let mut given = given_failing(rt.alloc(), &DRAIN, routes, failing, line)?;
+    let routes = routes_of(rt.alloc(), handler, steps)?;
+    let mut given = given_failing(rt.alloc(), &DRAIN, routes.as_str(), failing, line)?;
     runs_so(rt, &mut given, wanted)
 }
 
 #[test]
 fn what_fails_is_tried_again_and_handled_as_the_file_says(rt: HostRuntime) -> Result<(), Fail> {
     for &(handler, steps, failing, line, text, calls, ticks) in &RUNS {
-        let routes = routes_of(rt.alloc(), handler, steps)?;
-        let told = is_tried(&rt, routes.as_str(), failing, line, (text, calls, ticks))?;
-        assert!(rt; told, "of {routes} failing {failing}");
+        let told = is_tried(&rt, (handler, steps), failing, line, (text, calls, ticks));
+        holds_for(told, steps)?;
     }
     Ok(())
 }

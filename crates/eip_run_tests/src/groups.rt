@@ -1,5 +1,6 @@
 use crate::errors::{failing_lane, ticks_of};
 use crate::given::{DRAIN, Given, SOUND, given_steps, given_with, reported};
+use eip_test_support::{holds, holds_for};
 use eip_text::NoMemory;
 use std::alloc::Global;
 use std::sync::Wait;
@@ -38,7 +39,7 @@ const THREES: &str =
 const IN_TIME: &str = r#"[{"resequence":{"simple":"${body}","steps":[{"to":"log:out"}]}}]"#;
 
 /// Steps, the lines, the status of a drain of them, what it prints, and the moments of its ticks, a space behind each.
-const DRAINED: [(&str, &[&str], u8, &str, &str); 11] = [
+static DRAINED: [(&str, &[&str], u8, &str, &str); 11] = [
     (
         IN_PAIRS,
         &["a", "b", "a", "a"],
@@ -133,12 +134,23 @@ fn ends_so<W: AllocGlobal + Threads + Wait + Sync>(
     Ok(report.status == status && is_told && ticked.as_str() == ticks)
 }
 
+/// Whether these lines, which come through these steps, end so.
+fn are_grouped<W: AllocGlobal + Threads + Wait + Sync>(
+    rt: &W,
+    (steps, lines): (&str, &[&str]),
+    status: u8,
+    text: &str,
+    ticks: &str,
+) -> Result<bool, NoMemory> {
+    let mut given = given_steps(rt.alloc(), steps, lines)?;
+    ends_so(rt, &mut given, status, text, ticks)
+}
+
 #[test]
 fn groups_and_batches_go_on_when_they_are_closed(rt: HostRuntime) -> Result<(), Fail> {
     for &(steps, lines, status, text, ticks) in &DRAINED {
-        let mut given = given_steps(rt.alloc(), steps, lines)?;
-        let told = ends_so(&rt, &mut given, status, text, ticks)?;
-        assert!(rt; told, "of {steps} over {text}");
+        let told = are_grouped(&rt, (steps, lines), status, text, ticks);
+        holds_for(told, steps)?;
     }
     Ok(())
 }
@@ -155,7 +167,5 @@ const LATE_TEXT: &str =
 fn a_group_is_due_behind_its_last_arrival(rt: HostRuntime) -> Result<(), Fail> {
     let mut given = given_with(rt.alloc(), &DRAIN, LATE, &["a", "b"], SOUND)?;
     given.lanes = failing_lane(rt.alloc(), 1)?;
-    let told = ends_so(&rt, &mut given, 0, LATE_TEXT, "3 8 ")?;
-    assert!(rt; told);
-    Ok(())
+    holds(ends_so(&rt, &mut given, 0, LATE_TEXT, "3 8 "))
 }

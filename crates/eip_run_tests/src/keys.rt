@@ -1,5 +1,6 @@
 use crate::errors::{failing_lane, routes_of, runs_so};
 use crate::given::{DRAIN, Given, SOUND, given_with, lane};
+use eip_test_support::holds_for;
 use eip_text::NoMemory;
 use std::alloc::Global;
 use std::sync::Wait;
@@ -68,7 +69,7 @@ const LAZY_SHARED: &str =
 
 /// A handler, steps, how many first calls of the lane `x` fail, the lines, what a drain of them prints, the letters of the
 /// answers, and the moments of the ticks. The third call of the lane `y` fails.
-const RUNS: [(&str, &str, u64, &[&str], &str, &str, &str); 17] = [
+static RUNS: [(&str, &str, u64, &[&str], &str, &str, &str); 17] = [
     (
         DEAD,
         BEHIND,
@@ -241,22 +242,27 @@ fn given_lines(
 /// Whether a drain of these lines, where the lanes fail so, prints this, with answers of these letters and with these ticks.
 pub fn lines_run_so<W: AllocGlobal + Threads + Wait + Sync>(
     rt: &W,
-    routes: &str,
+    (handler, steps): (&str, &str),
     failing: u64,
     lines: &[&str],
     wanted: (&str, &str, &str),
 ) -> Result<bool, NoMemory> {
-    let mut given = given_lines(rt.alloc(), routes, failing, lines)?;
+    let routes = routes_of(rt.alloc(), handler, steps)?;
+    let mut given = given_lines(rt.alloc(), routes.as_str(), failing, lines)?;
     runs_so(rt, &mut given, wanted)
 }
 
 #[test]
 fn a_key_is_held_as_its_step_says(rt: HostRuntime) -> Result<(), Fail> {
     for &(handler, steps, failing, lines, text, letters, ticks) in &RUNS {
-        let routes = routes_of(rt.alloc(), handler, steps)?;
-        let wanted = (text, letters, ticks);
-        let told = lines_run_so(&rt, routes.as_str(), failing, lines, wanted)?;
-        assert!(rt; told, "of {routes} failing {failing}");
+        let told = lines_run_so(
+            &rt,
+            (handler, steps),
+            failing,
+            lines,
+            (text, letters, ticks),
+        );
+        holds_for(told, steps)?;
     }
     Ok(())
 }

@@ -1,10 +1,8 @@
-// Tests of the command: its words and the top call.
+// Tests of the top call.
 #![tactic(auto)]
 
 #[cfg(test)]
 mod calls;
-#[cfg(test)]
-mod commands;
 #[cfg(test)]
 mod dumps;
 #[cfg(test)]

@@ -1,6 +1,6 @@
 use crate::given::{DRAIN, comes_to, is_stepped, push_all, route_of};
 use crate::runs::{COMPLETED, DOUBLED, FAILED, is_doubled};
-use eip_test_support::{joined, repeated};
+use eip_test_support::{holds, holds_for, joined, repeated};
 use eip_text::{NoMemory, decimal};
 use std::alloc::Global;
 use std::sync::Wait;
@@ -52,7 +52,7 @@ const KEPT: &str =
     r#"[{"split":{"tokenize":",","steps":[{"setBody":{"constant":"x"}}]}},{"to":"log:o"}]"#;
 
 /// Steps, a line, what a drain of it prints before the totals, and these.
-const DRAINED: [(&str, &str, &str, &str); 13] = [
+static DRAINED: [(&str, &str, &str, &str); 13] = [
     (
         LOGGED,
         "",
@@ -136,8 +136,7 @@ const DRAINED: [(&str, &str, &str, &str); 13] = [
 #[test]
 fn parts_are_born_in_order_and_joined_by_index(rt: HostRuntime) -> Result<(), Fail> {
     for &(steps, line, front, totals) in &DRAINED {
-        let told = is_stepped(&rt, steps, line, front, totals)?;
-        assert!(rt; told, "of {steps} with {line}");
+        holds_for(is_stepped(&rt, steps, line, front, totals), steps)?;
     }
     Ok(())
 }
@@ -148,9 +147,7 @@ fn the_parents_properties_stay_behind_its_parts(rt: HostRuntime) -> Result<(), F
         "log 1 route1: b 1 of 2 true parent \nexchange 1 source route1 completed\nexchange 2 part 1.0 completed\nexchange 3 part 1.1 completed\n";
     let totals =
         "accepted 1 refused 0\ntotal 3 completed 3 handled 0 failed 0 waiting 0\ndrained\n";
-    let told = is_stepped(&rt, PROPERTIES, "a,b", front, totals)?;
-    assert!(rt; told);
-    Ok(())
+    holds(is_stepped(&rt, PROPERTIES, "a,b", front, totals))
 }
 
 /// A split whose parts are begun at once.
@@ -162,9 +159,7 @@ fn a_parent_waits_in_the_place_joining(rt: HostRuntime) -> Result<(), Fail> {
     let words = ["drain", "r.json", "--turns", "4"];
     let text =
         "log 2 p: a\nexchange 1 source route1 waiting joining\nexchange 2 part 1.0 completed\nexchange 3 part 1.1 waiting ready\naccepted 1 refused 0\ntotal 3 completed 1 handled 0 failed 0 waiting 2\nspent 4\n";
-    let told = comes_to(&rt, &words, AT_ONCE, &["a,b"], 4, text)?;
-    assert!(rt; told);
-    Ok(())
+    holds(comes_to(&rt, &words, AT_ONCE, &["a,b"], 4, text))
 }
 
 /// Parts that offer their message to a queue, and end before it is taken from there.
@@ -175,9 +170,7 @@ const QUEUED: &str =
 fn what_a_part_puts_into_a_queue_is_no_part(rt: HostRuntime) -> Result<(), Fail> {
     let text =
         "log 1 o: a,b\nlog 3 q: a\nlog 5 q: b\nexchange 1 source route1 completed\nexchange 2 part 1.0 completed\nexchange 3 queue q completed\nexchange 4 part 1.1 completed\nexchange 5 queue q completed\naccepted 1 refused 0\ntotal 5 completed 5 handled 0 failed 0 waiting 0\ndrained\n";
-    let told = comes_to(&rt, &DRAIN, QUEUED, &["a,b"], 0, text)?;
-    assert!(rt; told);
-    Ok(())
+    holds(comes_to(&rt, &DRAIN, QUEUED, &["a,b"], 0, text))
 }
 
 /// A split without steps.
@@ -232,19 +225,15 @@ fn are_most_parts_born<W: AllocGlobal + Threads + Wait + Sync>(rt: &W) -> Result
 
 #[test]
 fn a_message_has_ten_thousand_parts_at_most(rt: HostRuntime) -> Result<(), Fail> {
-    let most = are_most_parts_born(&rt)?;
-    assert!(rt; most);
+    holds(are_most_parts_born(&rt))?;
     let front = "exchange 1 source route1 failed TooManyParts \"10001\"\n";
-    let more = are_split(&rt, 10_001, front, FAILED)?;
-    assert!(rt; more);
-    Ok(())
+    holds(are_split(&rt, 10_001, front, FAILED))
 }
 
 #[test]
 fn a_body_that_grows_too_long_fails(rt: HostRuntime) -> Result<(), Fail> {
     for &(length, front, totals) in &DOUBLED {
-        let told = is_doubled(&rt, length, front, totals)?;
-        assert!(rt; told, "of {length}");
+        holds_for(is_doubled(&rt, length, front, totals), length)?;
     }
     Ok(())
 }

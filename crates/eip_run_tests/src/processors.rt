@@ -1,6 +1,6 @@
-use crate::errors::routes_of;
 use crate::given::{DRAIN, comes_to, route_of};
 use crate::keys::lines_run_so;
+use eip_test_support::holds_for;
 use std::test::Fail;
 
 /// A dead letter channel to a log, with one attempt more.
@@ -40,7 +40,7 @@ const CAUGHT: &str =
 
 /// A handler or a clause, steps, the lines, what a drain of them prints, the letters of the answers, and the moments of the
 /// ticks.
-const RUNS: [(&str, &str, &[&str], &str, &str, &str); 10] = [
+static RUNS: [(&str, &str, &[&str], &str, &str, &str); 10] = [
     (
         PLAIN,
         KEEP,
@@ -126,15 +126,14 @@ const RUNS: [(&str, &str, &[&str], &str, &str, &str); 10] = [
 #[test]
 fn what_is_handed_in_answers_for_its_steps(rt: HostRuntime) -> Result<(), Fail> {
     for &(handler, steps, lines, text, letters, ticks) in &RUNS {
-        let routes = routes_of(rt.alloc(), handler, steps)?;
-        let told = lines_run_so(&rt, routes.as_str(), 0, lines, (text, letters, ticks))?;
-        assert!(rt; told, "of {routes}");
+        let told = lines_run_so(&rt, (handler, steps), 0, lines, (text, letters, ticks));
+        holds_for(told, steps)?;
     }
     Ok(())
 }
 
 /// Steps with a name that nobody has among its kind, and what is told.
-const UNKNOWN: [(&str, &str); 6] = [
+static UNKNOWN: [(&str, &str); 6] = [
     (
         r#"[{"process":"nobody"}]"#,
         "error routes $[0].from.steps[0].process NotRegistered nobody\n",
@@ -161,12 +160,20 @@ const UNKNOWN: [(&str, &str); 6] = [
     ),
 ];
 
+/// Whether a drain through these steps is refused with this text.
+fn are_refused<W: AllocGlobal + Threads + Wait + Sync>(
+    rt: &W,
+    steps: &str,
+    text: &str,
+) -> Result<bool, NoMemory> {
+    let routes = route_of(rt.alloc(), steps)?;
+    comes_to(rt, &DRAIN, routes.as_str(), &[], 1, text)
+}
+
 #[test]
 fn a_name_that_nobody_has_is_refused_with_its_place(rt: HostRuntime) -> Result<(), Fail> {
     for &(steps, text) in &UNKNOWN {
-        let routes = route_of(rt.alloc(), steps)?;
-        let told = comes_to(&rt, &DRAIN, routes.as_str(), &[], 1, text)?;
-        assert!(rt; told, "of {steps}");
+        holds_for(are_refused(&rt, steps, text), steps)?;
     }
     Ok(())
 }

@@ -5,7 +5,7 @@ use crate::given::{
 use eip_endpoint::{Call, Lane, MemoryLane, Outcome};
 use eip_frames::Answer;
 use eip_ledger::{Entry, Kind};
-use eip_test_support::{joined, repeated};
+use eip_test_support::{holds, holds_for, joined, repeated};
 use eip_text::NoMemory;
 use std::alloc::Global;
 use std::sync::Wait;
@@ -30,26 +30,20 @@ const OTHER_LANE: &str = "[{\"from\":{\"uri\":\"stream:in\",\"steps\":[{\"to\":\
 fn each_line_is_sent_and_the_book_stands_behind_the_log(rt: HostRuntime) -> Result<(), Fail> {
     let text =
         "log 1 out: hi\nlog 2 out: hi\nexchange 1 source route1 completed\nexchange 2 source route1 completed\naccepted 2 refused 0\ntotal 2 completed 2 handled 0 failed 0 waiting 0\ndrained\n";
-    let told = comes_to(&rt, &DRAIN, STEPS, &["a", "b"], 0, text)?;
-    assert!(rt; told);
-    Ok(())
+    holds(comes_to(&rt, &DRAIN, STEPS, &["a", "b"], 0, text))
 }
 
 #[test]
 fn empty_input_is_drained(rt: HostRuntime) -> Result<(), Fail> {
     let text = "accepted 0 refused 0\ntotal 0 completed 0 handled 0 failed 0 waiting 0\ndrained\n";
-    let told = comes_to(&rt, &DRAIN, STEPS, &[], 0, text)?;
-    assert!(rt; told);
-    Ok(())
+    holds(comes_to(&rt, &DRAIN, STEPS, &[], 0, text))
 }
 
 #[test]
 fn a_route_without_steps_completes_each_line(rt: HostRuntime) -> Result<(), Fail> {
     let text =
         "exchange 1 source route1 completed\nexchange 2 source route1 completed\naccepted 2 refused 0\ntotal 2 completed 2 handled 0 failed 0 waiting 0\ndrained\n";
-    let told = comes_to(&rt, &DRAIN, NO_STEPS, &["a", "b"], 0, text)?;
-    assert!(rt; told);
-    Ok(())
+    holds(comes_to(&rt, &DRAIN, NO_STEPS, &["a", "b"], 0, text))
 }
 
 /// Whether a drain of this path, where `r.json` has these routes, is refused with this text.
@@ -64,21 +58,17 @@ fn is_refused<W: AllocGlobal + Threads + Wait + Sync>(
 
 #[test]
 fn a_missing_route_file_is_told(rt: HostRuntime) -> Result<(), Fail> {
-    let told = is_refused(&rt, "s.json", STEPS, "error routes $ NoFile\n")?;
-    assert!(rt; told);
-    Ok(())
+    holds(is_refused(&rt, "s.json", STEPS, "error routes $ NoFile\n"))
 }
 
 #[test]
 fn a_lane_that_is_not_handed_in_is_refused(rt: HostRuntime) -> Result<(), Fail> {
     let text = "error routes $[0].from.steps[0].to NotRegistered lane:c\n";
-    let told = is_refused(&rt, "r.json", OTHER_LANE, text)?;
-    assert!(rt; told);
-    Ok(())
+    holds(is_refused(&rt, "r.json", OTHER_LANE, text))
 }
 
 /// Words that are no command.
-const OTHER_WORDS: [&[&str]; 4] = [
+static OTHER_WORDS: [&[&str]; 4] = [
     &["drain", "r.json/"],
     &["drain", "r.json", "--turns", "0"],
     &["drain", "r.json", "--turns", "5", "--turns", "5"],
@@ -88,17 +78,14 @@ const OTHER_WORDS: [&[&str]; 4] = [
 #[test]
 fn other_words_are_refused(rt: HostRuntime) -> Result<(), Fail> {
     for words in &OTHER_WORDS {
-        let told = comes_to(&rt, words, STEPS, &[], 1, "error words\n")?;
-        assert!(rt; told);
+        holds(comes_to(&rt, words, STEPS, &[], 1, "error words\n"))?;
     }
     Ok(())
 }
 
 #[test]
 fn a_file_that_is_no_json_is_told(rt: HostRuntime) -> Result<(), Fail> {
-    let told = is_refused(&rt, "r.json", "[{", "error routes $ NotJson\n")?;
-    assert!(rt; told);
-    Ok(())
+    holds(is_refused(&rt, "r.json", "[{", "error routes $ NotJson\n"))
 }
 
 /// A letter for a kind of entry: `p` a pull, `a` an exchange accepted, `n` a line noted, `f` an exchange finished, `e` the
@@ -147,9 +134,7 @@ fn is_left_by_a_failing_sink<W: AllocGlobal + Threads + Wait + Sync>(
 fn a_sink_that_fails_is_the_outcome_of_a_drained_run_and_leaves_its_journal(
     rt: HostRuntime,
 ) -> Result<(), Fail> {
-    let told = is_left_by_a_failing_sink(&rt, b"panfpanfpe")?;
-    assert!(rt; told);
-    Ok(())
+    holds(is_left_by_a_failing_sink(&rt, b"panfpanfpe"))
 }
 
 /// A step to the lane `x`, and a log.
@@ -201,9 +186,7 @@ fn a_source_that_fails_ends_the_run(rt: HostRuntime) -> Result<(), Fail> {
     let failing = Failing { pull: 2, ..SOUND };
     let text =
         "log 1 o: a\nexchange 1 source route1 completed\naccepted 1 refused 0\ntotal 1 completed 1 handled 0 failed 0 waiting 0\nsource fault route1\n";
-    let told = comes_at_fault_to(&rt, SENT, failing, 2, text)?;
-    assert!(rt; told);
-    Ok(())
+    holds(comes_at_fault_to(&rt, SENT, failing, 2, text))
 }
 
 #[test]
@@ -212,17 +195,13 @@ fn files_that_fail_end_the_command(rt: HostRuntime) -> Result<(), Fail> {
         reading: 1,
         ..SOUND
     };
-    let told = comes_at_fault_to(&rt, SENT, failing, 2, "error files\n")?;
-    assert!(rt; told);
-    Ok(())
+    holds(comes_at_fault_to(&rt, SENT, failing, 2, "error files\n"))
 }
 
 #[test]
 fn a_file_of_more_than_its_bytes_is_told(rt: HostRuntime) -> Result<(), Fail> {
     let routes = repeated(rt.alloc(), " ", 1_048_577)?;
-    let told = is_refused(&rt, "r.json", routes.as_str(), "error routes $ TooLong\n")?;
-    assert!(rt; told);
-    Ok(())
+    holds(is_refused(&rt, "r.json", routes.as_str(), "error routes $ TooLong\n"))
 }
 
 /// What stands in the book of one exchange behind its line, by how many completed and failed.
@@ -233,7 +212,7 @@ pub const FAILED: &str =
     "accepted 1 refused 0\ntotal 1 completed 0 handled 0 failed 1 waiting 0\ndrained\n";
 
 /// Steps, a line, what is printed before the totals, and the totals.
-const STEPPED: [(&str, &str, &str, &str); 13] = [
+static STEPPED: [(&str, &str, &str, &str); 13] = [
     (
         "[{\"setHeader\":{\"name\":\"n\",\"constant\":9}},{\"log\":\"${header.N}\"}]",
         "x",
@@ -317,8 +296,7 @@ const STEPPED: [(&str, &str, &str, &str); 13] = [
 #[test]
 fn simple_steps_do_what_they_mean(rt: HostRuntime) -> Result<(), Fail> {
     for &(steps, body, front, totals) in &STEPPED {
-        let told = is_stepped(&rt, steps, body, front, totals)?;
-        assert!(rt; told, "of {steps}");
+        holds_for(is_stepped(&rt, steps, body, front, totals), steps)?;
     }
     Ok(())
 }
@@ -349,8 +327,7 @@ pub const DOUBLED: [(usize, &str, &str); 2] = [
 #[test]
 fn a_body_of_more_than_its_bytes_fails(rt: HostRuntime) -> Result<(), Fail> {
     for &(length, front, totals) in &DOUBLED {
-        let told = is_doubled(&rt, length, front, totals)?;
-        assert!(rt; told, "of {length}");
+        holds_for(is_doubled(&rt, length, front, totals), length)?;
     }
     Ok(())
 }
@@ -375,7 +352,7 @@ fn are_set<W: AllocGlobal + Threads + Wait + Sync>(
 }
 
 /// Numbers of headers that are set, and the book.
-const HEADERS: [(u64, &str, &str); 2] = [
+static HEADERS: [(u64, &str, &str); 2] = [
     (64, "exchange 1 source route1 completed\n", COMPLETED),
     (
         65,
@@ -387,14 +364,13 @@ const HEADERS: [(u64, &str, &str); 2] = [
 #[test]
 fn the_sixty_fifth_header_fails(rt: HostRuntime) -> Result<(), Fail> {
     for &(count, front, totals) in &HEADERS {
-        let told = are_set(&rt, count, front, totals)?;
-        assert!(rt; told, "of {count}");
+        holds_for(are_set(&rt, count, front, totals), count)?;
     }
     Ok(())
 }
 
 /// Steps that no drain runs, and what is told.
-const REFUSED: [(&str, &str); 2] = [
+static REFUSED: [(&str, &str); 2] = [
     (
         "[{\"filter\":{\"simple\":\"${body} == 'x'\",\"steps\":[{\"shout\":\"y\"}]}}]",
         "error routes $[0].from.steps[0].filter.steps[0] UnknownStep shout\n",
@@ -405,12 +381,20 @@ const REFUSED: [(&str, &str); 2] = [
     ),
 ];
 
+/// Whether a drain through these steps is refused with this text.
+fn are_refused<W: AllocGlobal + Threads + Wait + Sync>(
+    rt: &W,
+    steps: &str,
+    text: &str,
+) -> Result<bool, NoMemory> {
+    let routes = route_of(rt.alloc(), steps)?;
+    is_refused(rt, "r.json", routes.as_str(), text)
+}
+
 #[test]
 fn routes_that_are_wrong_are_refused(rt: HostRuntime) -> Result<(), Fail> {
     for &(steps, text) in &REFUSED {
-        let routes = route_of(rt.alloc(), steps)?;
-        let told = is_refused(&rt, "r.json", routes.as_str(), text)?;
-        assert!(rt; told, "of {steps}");
+        holds_for(are_refused(&rt, steps, text), steps)?;
     }
     Ok(())
 }
@@ -426,7 +410,7 @@ fn is_checked<W: AllocGlobal + Threads + Wait + Sync>(
 }
 
 /// Route files and what their check prints.
-const CHECKED: [(&str, u8, &str); 3] = [
+static CHECKED: [(&str, u8, &str); 3] = [
     (
         "[{\"route\":{\"id\":\"r\",\"from\":{\"uri\":\"stream:in\"},\"steps\":[{\"set-body\":{\"constant\":\"x\"}},{\"recipient-list\":{\"simple\":\"${headers.to}\"}}]}}]",
         0,
@@ -443,8 +427,7 @@ const CHECKED: [(&str, u8, &str); 3] = [
 #[test]
 fn a_check_prints_the_canonical_text_or_the_first_fault(rt: HostRuntime) -> Result<(), Fail> {
     for &(routes, status, text) in &CHECKED {
-        let told = is_checked(&rt, routes, status, text)?;
-        assert!(rt; told, "of {routes}");
+        holds_for(is_checked(&rt, routes, status, text), routes)?;
     }
     Ok(())
 }

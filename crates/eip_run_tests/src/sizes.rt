@@ -1,6 +1,6 @@
 use crate::given::{CHECK, DRAIN, comes_to, is_stepped, numbered, route_of};
 use crate::runs::{COMPLETED, FAILED};
-use eip_test_support::{joined, repeated};
+use eip_test_support::{holds, holds_for, joined, repeated};
 use eip_text::NoMemory;
 use std::alloc::Global;
 use std::sync::Wait;
@@ -37,9 +37,7 @@ fn are_all_completed<W: AllocGlobal + Threads + Wait + Sync>(rt: &W) -> Result<b
 
 #[test]
 fn three_hundred_lines_are_each_accepted_and_completed(rt: HostRuntime) -> Result<(), Fail> {
-    let told = are_all_completed(&rt)?;
-    assert!(rt; told);
-    Ok(())
+    holds(are_all_completed(&rt))
 }
 
 /// A file of 312 lines: a route whose 310 steps stand on a line each.
@@ -74,15 +72,12 @@ fn is_long_file_checked<W: AllocGlobal + Threads + Wait + Sync>(rt: &W) -> Resul
 fn a_route_file_of_over_three_hundred_lines_is_run_and_printed(
     rt: HostRuntime,
 ) -> Result<(), Fail> {
-    let is_drained = is_long_file_drained(&rt)?;
-    assert!(rt; is_drained);
-    let is_checked = is_long_file_checked(&rt)?;
-    assert!(rt; is_checked);
-    Ok(())
+    holds(is_long_file_drained(&rt))?;
+    holds(is_long_file_checked(&rt))
 }
 
 /// Steps on a longest body, and what is printed before the body, behind it, and as the totals.
-const KEPT: [(&str, &str, &str, &str); 5] = [
+static KEPT: [(&str, &str, &str, &str); 5] = [
     (
         "[{\"to\":\"lane:a\"},{\"to\":\"log:o\"}]",
         "log 1 o: ",
@@ -132,14 +127,13 @@ fn is_kept<W: AllocGlobal + Threads + Wait + Sync>(
 #[test]
 fn a_value_of_the_most_bytes_is_kept(rt: HostRuntime) -> Result<(), Fail> {
     for &(steps, front, back, totals) in &KEPT {
-        let told = is_kept(&rt, steps, front, back, totals)?;
-        assert!(rt; told, "of {steps}");
+        holds_for(is_kept(&rt, steps, front, back, totals), steps)?;
     }
     Ok(())
 }
 
 /// Steps that make a value one byte longer than a longest body, by what becomes too long.
-const OVER: [(&str, &str); 5] = [
+static OVER: [(&str, &str); 5] = [
     ("a body", "[{\"setBody\":{\"simple\":\"${body}y\"}}]"),
     (
         "a header",
@@ -166,8 +160,7 @@ fn is_over<W: AllocGlobal + Threads + Wait + Sync>(rt: &W, steps: &str) -> Resul
 #[test]
 fn a_value_of_one_byte_more_fails_its_exchange(rt: HostRuntime) -> Result<(), Fail> {
     for &(what, steps) in &OVER {
-        let told = is_over(&rt, steps)?;
-        assert!(rt; told, "of {what}");
+        holds_for(is_over(&rt, steps), what)?;
     }
     Ok(())
 }
@@ -189,9 +182,6 @@ fn is_constant_set<W: AllocGlobal + Threads + Wait + Sync>(
 #[test]
 fn a_constant_of_one_byte_more_fails_its_exchange(rt: HostRuntime) -> Result<(), Fail> {
     let completed = "exchange 1 source route1 completed\n";
-    let longest = is_constant_set(&rt, LONGEST, completed, COMPLETED)?;
-    assert!(rt; longest);
-    let longer = is_constant_set(&rt, LONGEST + 1, TOO_LONG, FAILED)?;
-    assert!(rt; longer);
-    Ok(())
+    holds(is_constant_set(&rt, LONGEST, completed, COMPLETED))?;
+    holds(is_constant_set(&rt, LONGEST + 1, TOO_LONG, FAILED))
 }

@@ -1,5 +1,6 @@
 use crate::given::is_stepped;
 use crate::runs::COMPLETED;
+use eip_test_support::{holds, holds_for};
 use std::test::Fail;
 
 /// A try whose block faults, with a catch for that kind, and steps that run in any case.
@@ -31,7 +32,7 @@ const IN_PARTS: &str =
     r#"[{"split":{"tokenize":",","aggregationStrategy":"joined","steps":[{"doTry":{"steps":[{"filter":{"simple":"${body} == 'b'","steps":[{"throwException":{"exceptionType":"Bad","message":""}}]}}],"doCatch":[{"exception":["Bad"],"steps":[{"setBody":{"constant":"none"}}]}]}}]}},{"to":"log:o"}]"#;
 
 /// Steps, what a drain of the line `a` prints before the totals, and these.
-const TRIED: [(&str, &str, &str); 6] = [
+static TRIED: [(&str, &str, &str); 6] = [
     (
         CAUGHT,
         "log 3 route1: caught no a\nlog 4 route1: end\nlog 1 after: a\nexchange 1 source route1 completed\nexchange 2 part 1.0 failed Bad \"no a\"\nexchange 3 part 1.1 completed\nexchange 4 part 1.2 completed\n",
@@ -67,8 +68,7 @@ const TRIED: [(&str, &str, &str); 6] = [
 #[test]
 fn a_try_is_caught_and_its_last_steps_run_in_any_case(rt: HostRuntime) -> Result<(), Fail> {
     for &(steps, front, totals) in &TRIED {
-        let told = is_stepped(&rt, steps, "a", front, totals)?;
-        assert!(rt; told, "of {steps}");
+        holds_for(is_stepped(&rt, steps, "a", front, totals), steps)?;
     }
     Ok(())
 }
@@ -79,9 +79,7 @@ fn each_part_has_its_own_try(rt: HostRuntime) -> Result<(), Fail> {
         "log 1 o: a,none\nexchange 1 source route1 completed\nexchange 2 part 1.0 completed\nexchange 3 part 2.0 completed\nexchange 4 part 1.1 completed\nexchange 5 part 4.0 failed Bad \"\"\nexchange 6 part 4.1 completed\n";
     let totals =
         "accepted 1 refused 0\ntotal 6 completed 5 handled 0 failed 1 waiting 0\ndrained\n";
-    let told = is_stepped(&rt, IN_PARTS, "a,b", front, totals)?;
-    assert!(rt; told);
-    Ok(())
+    holds(is_stepped(&rt, IN_PARTS, "a,b", front, totals))
 }
 
 /// A try without any steps.
@@ -92,10 +90,7 @@ fn a_try_without_steps_is_one_part(rt: HostRuntime) -> Result<(), Fail> {
     let front = "exchange 1 source route1 completed\nexchange 2 part 1.0 completed\n";
     let totals =
         "accepted 1 refused 0\ntotal 2 completed 2 handled 0 failed 0 waiting 0\ndrained\n";
-    let told = is_stepped(&rt, EMPTY, "a", front, totals)?;
-    assert!(rt; told);
+    holds(is_stepped(&rt, EMPTY, "a", front, totals))?;
     let front = "exchange 1 source route1 completed\n";
-    let plain = is_stepped(&rt, "[]", "a", front, COMPLETED)?;
-    assert!(rt; plain);
-    Ok(())
+    holds(is_stepped(&rt, "[]", "a", front, COMPLETED))
 }

@@ -6,6 +6,7 @@ use eip_exchange::Message;
 use eip_frames::Target;
 use eip_run::{Report, run};
 use eip_simple_read::CratePatterns;
+use eip_test_support::holds;
 use eip_text::{NoMemory, Text};
 use std::alloc::Global;
 use std::sync::Wait;
@@ -66,7 +67,5 @@ fn is_drained<W: AllocGlobal + Threads + Wait + Sync>(
 fn a_part_without_memory_ends_and_its_parent_is_told(rt: HostRuntime) -> Result<(), Fail> {
     let text =
         "exchange 1 source route1 failed OutOfMemory \"\"\nexchange 2 part 1.0 completed\nexchange 3 part 1.1 failed OutOfMemory \"\"\nexchange 4 part 1.2 failed OutOfMemory \"\"\naccepted 1 refused 0\ntotal 4 completed 1 handled 0 failed 3 waiting 0\ndrained\n";
-    let told = is_drained(&rt, SENT, "a,b,c", text)?;
-    assert!(rt; told);
-    Ok(())
+    holds(is_drained(&rt, SENT, "a,b,c", text))
 }

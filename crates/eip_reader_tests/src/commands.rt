@@ -2,13 +2,13 @@ use eip_command::{
     Command, Form, OptionRule, Path, Rule, WordsFault, fault_line, read_words, value_of,
 };
 use eip_route_grammar::{Cause, RouteFault};
-use eip_test_support::texts;
+use eip_test_support::{holds, texts};
 use eip_text::{NoMemory, Text};
 use std::alloc::Global;
 use std::test::Fail;
 
 /// Words that are a command, the folder and the name of its file, and its limit on turns.
-const COMMANDS: [(&[&str], &str, &str, Option<u32>); 10] = [
+static COMMANDS: [(&[&str], &str, &str, Option<u32>); 10] = [
     (&["drain", "r.json"], ".", "r.json", Some(100_000)),
     (&["drain", "a/b/r.json"], "a/b", "r.json", Some(100_000)),
     (&["drain", "/r.json"], "/", "r.json", Some(100_000)),
@@ -52,7 +52,7 @@ fn second_file(command: &Command) -> Option<&Path> {
 }
 
 /// Words of two files, and the folder and the name of the second one.
-const TWO_FILES: [(&[&str], &str, &str); 2] = [
+static TWO_FILES: [(&[&str], &str, &str); 2] = [
     (&["audit", "a/r.json", "b/j"], "b", "j"),
     (&["migrate", "b/j", "k"], ".", "k"),
 ];
@@ -92,7 +92,7 @@ fn a_command_names_its_file_and_its_limit_on_turns(rt: HostRuntime) -> Result<()
 }
 
 /// Words of a drain or a load, and the number of workers that they name.
-const BY_WORKERS: [(&[&str], u32); 8] = [
+static BY_WORKERS: [(&[&str], u32); 8] = [
     (&["drain", "r.json"], 0),
     (&["drain", "r.json", "--workers", "0"], 0),
     (&["drain", "r.json", "--workers", "16"], 16),
@@ -133,7 +133,7 @@ fn a_drain_and_a_load_name_their_workers(rt: HostRuntime) -> Result<(), Fail> {
 }
 
 /// Words that are no command.
-const NO_COMMANDS: [&[&str]; 36] = [
+static NO_COMMANDS: [&[&str]; 36] = [
     &[],
     &["drain"],
     &["drain", "r.json", "--turns", "0"],
@@ -184,7 +184,7 @@ fn is_refused(alloc: Global, words: &[&str]) -> Result<bool, NoMemory> {
 #[test]
 fn other_words_are_no_command(rt: HostRuntime) -> Result<(), Fail> {
     for words in &NO_COMMANDS {
-        assert!(rt; is_refused(rt.alloc(), words)?);
+        holds(is_refused(rt.alloc(), words))?;
     }
     Ok(())
 }
@@ -206,7 +206,7 @@ const LISTEN: Form = Form {
 };
 
 /// Words, and whether they go by that form.
-const LISTENING: [(&[&str], bool); 19] = [
+static LISTENING: [(&[&str], bool); 19] = [
     (&["r.json", "1"], true),
     (&["r.json", "8", "--turns", "1000000"], true),
     (&["r.json", "8", "--turns", "1", "--journal", "a/j"], true),
