@@ -1,6 +1,10 @@
-// Tests of the audit: legal journals, and of each rule entries that break it.
+// Tests of journals: written and read as text, refused, and audited, each rule by entries that break it.
 #![tactic(auto)]
 
+#[cfg(test)]
+mod dumps;
+#[cfg(test)]
+mod entries;
 #[cfg(test)]
 mod legal;
 #[cfg(test)]

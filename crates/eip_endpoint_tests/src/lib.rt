@@ -1,7 +1,17 @@
-// Tests of the forms of lanes, sources, files and sinks in memory, through public calls.
+// Tests of the outside, through public calls: its forms in memory, files, lines, peers, the built-in load, and the program's host.
 #![tactic(auto)]
 
 #[cfg(test)]
+mod files;
+#[cfg(test)]
 mod folders;
 #[cfg(test)]
+mod host;
+#[cfg(test)]
+mod lines;
+#[cfg(test)]
+mod load;
+#[cfg(test)]
 mod memory_forms;
+#[cfg(test)]
+mod peers;

@@ -1,5 +1,5 @@
-// Tests of clauses, redelivery policies, batches, aggregation strategies, the parts of a message, lists of recipients and
-// lists that are dealt out in turn, through public calls.
+// Tests of clauses, redelivery policies, batches, aggregation strategies, the parts of a message, lists of recipients, lists that
+// are dealt out in turn, and the tables of what waits, through public calls.
 #![tactic(auto)]
 
 #[cfg(test)]
@@ -12,3 +12,5 @@ mod policies;
 mod shares;
 #[cfg(test)]
 mod strategies;
+#[cfg(test)]
+mod tables;

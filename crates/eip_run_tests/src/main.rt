@@ -4,6 +4,8 @@
 #[cfg(test)]
 mod calls;
 #[cfg(test)]
+mod doors;
+#[cfg(test)]
 mod dumps;
 #[cfg(test)]
 mod errors;

@@ -1,7 +1,10 @@
 use crate::given::{DRAIN, comes_to, route_of};
 use crate::keys::lines_run_so;
 use eip_test_support::holds_for;
+use eip_text::NoMemory;
+use std::sync::Wait;
 use std::test::Fail;
+use std::thread::Threads;
 
 /// A dead letter channel to a log, with one attempt more.
 const DEAD: &str =

@@ -1,4 +1,4 @@
-// Tests of the command with workers: what the top call prints and leaves, whatever the schedule.
+// Tests with workers: what the top call prints and leaves, whatever the schedule, and workers by themselves.
 #![tactic(auto)]
 
 #[cfg(test)]
@@ -13,6 +13,8 @@ mod parts;
 mod signals;
 #[cfg(test)]
 mod unlocked;
+#[cfg(test)]
+mod workers;
 
 // What is run are the tests; the program itself does nothing.
 fn main(_rt: HostRuntime) {}

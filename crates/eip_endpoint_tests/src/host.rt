@@ -1,0 +1,5 @@
+mod folders;
+mod lines;
+mod network;
+mod pieces;
+mod streams;

@@ -1,0 +1,6 @@
+mod answered;
+mod attempts;
+mod parts;
+mod runs;
+mod shown;
+mod steps;

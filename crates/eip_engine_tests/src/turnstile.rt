@@ -1,0 +1,4 @@
+mod log;
+mod seats;
+mod threads;
+mod turns;

@@ -1,0 +1,5 @@
+mod groups;
+mod joins;
+mod keys;
+mod queues;
+mod sleepers;

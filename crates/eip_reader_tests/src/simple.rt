@@ -1,0 +1,4 @@
+mod sizes;
+mod support;
+mod texts;
+mod values;

@@ -1,0 +1,4 @@
+mod files;
+mod given;
+mod lines;
+mod workers;

@@ -1,5 +1,0 @@
-use Rattle.eip_turnstile_tests.specs.Turns.{Stays}
-use Rattle.eip_turnstile_tests.proofs.turns.write.Given as goal
-
-abbrev pub invariant-loop-entry : goal.invariant-loop-entry
-invariant-loop-entry g l = Stays l.fn.seat l.seat
