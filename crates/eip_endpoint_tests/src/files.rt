@@ -1,3 +1,2 @@
-mod folder;
 mod lanes;
 mod sources;

@@ -2,9 +2,13 @@
 #![tactic(auto)]
 
 #[cfg(test)]
+mod file_calls;
+#[cfg(test)]
 mod files;
 #[cfg(test)]
 mod folders;
+#[cfg(test)]
+mod given;
 #[cfg(test)]
 mod host;
 #[cfg(test)]
@@ -15,3 +19,5 @@ mod load;
 mod memory_forms;
 #[cfg(test)]
 mod peers;
+#[cfg(test)]
+mod pulls;

@@ -1,7 +1,8 @@
 ghost use Rattle.std.specs.Prelude.{◌≡◌, IfOk, length};
 ghost use Rattle.eip_endpoint.specs.MemorySources.{AreNew};
 
-use crate::folders::{Found, Row, Step, files_of, wrong_row};
+use crate::file_calls::{Found, Row, Step, wrong_row};
+use crate::given::files_of;
 use eip_endpoint::{
     Call, CommitFault, Endpoint, Inlet, Inlets, Lane, Lanes, MemoryLane, MemorySink, MemorySource,
     Outcome, PullFault, Pulled, Refusal, SendFault, Sink, SinkFault, Source, find_inlet, find_lane,
@@ -181,25 +182,24 @@ fn a_memory_sink_writes_nothing_at_its_failing_numbers(rt: HostRuntime) -> Resul
 }
 
 /// Readings of one file, of which the fourth fails; it stays the only one.
-static READINGS: [Row; 5] = [
+static READINGS: [Row; 4] = [
     ("in", "a.txt", Step::Read(2, Found::Bytes(b"hi"))),
     ("in", "a.txt", Step::Read(1, Found::TooLong)),
     ("a.txt", "in", Step::Read(2, Found::Missing)),
     ("in", "a.txt", Step::Read(2, Found::Failed)),
-    ("", "", Step::Count(1)),
 ];
 
-/// The number of the first of these readings, from 0, that is answered otherwise.
-fn wrong_reading(alloc: Global) -> Result<Option<usize>, NoMemory> {
-    let rows = [("in", "a.txt", "hi")];
-    let mut files = files_of(alloc, &rows, vec![in alloc; 4]?)?;
-    wrong_row(alloc, &mut files, &READINGS)
+/// The number of the first of these readings, from 0, that is answered otherwise, and how many files there are behind it or the last.
+fn wrong_reading(alloc: Global) -> Result<(Option<usize>, usize), NoMemory> {
+    let mut files = files_of(alloc, &[("in", "a.txt", b"hi")], &[4])?;
+    let wrong = wrong_row(alloc, &mut files, &READINGS)?;
+    Ok((wrong, files.content().len()))
 }
 
 #[test]
 fn memory_files_are_read_up_to_the_limit(rt: HostRuntime) -> Result<(), Fail> {
     let wrong = wrong_reading(rt.alloc())?;
-    assert!(rt; wrong == None, "row {wrong:?}");
+    assert!(rt; wrong == (None, 1), "row {wrong:?}");
     Ok(())
 }
 

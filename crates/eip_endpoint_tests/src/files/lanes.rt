@@ -1,4 +1,4 @@
-use crate::files::folder::{files_of, holds};
+use crate::given::{files_of, holds};
 use eip_endpoint::{Endpoint, MemoryFiles, SendFault};
 use eip_exchange::Message;
 use eip_file::FileLane;
@@ -51,7 +51,7 @@ fn is_treated(
     answer: Result<(), SendFault>,
     left: &str,
 ) -> Result<bool, NoMemory> {
-    let mut lane = FileLane::new(files_of(alloc, &[("out", there, b"old")], 0)?);
+    let mut lane = FileLane::new(files_of(alloc, &[("out", there, b"old")], &[])?);
     let told = send(alloc, &mut lane, exist)?;
     Ok(told == answer && holds(&lane.files, "out", "exchange-1", left))
 }
@@ -75,7 +75,7 @@ static FAILING: [(Exist, u64); 4] = [
 
 /// Whether a send fails at the call of this number and writes nothing, and another one doesn't.
 fn fails_once(alloc: Global, exist: Exist, number: u64) -> Result<[bool; 3], NoMemory> {
-    let mut lane = FileLane::new(files_of(alloc, &[], number)?);
+    let mut lane = FileLane::new(files_of(alloc, &[], &[number])?);
     let fails = send(alloc, &mut lane, exist)? == Err(SendFault::Failed);
     let is_empty = lane.files.content().is_empty();
     Ok([fails, is_empty, send(alloc, &mut lane, exist)? == Ok(())])

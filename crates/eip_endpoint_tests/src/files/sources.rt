@@ -1,4 +1,4 @@
-use crate::files::folder::{files_of, holds};
+use crate::given::{files_of, holds};
 use eip_endpoint::{CommitFault, MemoryFiles, PullFault, Pulled, Refusal, Source};
 use eip_exchange::{End, Fault, Message};
 use eip_file::FileSource;
@@ -110,7 +110,7 @@ fn wrong_row(
 #[test]
 fn files_come_in_byte_order_without_hidden_ones(rt: HostRuntime) -> Result<(), Fail> {
     let alloc = rt.alloc();
-    let wrong = wrong_row(alloc, files_of(alloc, &TWO_FOLDERS, 0)?, &GIVEN)?;
+    let wrong = wrong_row(alloc, files_of(alloc, &TWO_FOLDERS, &[])?, &GIVEN)?;
     assert!(rt; wrong == None, "row {wrong:?}");
     Ok(())
 }
@@ -123,7 +123,7 @@ fn refused_files(alloc: Global) -> Result<MemoryFiles, NoMemory> {
         ("d", "b.txt", b"\xff"),
         ("d", "c.txt", long.as_slice()),
     ];
-    files_of(alloc, &rows, 0)
+    files_of(alloc, &rows, &[])
 }
 
 /// What is given of them.
@@ -176,7 +176,7 @@ static THREE_FILES: [(&str, &str, &[u8]); 3] = [
 
 /// Whether the first of three files is given, the second one removed, and then the third one given.
 fn are_passed_over(alloc: Global) -> Result<[bool; 3], Fail> {
-    let mut source = FileSource::new(alloc, files_of(alloc, &THREE_FILES, 0)?);
+    let mut source = FileSource::new(alloc, files_of(alloc, &THREE_FILES, &[])?);
     let first = gives(alloc, &mut source, "file:d", &[Wanted::Item("a", "1")])?;
     let second = removes(alloc, &mut source, "b")?;
     let rest = [Wanted::Item("c", "3"), Wanted::End];
@@ -211,7 +211,11 @@ static FAILED_FIRST: [(&str, &[Wanted]); 1] = [(
 fn a_failed_call_fails_the_pull_and_passes_no_name_over(rt: HostRuntime) -> Result<(), Fail> {
     let alloc = rt.alloc();
     for number in [1, 2] {
-        let wrong = wrong_row(alloc, files_of(alloc, &TWO_FILES, number)?, &FAILED_FIRST)?;
+        let wrong = wrong_row(
+            alloc,
+            files_of(alloc, &TWO_FILES, &[number])?,
+            &FAILED_FIRST,
+        )?;
         assert!(rt; wrong == None, "call {number}");
     }
     Ok(())
@@ -243,7 +247,7 @@ fn is_alone(files: &MemoryFiles, folder: &str, bytes: &str) -> bool {
 
 /// Whether a commit of an end leaves the file `a` in a folder alone, or nowhere where that is empty.
 fn goes(alloc: Global, from: &str, folder: &str, end: &End, to: &str) -> Result<bool, Fail> {
-    let files = files_of(alloc, &[(folder, "a", b"1")], 0)?;
+    let files = files_of(alloc, &[(folder, "a", b"1")], &[])?;
     let mut source = FileSource::new(alloc, files);
     if commit(alloc, &mut source, from, "a", end)?.is_err() {
         return Ok(false);
@@ -300,7 +304,7 @@ fn are_answered(alloc: Global, source: &mut FileSource<MemoryFiles>) -> Result<b
 #[test]
 fn a_commit_that_fails_leaves_the_file(rt: HostRuntime) -> Result<(), Fail> {
     let alloc = rt.alloc();
-    let mut source = FileSource::new(alloc, files_of(alloc, &[("d", "a", b"1")], 1)?);
+    let mut source = FileSource::new(alloc, files_of(alloc, &[("d", "a", b"1")], &[1])?);
     let told = are_answered(alloc, &mut source)?;
     assert!(rt; told);
     Ok(())
@@ -311,7 +315,7 @@ static NEW_AND_OLD: [(&str, &str, &[u8]); 2] = [("d", "a", b"new"), ("d/.camel",
 
 /// Whether of two files of one name the new one is left alone, where the old one was.
 fn is_replaced(alloc: Global) -> Result<bool, Fail> {
-    let mut source = FileSource::new(alloc, files_of(alloc, &NEW_AND_OLD, 0)?);
+    let mut source = FileSource::new(alloc, files_of(alloc, &NEW_AND_OLD, &[])?);
     let told = commit(alloc, &mut source, "file:d", "a", &End::Handled)?;
     Ok(told.is_ok() && is_alone(&source.files, "d/.camel", "new"))
 }

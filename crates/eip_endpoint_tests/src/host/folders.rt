@@ -1,85 +1,97 @@
-use eip_endpoint::{FileRead, Files, FilesFault, Mover};
+use crate::file_calls::{Found, Row, Step, wrong_row};
+use eip_endpoint::FilesFault;
 use eip_host::{HostFileSystem, HostFiles};
-use eip_text::Text;
+use eip_text::NoMemory;
+use std::fs;
 use std::test::Fail;
 
-/// Whether these are the names of a folder.
-fn are_names(listed: &Result<Vec<Text>, FilesFault>, wanted: &[&str]) -> bool {
-    match listed {
-        Ok(names) => names
-            .iter()
-            .map(|name| name.as_str())
-            .eq(wanted.iter().copied()),
-        Err(_) => false,
-    }
+/// The number of the first row, from 0, that the files of the system answer otherwise, and the count of faults behind it or the last.
+fn wrong_of_system(rt: HostRuntime, rows: &[Row]) -> Result<(Option<usize>, u64), NoMemory> {
+    let mut files = HostFiles::new(rt.alloc(), HostFileSystem { runtime: rt });
+    let wrong = wrong_row(rt.alloc(), &mut files, rows)?;
+    Ok((wrong, files.faults))
 }
 
-/// Whether these bytes were read.
-fn is_bytes(read: &Result<FileRead, FilesFault>, wanted: &[u8]) -> bool {
-    match read {
-        Ok(FileRead::Bytes(bytes)) => bytes.items() == wanted,
-        _ => false,
-    }
-}
+static WRITTEN: [Row; 11] = [
+    ("written/in", "", Step::List(&[])),
+    ("written/in", "b", Step::Write(b"b", false, Ok(()))),
+    ("written/in", "a", Step::Write(b"old", false, Ok(()))),
+    ("written/in", "a", Step::Write(b"1", false, Ok(()))),
+    ("written/in", "a", Step::Write(b"2", true, Ok(()))),
+    ("written/in", "", Step::List(&["a", "b"])),
+    ("written/in", "a", Step::Has(true)),
+    ("written/in", "a", Step::Read(9, Found::Bytes(b"12"))),
+    ("written/in", "a", Step::Remove(Ok(()))),
+    ("written/in", "a", Step::Has(false)),
+    ("written/in", "b", Step::Remove(Ok(()))),
+];
 
 #[test]
 fn files_of_the_system_are_written_and_listed(rt: HostRuntime) -> Result<(), Fail> {
-    let alloc = rt.alloc();
-    let folder = Text::of_str(alloc, "written/in")?;
-    let first = Text::of_str(alloc, "a")?;
-    let second = Text::of_str(alloc, "b")?;
-    let mut files = HostFiles::new(alloc, HostFileSystem { runtime: rt });
-    assert!(rt; are_names(&files.list(&folder), &[]));
-    assert_eq!(rt; files.write(&folder, &second, b"b", false), Ok(()));
-    assert_eq!(rt; files.write(&folder, &first, b"old", false), Ok(()));
-    assert_eq!(rt; files.write(&folder, &first, b"1", false), Ok(()));
-    assert_eq!(rt; files.write(&folder, &first, b"2", true), Ok(()));
-    assert!(rt; are_names(&files.list(&folder), &["a", "b"]));
-    assert_eq!(rt; files.has(&folder, &first), Ok(true));
-    assert!(rt; is_bytes(&files.read(&folder, &first, 9), b"12"));
-    assert_eq!(rt; files.remove(&folder, &first), Ok(()));
-    assert_eq!(rt; files.has(&folder, &first), Ok(false));
-    assert_eq!(rt; files.remove(&folder, &second), Ok(()));
-    assert_eq!(rt; files.faults, 0);
+    let told = wrong_of_system(rt, &WRITTEN)?;
+    assert!(rt; told == (None, 0), "{told:?}");
     Ok(())
 }
+
+static MOVED: [Row; 6] = [
+    ("moved/in", "a", Step::Write(b"new", false, Ok(()))),
+    ("moved/in/.camel", "a", Step::Write(b"old", false, Ok(()))),
+    ("moved/in", "", Step::List(&["a"])),
+    ("moved/in", "a", Step::Move("moved/in/.camel", Ok(()))),
+    ("moved/in", "", Step::List(&[])),
+    ("moved/in/.camel", "a", Step::Read(9, Found::Bytes(b"new"))),
+];
+
+/// What fails behind that, and the removal of the file.
+static MISSING: [Row; 3] = [
+    (
+        "moved/in",
+        "a",
+        Step::Move("moved/in/.camel", Err(FilesFault::Failed)),
+    ),
+    ("moved/in", "a", Step::Remove(Err(FilesFault::Failed))),
+    ("moved/in/.camel", "a", Step::Remove(Ok(()))),
+];
 
 #[test]
 fn files_of_the_system_are_moved_and_missing_ones_are_faults(rt: HostRuntime) -> Result<(), Fail> {
-    let alloc = rt.alloc();
-    let folder = Text::of_str(alloc, "moved/in")?;
-    let done = Text::of_str(alloc, "moved/in/.camel")?;
-    let name = Text::of_str(alloc, "a")?;
-    let mut files = HostFiles::new(alloc, HostFileSystem { runtime: rt });
-    assert_eq!(rt; files.write(&folder, &name, b"new", false), Ok(()));
-    assert_eq!(rt; files.write(&done, &name, b"old", false), Ok(()));
-    assert!(rt; are_names(&files.list(&folder), &["a"]));
-    assert_eq!(rt; files.rename(&folder, &name, &done), Ok(()));
-    assert!(rt; are_names(&files.list(&folder), &[]));
-    assert!(rt; is_bytes(&files.read(&done, &name, 9), b"new"));
-    assert_eq!(rt; files.faults, 0);
-    assert_eq!(rt;
-        files.rename(&folder, &name, &done),
-        Err(FilesFault::Failed)
-    );
-    assert_eq!(rt; files.remove(&folder, &name), Err(FilesFault::Failed));
-    assert_eq!(rt; files.faults, 2);
-    assert_eq!(rt; files.remove(&done, &name), Ok(()));
+    for (rows, faults) in [(MOVED.as_slice(), 0), (MISSING.as_slice(), 2)] {
+        let told = wrong_of_system(rt, rows)?;
+        assert!(rt; told == (None, faults), "{told:?}");
+    }
     Ok(())
 }
 
+static INTO_A_NEW_FOLDER: [Row; 5] = [
+    ("from/in", "a", Step::Write(b"new", false, Ok(()))),
+    ("from/in", "a", Step::Move("to/be/made", Ok(()))),
+    ("from/in", "a", Step::Has(false)),
+    ("to/be/made", "a", Step::Read(9, Found::Bytes(b"new"))),
+    ("to/be/made", "a", Step::Remove(Ok(()))),
+];
+
 #[test]
 fn a_file_is_moved_into_a_folder_that_is_not_there(rt: HostRuntime) -> Result<(), Fail> {
-    let alloc = rt.alloc();
-    let folder = Text::of_str(alloc, "from/in")?;
-    let done = Text::of_str(alloc, "to/be/made")?;
-    let name = Text::of_str(alloc, "a")?;
-    let mut files = HostFiles::new(alloc, HostFileSystem { runtime: rt });
-    assert_eq!(rt; files.write(&folder, &name, b"new", false), Ok(()));
-    assert_eq!(rt; files.rename(&folder, &name, &done), Ok(()));
-    assert_eq!(rt; files.has(&folder, &name), Ok(false));
-    assert!(rt; is_bytes(&files.read(&done, &name, 9), b"new"));
-    assert_eq!(rt; files.remove(&done, &name), Ok(()));
-    assert_eq!(rt; files.faults, 0);
+    let told = wrong_of_system(rt, &INTO_A_NEW_FOLDER)?;
+    assert!(rt; told == (None, 0), "{told:?}");
+    Ok(())
+}
+
+static READINGS: [Row; 3] = [
+    (".", "a.json", Step::Read(2, Found::Bytes(b"[]"))),
+    (".", "a.json", Step::Read(1, Found::TooLong)),
+    (".", "b.json", Step::Read(2, Found::Missing)),
+];
+
+/// A folder is no file.
+static OF_A_FOLDER: [Row; 1] = [("/", ".", Step::Read(2, Found::Failed))];
+
+#[test]
+fn a_file_of_the_system_is_read(rt: HostRuntime) -> Result<(), Fail> {
+    fs::write(&rt, "a.json", "[]")?;
+    for (rows, faults) in [(READINGS.as_slice(), 0), (OF_A_FOLDER.as_slice(), 1)] {
+        let told = wrong_of_system(rt, rows)?;
+        assert!(rt; told == (None, faults), "{told:?}");
+    }
     Ok(())
 }

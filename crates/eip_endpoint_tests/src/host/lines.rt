@@ -1,5 +1,6 @@
 use crate::host::pieces::Pieces;
-use eip_endpoint::{PullFault, Pulled, Refusal, Source};
+use crate::pulls::{Wanted, gives, long};
+use eip_endpoint::{Refusal, Source};
 use eip_exchange::End;
 use eip_frames::Target;
 use eip_host::ReaderLink;
@@ -9,132 +10,159 @@ use eip_uri::Uri;
 use std::alloc::Global;
 use std::test::Fail;
 
-/// What a pull is to give.
-#[derive(Clone, Copy)]
-enum Wanted {
-    /// An item of this name with this body.
-    Item(&'static str, &'static str),
-    /// An item of this name with a body of this length.
-    Long(&'static str, usize),
-    /// An item of this name that is refused for this cause.
-    Refused(&'static str, Refusal),
-    End,
-    Failed,
-}
-
-impl Wanted {
-    /// Whether a pull gave it.
-    fn is(self, given: &Result<Pulled, PullFault>) -> bool {
-        match (self, given) {
-            (Wanted::Item(name, body), Ok(Pulled::Item { item, message })) => {
-                item.as_str() == name && message.body.as_str() == body
-            }
-            (Wanted::Long(name, length), Ok(Pulled::Item { item, message })) => {
-                item.as_str() == name && message.body.bytes().len() == length
-            }
-            (Wanted::Refused(name, reason), Ok(Pulled::Refused { item, cause })) => {
-                item.as_str() == name && *cause == reason
-            }
-            (Wanted::End, Ok(Pulled::End)) => true,
-            (Wanted::Failed, Err(PullFault::Failed)) => true,
-            _ => false,
-        }
-    }
-}
-
 /// Pulls from the lines of a reader once for each that is wanted: the count of faults, or none where another was given.
-fn faults_behind(
-    alloc: Global,
-    reader: Pieces<'_>,
-    wanted: &[Wanted],
-) -> Result<Option<u64>, NoMemory> {
+fn faults_behind(alloc: Global, reader: Pieces<'_>, wanted: &[Wanted]) -> Option<u64> {
     let mut source = LineSource::new(alloc, ReaderLink::new(reader));
-    for next in wanted {
-        if !next.is(&source.pull(&Uri::StreamIn)) {
-            return Ok(None);
-        }
+    if !gives(&mut source, wanted) {
+        return None;
     }
-    Ok(Some(source.link.faults.saturating_add(source.endless)))
+    Some(source.link.faults.saturating_add(source.endless))
 }
+
+static FIVE_LINES: [Wanted; 7] = [
+    Wanted::Item("1", "a"),
+    Wanted::Item("2", "bc"),
+    Wanted::Item("3", ""),
+    Wanted::Item("4", "\r"),
+    Wanted::Item("5", "d\r"),
+    Wanted::End,
+    Wanted::End,
+];
 
 #[test]
 fn lines_are_the_same_whatever_the_pieces(rt: HostRuntime) -> Result<(), Fail> {
-    let wanted = [
-        Wanted::Item("1", "a"),
-        Wanted::Item("2", "bc"),
-        Wanted::Item("3", ""),
-        Wanted::Item("4", "\r"),
-        Wanted::Item("5", "d\r"),
-        Wanted::End,
-        Wanted::End,
-    ];
     let bytes = b"a\r\nbc\n\n\r\r\nd\r".as_slice();
     for size in 1..=bytes.len() {
-        let reader = Pieces::new(bytes, size, 0);
-        let faults = faults_behind(rt.alloc(), reader, &wanted)?;
+        let faults = faults_behind(rt.alloc(), Pieces::new(bytes, size, 0), &FIVE_LINES);
         assert!(rt; faults == Some(0), "by {size}");
     }
     Ok(())
 }
 
+/// What is read by pieces of so many bytes, the number of the call that fails, what is to be given of it, and the count of faults.
+type Row = (&'static [u8], usize, u64, &'static [Wanted], u64);
+
+/// Whether this is given.
+fn is_given(alloc: Global, row: &Row) -> bool {
+    let (bytes, size, failing, wanted, faults) = row;
+    faults_behind(alloc, Pieces::new(bytes, *size, *failing), wanted) == Some(*faults)
+}
+
+static EMPTY_LAST: [Row; 2] = [
+    (b"", 10, 0, &[Wanted::End], 0),
+    (b"a\n", 10, 0, &[Wanted::Item("1", "a"), Wanted::End], 0),
+];
+
 #[test]
 fn an_empty_last_line_is_none(rt: HostRuntime) -> Result<(), Fail> {
-    let none = faults_behind(rt.alloc(), Pieces::new(b"", 10, 0), &[Wanted::End])?;
-    assert!(rt; none == Some(0));
-    let wanted = [Wanted::Item("1", "a"), Wanted::End];
-    let one = faults_behind(rt.alloc(), Pieces::new(b"a\n", 10, 0), &wanted)?;
-    assert!(rt; one == Some(0));
+    for (number, row) in EMPTY_LAST.iter().enumerate() {
+        assert!(rt; is_given(rt.alloc(), row), "row {number}");
+    }
     Ok(())
 }
+
+static REFUSED: Row = (
+    b"\xff\nok\n",
+    10,
+    0,
+    &[
+        Wanted::Refused("1", Refusal::NotText),
+        Wanted::Item("2", "ok"),
+    ],
+    0,
+);
 
 #[test]
 fn a_refused_line_counts(rt: HostRuntime) -> Result<(), Fail> {
-    let wanted = [
-        Wanted::Refused("1", Refusal::NotText),
-        Wanted::Item("2", "ok"),
-    ];
-    let faults = faults_behind(rt.alloc(), Pieces::new(b"\xff\nok\n", 10, 0), &wanted)?;
-    assert!(rt; faults == Some(0));
+    assert!(rt; is_given(rt.alloc(), &REFUSED));
     Ok(())
 }
 
-/// So many times `x` between a front and an end.
-fn long(alloc: Global, front: &[u8], count: usize, end: &[u8]) -> Result<Vec<u8>, NoMemory> {
-    let middle = vec![in alloc; b'x'; count]?;
-    let mut bytes = Vec::new(alloc);
-    bytes.extend_from_slice(front)?;
-    bytes.extend_from_slice(middle.as_slice())?;
-    bytes.extend_from_slice(end)?;
-    Ok(bytes)
+/// A line that is long, by its front, the count of `x` behind that, its end and the size of the pieces that it comes in,
+/// with what is to be given of it and the count of faults.
+type Long = (
+    &'static [u8],
+    usize,
+    &'static [u8],
+    usize,
+    &'static [Wanted],
+    u64,
+);
+
+/// Whether this is given of it.
+fn is_given_of(alloc: Global, row: &Long) -> Result<bool, NoMemory> {
+    let (front, count, end, size, wanted, faults) = row;
+    let bytes = long(alloc, front, *count, end)?;
+    let reader = Pieces::new(bytes.as_slice(), *size, 0);
+    Ok(faults_behind(alloc, reader, wanted) == Some(*faults))
 }
+
+static BODIES: [Long; 2] = [
+    (
+        b"",
+        65_536,
+        b"\r\n",
+        50_000,
+        &[Wanted::Long("1", 65_536)],
+        0,
+    ),
+    (
+        b"\xff",
+        65_536,
+        b"\r\n",
+        50_000,
+        &[Wanted::Refused("1", Refusal::TooLong)],
+        0,
+    ),
+];
 
 #[test]
 fn a_body_has_at_most_65536_bytes(rt: HostRuntime) -> Result<(), Fail> {
-    let bytes = long(rt.alloc(), b"", 65_536, b"\r\n")?;
-    let reader = Pieces::new(bytes.as_slice(), 50_000, 0);
-    let most = faults_behind(rt.alloc(), reader, &[Wanted::Long("1", 65_536)])?;
-    assert!(rt; most == Some(0));
-    let bytes = long(rt.alloc(), b"\xff", 65_536, b"\r\n")?;
-    let reader = Pieces::new(bytes.as_slice(), 50_000, 0);
-    let wanted = [Wanted::Refused("1", Refusal::TooLong)];
-    let more = faults_behind(rt.alloc(), reader, &wanted)?;
-    assert!(rt; more == Some(0));
+    for (number, row) in BODIES.iter().enumerate() {
+        assert!(rt; is_given_of(rt.alloc(), row)?, "row {number}");
+    }
     Ok(())
 }
 
+static LINES: [Long; 2] = [
+    (
+        b"",
+        1_048_575,
+        b"\nb\n",
+        50_000,
+        &[Wanted::Refused("1", Refusal::TooLong)],
+        0,
+    ),
+    (
+        b"",
+        1_048_576,
+        b"\nb\n",
+        60_000,
+        &[Wanted::Failed, Wanted::Failed],
+        2,
+    ),
+];
+
 #[test]
 fn a_line_ends_within_1048576_bytes(rt: HostRuntime) -> Result<(), Fail> {
-    let bytes = long(rt.alloc(), b"", 1_048_575, b"\nb\n")?;
-    let reader = Pieces::new(bytes.as_slice(), 50_000, 0);
-    let wanted = [Wanted::Refused("1", Refusal::TooLong)];
-    let ended = faults_behind(rt.alloc(), reader, &wanted)?;
-    assert!(rt; ended == Some(0));
-    let bytes = long(rt.alloc(), b"", 1_048_576, b"\nb\n")?;
-    let reader = Pieces::new(bytes.as_slice(), 60_000, 0);
-    let endless = faults_behind(rt.alloc(), reader, &[Wanted::Failed, Wanted::Failed])?;
-    assert!(rt; endless == Some(2));
+    for (number, row) in LINES.iter().enumerate() {
+        assert!(rt; is_given_of(rt.alloc(), row)?, "row {number}");
+    }
     Ok(())
 }
+
+static FAILED_FIRST: Row = (
+    b"ab\ncd\n",
+    2,
+    2,
+    &[
+        Wanted::Failed,
+        Wanted::Item("1", "ab"),
+        Wanted::Item("2", "cd"),
+        Wanted::End,
+    ],
+    1,
+);
 
 /// Whether a source of no lines takes the end of an item.
 fn is_committed(alloc: Global) -> Result<bool, NoMemory> {
@@ -149,26 +177,27 @@ fn is_committed(alloc: Global) -> Result<bool, NoMemory> {
 
 #[test]
 fn a_failed_reading_is_counted_and_loses_no_byte(rt: HostRuntime) -> Result<(), Fail> {
-    let wanted = [
-        Wanted::Failed,
-        Wanted::Item("1", "ab"),
-        Wanted::Item("2", "cd"),
-        Wanted::End,
-    ];
-    let faults = faults_behind(rt.alloc(), Pieces::new(b"ab\ncd\n", 2, 2), &wanted)?;
-    assert!(rt; faults == Some(1));
+    assert!(rt; is_given(rt.alloc(), &FAILED_FIRST));
     assert!(rt; is_committed(rt.alloc())?);
     Ok(())
+}
+
+/// Whether a reader of two bytes as a link counts a fault where it is written to, and then gives them.
+fn is_not_written_to(target: &Target) -> [bool; 4] {
+    let mut link = ReaderLink::new(Pieces::new(b"ab", 2, 0));
+    let mut piece = [0; 4];
+    [
+        link.write(target, b"c") == Err(LinkFault::Failed),
+        link.faults == 1,
+        link.read(&Uri::StreamIn, &mut piece) == Ok(2),
+        piece[..2] == b"ab"[..],
+    ]
 }
 
 #[test]
 fn nothing_is_written_to_a_reader(rt: HostRuntime) -> Result<(), Fail> {
     let target = Target::Lane(Text::of_str(rt.alloc(), "a")?);
-    let mut link = ReaderLink::new(Pieces::new(b"ab", 2, 0));
-    assert!(rt; link.write(&target, b"c") == Err(LinkFault::Failed));
-    assert!(rt; link.faults == 1);
-    let mut piece = [0; 4];
-    assert!(rt; link.read(&Uri::StreamIn, &mut piece) == Ok(2));
-    assert!(rt; piece[..2] == b"ab"[..]);
+    let told = is_not_written_to(&target);
+    assert!(rt; told == [true; 4]);
     Ok(())
 }

@@ -1,11 +1,10 @@
+use crate::file_calls::Found;
 use crate::host::pieces::Pieces;
-use eip_endpoint::{FileRead, Files, FilesFault, Sink, SinkFault};
+use eip_endpoint::{Sink, SinkFault};
 use eip_host::files::read_within;
 use eip_host::words::{HELP, VERSION};
-use eip_host::{HostFileSystem, HostFiles, Output, say};
-use eip_text::Text;
+use eip_host::{Output, say};
 use std::alloc::Global;
-use std::fs;
 use std::io::{Error, ErrorKind, Write};
 use std::test::Fail;
 
@@ -42,85 +41,79 @@ fn output_of(alloc: Global, failing: u64) -> Output<Kept> {
     })
 }
 
+/// Whether a piece and a text behind it are written to their ends.
+fn is_written_whole(alloc: Global) -> [bool; 3] {
+    let mut out = output_of(alloc, 0);
+    [
+        out.write(b"abcde").is_ok(),
+        say(&mut out, "f\n", 0) == 0,
+        out.writer.bytes.as_slice() == b"abcdef\n".as_slice(),
+    ]
+}
+
 #[test]
 fn a_piece_is_written_to_its_end(rt: HostRuntime) -> Result<(), Fail> {
-    let mut out = output_of(rt.alloc(), 0);
-    assert!(rt; out.write(b"abcde").is_ok());
-    assert!(rt; say(&mut out, "f\n", 0) == 0);
-    assert!(rt; out.writer.bytes.as_slice() == b"abcdef\n".as_slice());
+    let told = is_written_whole(rt.alloc());
+    assert!(rt; told == [true; 3]);
     Ok(())
+}
+
+/// Whether an output that fails its second call writes the front alone, and counts that.
+fn is_counted(alloc: Global) -> [bool; 3] {
+    let mut out = output_of(alloc, 2);
+    [
+        out.write(b"abcde") == Err(SinkFault::Failed),
+        out.faults == 1,
+        out.writer.bytes.as_slice() == b"ab".as_slice(),
+    ]
+}
+
+/// The status behind a text that is not written, where it would be this one.
+fn status_unwritten(alloc: Global, status: u8) -> u8 {
+    say(&mut output_of(alloc, 1), "x", status)
 }
 
 #[test]
 fn a_failed_writing_is_counted_behind_the_front(rt: HostRuntime) -> Result<(), Fail> {
-    let mut out = output_of(rt.alloc(), 2);
-    assert!(rt; out.write(b"abcde") == Err(SinkFault::Failed));
-    assert!(rt; out.faults == 1);
-    assert!(rt; out.writer.bytes.as_slice() == b"ab".as_slice());
-    assert!(rt; say(&mut output_of(rt.alloc(), 1), "x", 0) == 2);
-    assert!(rt; say(&mut output_of(rt.alloc(), 1), "x", 5) == 5);
+    let told = is_counted(rt.alloc());
+    assert!(rt; told == [true; 3]);
+    for (status, answered) in [(0, 2), (5, 5)] {
+        assert!(rt; status_unwritten(rt.alloc(), status) == answered);
+    }
     Ok(())
 }
 
-/// Whether these bytes were read.
-fn is_bytes(read: &Result<FileRead, FilesFault>, wanted: &[u8]) -> bool {
-    match read {
-        Ok(FileRead::Bytes(bytes)) => bytes.items() == wanted,
-        _ => false,
-    }
+/// A size of pieces, the number of the call that fails, the limit, what is read of `abcde`, and what is left of it.
+static READINGS: [(usize, u64, usize, Found, &[u8]); 3] = [
+    (2, 0, 5, Found::Bytes(b"abcde"), b""),
+    (100, 0, 3, Found::TooLong, b"e"),
+    (2, 2, 5, Found::Failed, b"cde"),
+];
+
+/// Whether this is read, and this is left.
+fn is_read(
+    alloc: Global,
+    size: usize,
+    failing: u64,
+    limit: usize,
+    wanted: Found,
+    left: &[u8],
+) -> bool {
+    let mut reader = Pieces::new(b"abcde", size, failing);
+    wanted.is(&read_within(alloc, &mut reader, limit)) && reader.bytes == left
 }
 
 #[test]
 fn a_reader_is_read_within_the_limit(rt: HostRuntime) -> Result<(), Fail> {
-    let mut whole = Pieces::new(b"abcde", 2, 0);
-    assert!(rt; is_bytes(&read_within(rt.alloc(), &mut whole, 5), b"abcde"));
-    let mut longer = Pieces::new(b"abcde", 100, 0);
-    let read = read_within(rt.alloc(), &mut longer, 3);
-    assert!(rt; matches!(read, Ok(FileRead::TooLong)));
-    assert!(rt; longer.bytes == b"e".as_slice());
-    let mut broken = Pieces::new(b"abcde", 2, 2);
-    let read = read_within(rt.alloc(), &mut broken, 5);
-    assert!(rt; matches!(read, Err(FilesFault::Failed)));
-    Ok(())
-}
-
-/// Reads a file of a folder.
-fn read_at<F: Files>(
-    alloc: Global,
-    files: &mut F,
-    folder: &str,
-    name: &str,
-    limit: usize,
-) -> Result<FileRead, FilesFault> {
-    let Ok(folder) = Text::of_str(alloc, folder) else {
-        return Err(FilesFault::NoMemory);
-    };
-    let Ok(name) = Text::of_str(alloc, name) else {
-        return Err(FilesFault::NoMemory);
-    };
-    files.read(&folder, &name, limit)
-}
-
-#[test]
-fn a_file_of_the_system_is_read(rt: HostRuntime) -> Result<(), Fail> {
-    fs::write(&rt, "a.json", "[]")?;
-    let alloc = rt.alloc();
-    let mut files = HostFiles::new(alloc, HostFileSystem { runtime: rt });
-    let read = read_at(alloc, &mut files, ".", "a.json", 2);
-    assert!(rt; is_bytes(&read, b"[]"));
-    let read = read_at(alloc, &mut files, ".", "a.json", 1);
-    assert!(rt; matches!(read, Ok(FileRead::TooLong)));
-    let read = read_at(alloc, &mut files, ".", "b.json", 2);
-    assert!(rt; matches!(read, Ok(FileRead::Missing)));
-    assert!(rt; files.faults == 0);
-    let read = read_at(alloc, &mut files, "/", ".", 2);
-    assert!(rt; matches!(read, Err(FilesFault::Failed)));
-    assert!(rt; files.faults == 1);
+    for (row, (size, failing, limit, wanted, left)) in READINGS.iter().enumerate() {
+        let told = is_read(rt.alloc(), *size, *failing, *limit, *wanted, left);
+        assert!(rt; told, "row {row}");
+    }
     Ok(())
 }
 
 /// What the page of help tells of each command, option and status.
-const TOLD: [&str; 23] = [
+static TOLD: [&str; 23] = [
     "\n  eip drain ROUTES [--workers N] [--turns N] [--journal FILE]\n",
     "\n  eip check ROUTES   ",
     "\n  eip audit ROUTES JOURNAL\n",
@@ -148,7 +141,7 @@ const TOLD: [&str; 23] = [
 
 #[test]
 fn the_page_of_help_tells_each_command_and_status(rt: HostRuntime) -> Result<(), Fail> {
-    for part in TOLD {
+    for &part in &TOLD {
         assert!(rt; HELP.contains(part), "no {part}");
     }
     assert!(rt; VERSION == "eip 0.1.0\n");

@@ -2,7 +2,8 @@ ghost use Rattle.std.specs.Prelude.{◌≡◌};
 ghost use Rattle.eip_text.specs.Causes.{Rises};
 
 use crate::lines::lanes::link_of;
-use eip_endpoint::{PullFault, Pulled, Refusal, Source};
+use crate::pulls::{Wanted, gives, long};
+use eip_endpoint::{Refusal, Source};
 use eip_exchange::End;
 use eip_frames::Target;
 use eip_line::{LineSource, Link, LinkFault};
@@ -69,49 +70,6 @@ impl Link for Pieces<'_> {
     }
 }
 
-/// What a pull is to give.
-#[derive(Clone, Copy)]
-enum Wanted {
-    /// An item of this name with this body.
-    Item(&'static str, &'static str),
-    /// An item of this name with a body of this length.
-    Long(&'static str, usize),
-    /// An item of this name that is refused for this cause.
-    Refused(&'static str, Refusal),
-    End,
-    Failed,
-}
-
-impl Wanted {
-    /// Whether a pull gave it.
-    fn is(self, given: &Result<Pulled, PullFault>) -> bool {
-        match (self, given) {
-            (Wanted::Item(name, body), Ok(Pulled::Item { item, message })) => {
-                item.as_str() == name && message.body.as_str() == body
-            }
-            (Wanted::Long(name, length), Ok(Pulled::Item { item, message })) => {
-                item.as_str() == name && message.body.bytes().len() == length
-            }
-            (Wanted::Refused(name, reason), Ok(Pulled::Refused { item, cause })) => {
-                item.as_str() == name && *cause == reason
-            }
-            (Wanted::End, Ok(Pulled::End)) => true,
-            (Wanted::Failed, Err(PullFault::Failed)) => true,
-            _ => false,
-        }
-    }
-}
-
-/// Whether these are given, one by each pull.
-fn gives<S: Source>(source: &mut S, wanted: &[Wanted]) -> bool {
-    for next in wanted {
-        if !next.is(&source.pull(&Uri::StreamIn)) {
-            return false;
-        }
-    }
-    true
-}
-
 /// Pulls from the lines of a link once for each that is wanted: how many pulls failed by the link and how many met a
 /// line without end, or none where another was given.
 fn faults_behind(alloc: Global, link: Pieces<'_>, wanted: &[Wanted]) -> Option<(u64, u64)> {
@@ -160,16 +118,6 @@ fn a_refused_line_counts(rt: HostRuntime) -> Result<(), Fail> {
     let faults = faults_behind(rt.alloc(), Pieces::new(b"\xff\nok\n", 10, 0), &wanted);
     assert!(rt; faults == Some((0, 0)));
     Ok(())
-}
-
-/// So many times `x` between a front and an end.
-fn long(alloc: Global, front: &[u8], count: usize, end: &[u8]) -> Result<Vec<u8>, NoMemory> {
-    let middle = vec![in alloc; b'x'; count]?;
-    let mut bytes = Vec::new(alloc);
-    bytes.extend_from_slice(front)?;
-    bytes.extend_from_slice(middle.as_slice())?;
-    bytes.extend_from_slice(end)?;
-    Ok(bytes)
 }
 
 /// A line that is long, by its front, the count of `x` behind that, its end and the size of the pieces that it comes in,

@@ -30,14 +30,15 @@ fn content_of(
     Ok(content)
 }
 
-/// Files in memory, by folder, name and bytes, and by the number of the call that is to fail.
+/// Files in memory, by folder, name and bytes, of whose calls those of the failing numbers fail.
 pub fn files_of(
     alloc: Global,
     rows: &[(&str, &str, &[u8])],
-    failing: u64,
+    failing: &[u64],
 ) -> Result<MemoryFiles, NoMemory> {
-    let content = content_of(alloc, rows)?;
-    Ok(MemoryFiles::new(alloc, content, vec![in alloc; failing]?))
+    let mut numbers = Vec::new(alloc);
+    numbers.extend_from_slice(failing)?;
+    Ok(MemoryFiles::new(alloc, content_of(alloc, rows)?, numbers))
 }
 
 /// Whether there is a file of this folder and name, and it holds these bytes.
