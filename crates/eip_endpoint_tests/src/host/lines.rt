@@ -1,5 +1,5 @@
 use crate::host::pieces::Pieces;
-use crate::pulls::{Wanted, gives, long};
+use crate::pulls::{BODIES, FIVE_LINES, LINES, Long, OF_FIVE_LINES, Wanted, gives, long};
 use eip_endpoint::{Refusal, Source};
 use eip_exchange::End;
 use eip_frames::Target;
@@ -19,21 +19,11 @@ fn faults_behind(alloc: Global, reader: Pieces<'_>, wanted: &[Wanted]) -> Option
     Some(source.link.faults.saturating_add(source.endless))
 }
 
-static FIVE_LINES: [Wanted; 7] = [
-    Wanted::Item("1", "a"),
-    Wanted::Item("2", "bc"),
-    Wanted::Item("3", ""),
-    Wanted::Item("4", "\r"),
-    Wanted::Item("5", "d\r"),
-    Wanted::End,
-    Wanted::End,
-];
-
 #[test]
 fn lines_are_the_same_whatever_the_pieces(rt: HostRuntime) -> Result<(), Fail> {
-    let bytes = b"a\r\nbc\n\n\r\r\nd\r".as_slice();
-    for size in 1..=bytes.len() {
-        let faults = faults_behind(rt.alloc(), Pieces::new(bytes, size, 0), &FIVE_LINES);
+    for size in 1..=FIVE_LINES.len() {
+        let reader = Pieces::new(FIVE_LINES, size, 0);
+        let faults = faults_behind(rt.alloc(), reader, &OF_FIVE_LINES);
         assert!(rt; faults == Some(0), "by {size}");
     }
     Ok(())
@@ -78,17 +68,6 @@ fn a_refused_line_counts(rt: HostRuntime) -> Result<(), Fail> {
     Ok(())
 }
 
-/// A line that is long, by its front, the count of `x` behind that, its end and the size of the pieces that it comes in,
-/// with what is to be given of it and the count of faults.
-type Long = (
-    &'static [u8],
-    usize,
-    &'static [u8],
-    usize,
-    &'static [Wanted],
-    u64,
-);
-
 /// Whether this is given of it.
 fn is_given_of(alloc: Global, row: &Long) -> Result<bool, NoMemory> {
     let (front, count, end, size, wanted, faults) = row;
@@ -97,25 +76,6 @@ fn is_given_of(alloc: Global, row: &Long) -> Result<bool, NoMemory> {
     Ok(faults_behind(alloc, reader, wanted) == Some(*faults))
 }
 
-static BODIES: [Long; 2] = [
-    (
-        b"",
-        65_536,
-        b"\r\n",
-        50_000,
-        &[Wanted::Long("1", 65_536)],
-        0,
-    ),
-    (
-        b"\xff",
-        65_536,
-        b"\r\n",
-        50_000,
-        &[Wanted::Refused("1", Refusal::TooLong)],
-        0,
-    ),
-];
-
 #[test]
 fn a_body_has_at_most_65536_bytes(rt: HostRuntime) -> Result<(), Fail> {
     for (number, row) in BODIES.iter().enumerate() {
@@ -123,25 +83,6 @@ fn a_body_has_at_most_65536_bytes(rt: HostRuntime) -> Result<(), Fail> {
     }
     Ok(())
 }
-
-static LINES: [Long; 2] = [
-    (
-        b"",
-        1_048_575,
-        b"\nb\n",
-        50_000,
-        &[Wanted::Refused("1", Refusal::TooLong)],
-        0,
-    ),
-    (
-        b"",
-        1_048_576,
-        b"\nb\n",
-        60_000,
-        &[Wanted::Failed, Wanted::Failed],
-        2,
-    ),
-];
 
 #[test]
 fn a_line_ends_within_1048576_bytes(rt: HostRuntime) -> Result<(), Fail> {

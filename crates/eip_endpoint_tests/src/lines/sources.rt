@@ -2,7 +2,7 @@ ghost use Rattle.std.specs.Prelude.{◌≡◌};
 ghost use Rattle.eip_text.specs.Causes.{Rises};
 
 use crate::lines::lanes::link_of;
-use crate::pulls::{Wanted, gives, long};
+use crate::pulls::{BODIES, FIVE_LINES, LINES, Long, OF_FIVE_LINES, Wanted, gives, long};
 use eip_endpoint::{Refusal, Source};
 use eip_exchange::End;
 use eip_frames::Target;
@@ -82,18 +82,9 @@ fn faults_behind(alloc: Global, link: Pieces<'_>, wanted: &[Wanted]) -> Option<(
 
 #[test]
 fn lines_are_the_same_whatever_the_pieces(rt: HostRuntime) -> Result<(), Fail> {
-    let wanted = [
-        Wanted::Item("1", "a"),
-        Wanted::Item("2", "bc"),
-        Wanted::Item("3", ""),
-        Wanted::Item("4", "\r"),
-        Wanted::Item("5", "d\r"),
-        Wanted::End,
-        Wanted::End,
-    ];
     for size in [1, 3, 1_000] {
-        let link = Pieces::new(b"a\r\nbc\n\n\r\r\nd\r", size, 0);
-        let faults = faults_behind(rt.alloc(), link, &wanted);
+        let link = Pieces::new(FIVE_LINES, size, 0);
+        let faults = faults_behind(rt.alloc(), link, &OF_FIVE_LINES);
         assert!(rt; faults == Some((0, 0)), "by {size}");
     }
     Ok(())
@@ -120,43 +111,13 @@ fn a_refused_line_counts(rt: HostRuntime) -> Result<(), Fail> {
     Ok(())
 }
 
-/// A line that is long, by its front, the count of `x` behind that, its end and the size of the pieces that it comes in,
-/// with what is to be given of it and how many pulls are to meet a line without end.
-type Row = (
-    &'static [u8],
-    usize,
-    &'static [u8],
-    usize,
-    &'static [Wanted],
-    u64,
-);
-
 /// Whether this is given of it.
-fn is_given(alloc: Global, row: &Row) -> Result<bool, NoMemory> {
+fn is_given(alloc: Global, row: &Long) -> Result<bool, NoMemory> {
     let (front, count, end, size, wanted, endless) = row;
     let bytes = long(alloc, front, *count, end)?;
     let link = Pieces::new(bytes.as_slice(), *size, 0);
     Ok(faults_behind(alloc, link, wanted) == Some((0, *endless)))
 }
-
-static BODIES: [Row; 2] = [
-    (
-        b"",
-        65_536,
-        b"\r\n",
-        50_000,
-        &[Wanted::Long("1", 65_536)],
-        0,
-    ),
-    (
-        b"\xff",
-        65_536,
-        b"\r\n",
-        50_000,
-        &[Wanted::Refused("1", Refusal::TooLong)],
-        0,
-    ),
-];
 
 #[test]
 fn a_body_has_at_most_65536_bytes(rt: HostRuntime) -> Result<(), Fail> {
@@ -165,28 +126,6 @@ fn a_body_has_at_most_65536_bytes(rt: HostRuntime) -> Result<(), Fail> {
     }
     Ok(())
 }
-
-static LINES: [Row; 2] = [
-    (
-        b"",
-        1_048_575,
-        b"\nb\n",
-        50_000,
-        &[
-            Wanted::Refused("1", Refusal::TooLong),
-            Wanted::Item("2", "b"),
-        ],
-        0,
-    ),
-    (
-        b"",
-        1_048_576,
-        b"\nb\n",
-        60_000,
-        &[Wanted::Failed, Wanted::Failed],
-        2,
-    ),
-];
 
 #[test]
 fn a_line_ends_within_1048576_bytes(rt: HostRuntime) -> Result<(), Fail> {
