@@ -43,16 +43,25 @@ impl Model for Journal {
     ghost invariant = { λ j. vec_len j.entries + length j.letters.items ≤ vec_capacity j.entries };
 }
 
-/// Room for so many more messages, of which each is empty; on `NoMemory` none.
-fn new_letters(alloc: Global, count: usize) -> Result<Vec<Boxed<Message>>, NoMemory>
-    ensures { IfOk result (λ v. length v.items ≡ count) }
+/// Room for one more message, which is empty.
+fn new_letter(alloc: Global) -> Result<Boxed<Message>, NoMemory> {
+    Boxed::of(alloc, Message::of_body(alloc, Text::of(String::new(alloc))))
+}
+
+/// Room for so many messages, with what is there; on `NoMemory` there may be less than asked for.
+fn add_letters(
+    alloc: Global,
+    letters: &mut Vec<Boxed<Message>>,
+    count: usize,
+) -> Result<(), NoMemory>
+    ensures more { length letters.old.items ≤ length letters.new.items }
+    ensures ok { OnOk result (count ≤ length letters.new.items) }
+    ensures within { length letters.new.items ≤ length letters.old.items + (count - length letters.old.items) }
 {
-    let mut letters = Vec::with_capacity(alloc, count)?;
-    for _index in 0..count {
-        let empty = Message::of_body(alloc, Text::of_str(alloc, "")?);
-        letters.push(Boxed::of(alloc, empty)?)?;
+    for _index in letters.len()..count {
+        letters.push(new_letter(alloc)?)?;
     }
-    Ok(letters)
+    Ok(())
 }
 
 /// Room for so many messages, with what is there; on `NoMemory` there is as much as before.
@@ -66,11 +75,12 @@ fn make_letters(
     ensures within { length letters.new.items ≤ length letters.old.items + (count - length letters.old.items) }
     ensures err { OnErr result (length letters.new.items ≡ length letters.old.items) }
 {
-    if letters.len() < count {
-        let mut fresh = new_letters(alloc, count - letters.len())?;
-        letters.append(&mut fresh)?;
+    let before = letters.len();
+    let made = add_letters(alloc, letters, count);
+    if made.is_err() {
+        letters.truncate(before);
     }
-    Ok(())
+    made
 }
 
 impl Journal {
