@@ -1,6 +1,7 @@
 -- A sequential fan-out between two of its parts.
 use Rattle.std.proofs.Common.{◌≡◌, ℕ, ◌-◌, Bool, true, false, List, [], ◌∷◌, ◌++◌, length, refl, sym, ◌∙◌, ap, arith, length-append}
-use Rattle.std.specs.Prelude.{Option, Some, None, MatchOption, slice_get, unwrap_or, is_some, ◌&&◌, reverse}
+use Rattle.std.specs.Prelude.{Option, Some, None, MatchOption, Result, Ok, Err, IfOk, slice_get, unwrap_or, is_some, ◌&&◌, reverse}
+use Rattle.eip_text.specs.declared.memory.NoMemory.{NoMemory}
 use Rattle.std.proofs.lemmas.List.{reverse-append, reverse-reverse}
 use Rattle.eip_exchange.specs.declared.message.Message.{Message}
 use Rattle.eip_exchange.specs.declared.end.Ended.{Ended}
@@ -24,7 +25,6 @@ use Rattle.eip_meaning.specs.Parts.{first_fault}
 use Rattle.eip_progress.specs.declared.tried.Progress.{Progress}
 use Rattle.eip_progress.specs.declared.tried.Progress.TheVariants as progress
 use Rattle.eip_progress.specs.declared.tried.Tried.{Tried}
-use Rattle.eip_progress.specs.declared.tried.Tried.TheVariants as tried
 use Rattle.eip_progress.specs.declared.frame.Task.{Task}
 use Rattle.eip_progress.specs.declared.frame.Task.TheVariants as task
 use Rattle.eip_progress.specs.declared.frame.Wait.TheVariants as wait
@@ -110,8 +110,11 @@ module _ (set : RouteSet) (c : Context) where
     stays task.Whole f h v = absurd (none_some f)
 
 -- the clause of a wait, from that of what was asked
-pub stays_or : (set : RouteSet) (c : Context) (t : Task) (left : ℕ) (m : Message) (x y : Asking) (a : Reply) (o : Option Request) → fits x.request a ≡ true →
-    MatchOption o (y ≡ x) (λ q. (b : Bool) × (stop_in (step_found set t) ≡ Some b) × Moves b x a y × (y.request ≡ q)) →
-    MatchOption o (trying c t left m y ≡ trying c t left m x) (λ q. ((whole : Option Uri) (A : List Reply) → wait_mean set whole (trying c t left m y) A ≡ wait_mean set whole (trying c t left m x) (a ∷ A)) × (y.request ≡ q))
-stays_or set c t left m x y a None h e = ap (trying c t left m) e
-stays_or set c t left m x y a (Some q) h e = (λ whole A. stays set c whole left m e.0 x y a A t e.1 h e.2, e.3)
+pub stays_or : (set : RouteSet) (c : Context) (t : Task) (left : ℕ) (m : Message) (x y : Asking) (a : Reply) (stop : Option Bool) (r : Result (Option Request) NoMemory) →
+    fits x.request a ≡ true → stop ≡ stop_in (step_found set t) →
+    IfOk r (λ o. MatchOption o (y ≡ x) (λ q. (b : Bool) × (stop ≡ Some b) × Moves b x a y × (y.request ≡ q))) →
+    IfOk r (λ o. MatchOption o (trying c t left m y ≡ trying c t left m x)
+    (λ q. ((whole : Option Uri) (A : List Reply) → wait_mean set whole (trying c t left m y) A ≡ wait_mean set whole (trying c t left m x) (a ∷ A)) × (y.request ≡ q)))
+stays_or set c t left m x y a stop (Ok None) h s e = ap (trying c t left m) e
+stays_or set c t left m x y a stop (Ok (Some q)) h s e = (λ whole A. stays set c whole left m e.0 x y a A t (sym s ∙ e.1) h e.2, e.3)
+stays_or set c t left m x y a stop (Err n) h s e = tt

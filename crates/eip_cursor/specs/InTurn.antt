@@ -36,14 +36,6 @@ step_found set (task.Step b i) = slice_get (steps_of set b) i
 step_found set task.Dead = None
 step_found set task.Whole = None
 
--- a part that is waited for
-abbrev pub joining : Request → (index part : ℕ) → List Ended → List Seed → Asking
-joining q index part ended left = record { progress = progress.Joining part ended left; request = q; index = index }
-
--- a part that is asked for
-abbrev pub spawning : Request → (part : ℕ) → List Ended → List Seed → Asking
-spawning q part ended left = record { progress = progress.Spawning part ended left; request = q; index = part }
-
 -- the wait of a try
 abbrev pub trying : Context → Task → (left : ℕ) → Message → Asking → Wait
 trying c t left m x = wait.Trying c t left m x

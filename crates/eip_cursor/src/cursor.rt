@@ -156,22 +156,12 @@ fn answered_in_turn(
     ensures ok { IfOk result (λ o. MatchOption o (cursor.new ≡ cursor.old) (λ n. Follows set.now cursor.old (answer.now ∷ []) cursor.new n)) }
     ensures err { OnErr result (cursor.new ≡ cursor.old) }
 {
-    let state = mem::replace(&mut cursor.state, nothing(alloc));
-    match state {
-        State::Runs(wait) => match between_parts(alloc, set, wait, answer) {
-            Ok(moved) => {
-                drop(mem::replace(&mut cursor.state, State::Runs(moved.wait)));
-                Ok(next_of(moved.asked))
-            }
-            Err(wait) => {
-                drop(mem::replace(&mut cursor.state, State::Runs(wait)));
-                Err(NoMemory)
-            }
-        },
-        state => {
-            drop(mem::replace(&mut cursor.state, state));
-            Ok(None)
+    match &mut cursor.state {
+        State::Runs(wait) => {
+            let asked = between_parts(alloc, set, wait, answer)?;
+            Ok(next_of(asked))
         }
+        State::Starting(..) | State::Finishing(..) | State::Over(..) => Ok(None),
     }
 }
 
@@ -201,14 +191,6 @@ fn next_of(asked: Option<Request>) -> Option<Next>
         Some(request) => Some(Next::Asks(request)),
         None => None,
     }
-}
-
-/// The state of no exchange. It takes no memory.
-fn nothing(alloc: Global) -> State {
-    State::Over(
-        End::Completed,
-        Message::of_body(alloc, Text::of(String::new(alloc))),
-    )
 }
 
 /// By turns of the steps up to the next request; what they take is a copy.

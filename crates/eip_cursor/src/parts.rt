@@ -6,36 +6,21 @@ ghost use Rattle.eip_frames.specs.declared.answer.Answer.{Answer as AnAnswer};
 ghost use Rattle.eip_frames.specs.declared.request.Seed.{Seed as ASeed};
 ghost use Rattle.eip_meaning.specs.Outcomes.{fault_in};
 ghost use Rattle.eip_progress.specs.Rest.{wait_mean, request_of};
-ghost use Rattle.eip_cursor.specs.InTurn.{stop_in, step_found, trying, joining, spawning, Moves, TakesNext};
-ghost use Rattle.eip_route.specs.Faults.{next_number};
+ghost use Rattle.eip_progress.specs.declared.tried.Progress.TheVariants.{Joining as joined};
+ghost use Rattle.eip_cursor.specs.InTurn.{stop_in, step_found, Moves, TakesNext};
 
 use eip_copies::copy_seed;
-use eip_exchange::{Ended, Message};
+use eip_exchange::Ended;
 use eip_frames::{Answer, Request, Seed};
-use eip_meaning::Context;
 use eip_progress::{Asking, Progress, Queue, Task, Wait};
 use eip_route::{RouteSet, Step};
-use eip_text::{Boxed, NoMemory, Series};
+use eip_text::{NoMemory, Series};
 use eip_turns::fans::{one, parts_in, stops, waits};
 use eip_turns::step_at;
 use std::alloc::Global;
+use std::mem;
 
 // A sequential fan-out between two of its parts: its seeds, and the parts that have ended, stay where they are.
-
-/// What an answer makes of a wait, and what is asked then; nothing is, and the wait is as before, where there is more to do
-/// than to go on from one part to the next.
-#[derive(Drop)]
-pub struct Moved {
-    pub wait: Wait,
-    pub asked: Option<Request>,
-}
-
-/// The same of what a try has asked.
-#[derive(Drop)]
-struct Onward {
-    asking: Asking,
-    asked: Option<Request>,
-}
 
 /// Whether it is a sequential fan-out's, between two of its parts.
 pub fn is_between(wait: &Wait) -> bool {
@@ -52,117 +37,25 @@ fn is_in_turn(progress: &Progress) -> bool {
     )
 }
 
-/// Goes on from one part to the next. For want of memory the wait comes back.
+/// Goes on from one part to the next, and says what is asked then; nothing is, and the wait is as before, where there is more to do
+/// than that. On `NoMemory` it is as before.
 pub fn between_parts(
     alloc: Global,
     set: &RouteSet,
-    wait: Wait,
+    wait: &mut Wait,
     answer: &Answer,
-) -> Result<Moved, Wait>
-    requires { fits (request_of wait) answer.now ≡ true }
-    ensures { MatchResult result
-        (λ v. MatchOption v.asked (v.wait ≡ wait)
-        (λ q. ((whole : Option AUri) (A : List AnAnswer) → wait_mean set.now whole v.wait A ≡ wait_mean set.now whole wait (answer.now ∷ A)) × (request_of v.wait ≡ q)))
-        (λ w. w ≡ wait) }
+) -> Result<Option<Request>, NoMemory>
+    requires { fits (request_of wait.old) answer.now ≡ true }
+    ensures ok { IfOk result (λ o. MatchOption o (wait.new ≡ wait.old)
+        (λ q. ((whole : Option AUri) (A : List AnAnswer) → wait_mean set.now whole wait.new A ≡ wait_mean set.now whole wait.old (answer.now ∷ A)) × (request_of wait.new ≡ q))) }
+    ensures err { OnErr result (wait.new ≡ wait.old) }
 {
     match wait {
-        Wait::Trying {
-            context,
-            task,
-            left,
-            message,
-            asking,
-        } => try_between(alloc, set, context, task, left, message, asking, answer),
-        Wait::Sleeping {
-            context,
-            task,
-            left,
-            ticks,
-            message,
-        } => {
-            let wait = Wait::Sleeping {
-                context,
-                task,
-                left,
-                ticks,
-                message,
-            };
-            Ok(Moved { wait, asked: None })
+        Wait::Trying { task, asking, .. } => {
+            let stop = stop_of(set, *task);
+            next_asking(alloc, stop, asking.get_mut(), answer)
         }
-    }
-}
-
-fn try_between(
-    alloc: Global,
-    set: &RouteSet,
-    context: Context,
-    task: Task,
-    left: u32,
-    message: Message,
-    mut asking: Boxed<Asking>,
-    answer: &Answer,
-) -> Result<Moved, Wait>
-    requires { fits asking.request answer.now ≡ true }
-    ensures { MatchResult result
-        (λ v. MatchOption v.asked (v.wait ≡ trying context task left message asking)
-        (λ q. ((whole : Option AUri) (A : List AnAnswer) → wait_mean set.now whole v.wait A ≡ wait_mean set.now whole (trying context task left message asking) (answer.now ∷ A)) × (request_of v.wait ≡ q)))
-        (λ w. w ≡ trying context task left message asking) }
-{
-    let before = asking.replace(nothing_asked());
-    match of_task(alloc, set, task, before, answer) {
-        Ok(onward) => {
-            drop(asking.replace(onward.asking));
-            Ok(Moved {
-                wait: trying(context, task, left, message, asking),
-                asked: onward.asked,
-            })
-        }
-        Err(before) => {
-            drop(asking.replace(before));
-            Err(trying(context, task, left, message, asking))
-        }
-    }
-}
-
-/// What stands where a request is taken out. It takes no memory.
-fn nothing_asked() -> Asking {
-    Asking {
-        progress: Progress::First,
-        request: Request::Wait { ticks: 0 },
-        index: 0,
-    }
-}
-
-fn trying(context: Context, task: Task, left: u32, message: Message, asking: Boxed<Asking>) -> Wait
-    ensures { result ≡ trying context task left message asking }
-{
-    Wait::Trying {
-        context,
-        task,
-        left,
-        message,
-        asking,
-    }
-}
-
-fn of_task(
-    alloc: Global,
-    set: &RouteSet,
-    task: Task,
-    asking: Asking,
-    answer: &Answer,
-) -> Result<Onward, Asking>
-    ensures { MatchResult result
-        (λ v. MatchOption v.asked (v.asking ≡ asking)
-        (λ q. (stop : Bool) × (stop_in (step_found set.now task) ≡ Some stop) × Moves stop asking answer.now v.asking × (v.asking.request ≡ q)))
-        (λ x. x ≡ asking) }
-{
-    match stop_of(set, task) {
-        Some(stop) => next_asking(alloc, stop, asking, answer),
-        None => Ok(Onward {
-            asking,
-            asked: None,
-        }),
+        Wait::Sleeping { .. } => Ok(None),
     }
 }
 
@@ -191,58 +84,37 @@ fn stop_at(step: &Step) -> Option<bool>
     }
 }
 
-fn next_asking(alloc: Global, stop: bool, asking: Asking, answer: &Answer) -> Result<Onward, Asking>
-    ensures { MatchResult result
-        (λ v. MatchOption v.asked (v.asking ≡ asking) (λ q. Moves stop asking answer.now v.asking × (v.asking.request ≡ q)))
-        (λ x. x ≡ asking) }
+/// From what a fan-out that stops so, or not, has asked to what it asks next.
+fn next_asking(
+    alloc: Global,
+    stop: Option<bool>,
+    asking: &mut Asking,
+    answer: &Answer,
+) -> Result<Option<Request>, NoMemory>
+    ensures ok { IfOk result (λ o. MatchOption o (asking.new ≡ asking.old)
+        (λ q. (b : Bool) × (stop ≡ Some b) × Moves b asking.old answer.now asking.new × (asking.new.request ≡ q))) }
+    ensures err { OnErr result (asking.new ≡ asking.old) }
 {
+    let Some(stop) = stop else {
+        return Ok(None);
+    };
     if !is_of_parts(&asking.request) {
-        return Ok(Onward {
-            asking,
-            asked: None,
-        });
+        return Ok(None);
     }
-    let Asking {
-        progress,
-        request,
-        index,
-    } = asking;
-    match progress {
-        Progress::Spawning {
-            index: part,
-            ended,
-            left,
-        } => {
-            drop(request);
-            let asking = Asking {
-                progress: Progress::Joining {
-                    index: part,
-                    ended,
-                    left,
-                },
-                request: waits(answer),
-                index: part,
-            };
-            Ok(Onward {
-                asking,
-                asked: Some(waits(answer)),
-            })
+    match mem::replace(&mut asking.progress, Progress::First) {
+        Progress::Spawning { index, ended, left } => {
+            let asked = waits(answer);
+            asking.progress = Progress::Joining { index, ended, left };
+            asking.request = waits(answer);
+            asking.index = index;
+            Ok(Some(asked))
         }
-        Progress::Joining {
-            index: part,
-            ended,
-            left,
-        } => part_ended(alloc, stop, request, index, part, ended, left, answer),
-        progress => {
-            let asking = Asking {
-                progress,
-                request,
-                index,
-            };
-            Ok(Onward {
-                asking,
-                asked: None,
-            })
+        Progress::Joining { index, ended, left } => {
+            part_ended(alloc, stop, asking, index, ended, left, answer)
+        }
+        other => {
+            asking.progress = other;
+            Ok(None)
         }
     }
 }
@@ -258,78 +130,42 @@ fn is_of_parts(request: &Request) -> bool
     }
 }
 
+/// The next seed is asked for, where there is one and the fan-out goes on.
 fn part_ended(
     alloc: Global,
     stop: bool,
-    request: Request,
+    asking: &mut Asking,
     index: u32,
-    part: u32,
     ended: Series<Ended>,
     left: Queue<Seed>,
     answer: &Answer,
-) -> Result<Onward, Asking>
-    requires { (set : ARouteSet) → fault_in set request answer.now ≡ None }
-    ensures { MatchResult result
-        (λ v. MatchOption v.asked (v.asking ≡ joining request index part ended left)
-        (λ q. Moves stop (joining request index part ended left) answer.now v.asking × (v.asking.request ≡ q)))
-        (λ x. x ≡ joining request index part ended left) }
+) -> Result<Option<Request>, NoMemory>
+    requires { (set : ARouteSet) → fault_in set asking.old.request answer.now ≡ None }
+    ensures ok { IfOk result (λ o. MatchOption o (asking.new ≡ record asking.old { progress = joined index ended left })
+        (λ q. Moves stop (record asking.old { progress = joined index ended left }) answer.now asking.new × (asking.new.request ≡ q))) }
+    ensures err { OnErr result (asking.new ≡ record asking.old { progress = joined index ended left }) }
 {
     let mut ended = ended.into_vec();
     let mut left = left;
     match take_next(alloc, stop, &mut ended, &mut left, answer) {
-        Ok(taken) => Ok(behind_part(request, index, part, ended, left, taken)),
-        Err(NoMemory) => Err(joining(request, index, part, ended, left)),
-    }
-}
-
-/// The next seed is asked for, where there is one.
-fn behind_part(
-    request: Request,
-    index: u32,
-    part: u32,
-    ended: Vec<Ended>,
-    left: Queue<Seed>,
-    taken: Option<Taken>,
-) -> Onward
-    ensures { MatchOption taken ((result.asked ≡ None) × (result.asking ≡ joining request index part ended.items left))
-        (λ t. (result.asked ≡ Some t.asked) × (result.asking ≡ spawning t.kept (next_number part) ended.items left)) }
-{
-    match taken {
-        Some(taken) => {
-            drop(request);
-            let part = part.saturating_add(1);
-            let asking = Asking {
-                progress: Progress::Spawning {
-                    index: part,
-                    ended: Series::of(ended),
-                    left,
-                },
-                request: taken.kept,
-                index: part,
-            };
-            Onward {
-                asking,
-                asked: Some(taken.asked),
-            }
+        Ok(Some(taken)) => {
+            let index = index.saturating_add(1);
+            let ended = Series::of(ended);
+            asking.progress = Progress::Spawning { index, ended, left };
+            asking.request = taken.kept;
+            asking.index = index;
+            Ok(Some(taken.asked))
         }
-        None => Onward {
-            asking: joining(request, index, part, ended, left),
-            asked: None,
-        },
-    }
-}
-
-fn joining(request: Request, index: u32, part: u32, ended: Vec<Ended>, left: Queue<Seed>) -> Asking
-    ensures { result ≡ joining request index part ended.items left }
-{
-    Asking {
-        progress: Progress::Joining {
-            index: part,
-            ended: Series::of(ended),
-            left,
-        },
-        request,
-        index,
+        Ok(None) => {
+            let ended = Series::of(ended);
+            asking.progress = Progress::Joining { index, ended, left };
+            Ok(None)
+        }
+        Err(NoMemory) => {
+            let ended = Series::of(ended);
+            asking.progress = Progress::Joining { index, ended, left };
+            Err(NoMemory)
+        }
     }
 }
 

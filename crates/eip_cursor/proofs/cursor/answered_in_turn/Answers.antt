@@ -1,4 +1,3 @@
-use Rattle.std.proofs.Common.{sym, ◌∙◌}
 use Rattle.eip_meaning.specs.Meaning.{item_of}
 use Rattle.eip_progress.specs.Rest.{rest}
 use Rattle.eip_cursor.proofs.Fitting.{fits_wait}
@@ -8,10 +7,10 @@ use Rattle.eip_cursor.proofs.cursor.answered_in_turn.Goals as goal
 pub between_parts-requires : goal.between_parts-requires
 unfolding rest
 between_parts-requires c =
-    let h = rw (sym c.replace-state.ensures.value ∙ c.in-Runs.is) at c.requires in
+    let h = rw c.in-Runs.is at c.requires in
     fits_wait c.args.set.now c.args.cursor.now.commit (item_of c.args.cursor.now.origin) c.args.cursor.now.context c.args.cursor.now.whole c.args.cursor.now.stack.items c.in-Runs.wait c.args.answer.now h
 
-pub returns-in-Ok-clause-ok : goal.returns-in-Ok-clause-ok
-returns-in-Ok-clause-ok c =
-    rw (c.next_of.ensures, c.replace.ensures.after)
-    (wait_moved c.args.set.now c.args.cursor.now c.in-Runs.wait c.in-Ok.moved.wait c.args.answer.now c.in-Ok.moved.asked (sym c.replace-state.ensures.value ∙ c.in-Runs.is) c.in-Ok.ensures)
+pub returns-in_ok-asked-in-Runs-clause-ok : goal.returns-in_ok-asked-in-Runs-clause-ok
+returns-in_ok-asked-in-Runs-clause-ok c =
+    rw c.next_of.ensures
+    (wait_moved c.args.set.now c.args.cursor.now c.in-Runs.wait c.between_parts.new.wait c.args.answer.now c.in_ok-asked-in-Runs.asked c.in-Runs.is c.in_ok-asked-in-Runs.ensures.ok)
