@@ -34,7 +34,7 @@ use eip_join::Joins;
 use eip_ledger::{Entry, Journal, Kind, Note, Place, Refused, Stop};
 use eip_redelivery::Retries;
 use eip_route::RouteSet;
-use eip_rows::look::{first_look, offered_birth};
+use eip_rows::look::offered_birth;
 use eip_rows::rows::Rows;
 use eip_seda::{OfferFault, Queues};
 use eip_tables::asking::{Asked, Inner, asked_of};
@@ -289,9 +289,8 @@ impl Books {
         let row = self.rows.get(number);
         match row.stage() {
             Stage::New => {
-                let first = first_look(self.alloc, &self.set, self.journal.entries(), number, row)?;
-                self.rows.begin(number, first);
-                Ok(())
+                self.rows
+                    .begin(number, self.alloc, &self.set, self.journal.entries())
             }
             Stage::Answered(entry) => match &self.journal.entries()[entry].kind {
                 Kind::Answer { answer, .. } => {

@@ -6,5 +6,4 @@ pub mod look;
 pub mod rows;
 pub mod waking;
 
-pub use look::first_look;
 pub use rows::Rows;

@@ -4,7 +4,7 @@ ghost use Rattle.eip_plan.specs.Plan.{plan_of};
 ghost use Rattle.eip_meaning.specs.Meaning.{mean};
 ghost use Rattle.eip_progress.specs.Rest.{rest, IsFirst};
 ghost use Rattle.eip_rows.specs.First.{CanBegin, MayStep, SteppedOn};
-ghost use Rattle.eip_tables.specs.Look.{CanTake, Stepped, HasCursor, LookedAt, birth_at, birth_of as told_birth, AsksFirst, FirstLive};
+ghost use Rattle.eip_tables.specs.Look.{CanTake, Stepped, HasCursor, LookedAt, birth_at, birth_of as told_birth, FirstSeen};
 ghost use Rattle.eip_tables.specs.Offers.{copy_birth as offered_copy};
 ghost use Rattle.eip_tables.specs.Groups.{completed};
 ghost use Rattle.eip_history.specs.Births.{name_of};
@@ -37,14 +37,14 @@ fn step(
     }
 }
 
-/// What the exchange of a birth has at its first look: its cursor, and what that asks first.
-pub fn first_cursor(alloc: Global, birth: Birth, set: &RouteSet) -> Result<Boxed<Live>, NoMemory>
+/// The cursor of a birth, and what it asks first.
+fn first_cursor(alloc: Global, birth: Birth, set: &RouteSet) -> Result<(Cursor, Request), NoMemory>
     requires { end_of (mean set.now birth []) ≡ None }
-    ensures { IfOk result (AsksFirst set.now (mean set.now birth)) }
+    ensures { IfOk result (λ p. Stepped set.now (mean set.now birth) [] p.0 p.1) }
 {
     let (first, next) = Cursor::begin(alloc, birth, set)?;
     match next {
-        Next::Asks(request) => Live::asking(alloc, first, request),
+        Next::Asks(request) => Ok((first, request)),
         Next::Ended(..) => unreachable!(),
     }
 }
@@ -244,18 +244,20 @@ fn birth_of(
     }
 }
 
-/// What the exchange with this number and row has behind its first look.
-pub fn first_look(
+/// Looks for the first time at the exchange with this number and row. On `NoMemory` the row is as before.
+pub fn look_first(
+    row: &mut Row,
     alloc: Global,
+    vacant: &mut Option<Boxed<Live>>,
     set: &RouteSet,
     entries: &[Entry],
     number: u64,
-    row: &Row,
-) -> Result<Boxed<Live>, NoMemory>
-    requires { CanBegin set.now entries.now number row.now }
-    ensures { IfOk result (FirstLive set.now entries.now number row.now) }
+) -> Result<(), NoMemory>
+    requires { CanBegin set.now entries.now number row.old }
+    ensures ok { OnOk result (FirstSeen set.now entries.now number row.old row.new) }
+    ensures err { OnErr result (row.new ≡ row.old) }
 {
     let birth = birth_of(alloc, set, entries, number, row)?;
-    let first = first_cursor(alloc, birth, set)?;
-    Ok(first)
+    let (cursor, request) = first_cursor(alloc, birth, set)?;
+    row::begin(row, alloc, vacant, cursor, request)
 }

@@ -1,21 +1,21 @@
 ghost use Rattle.std.specs.Prelude.{◌≡◌, ◌+◌, ◌<◌, ◌≤◌, ◌-◌, ◌++◌, ◌∷◌, [], OnOk, length, slice_set, slice_get, Some, IsSome, All, filter};
-ghost use Rattle.eip_tables.specs.Row.{Row as ARow, asking};
-ghost use Rattle.eip_progress.specs.declared.cursor.Cursor.{Cursor as ACursor};
-ghost use Rattle.eip_frames.specs.declared.request.Request.{Request as ARequest};
+ghost use Rattle.eip_tables.specs.Row.{Row as ARow};
 ghost use Rattle.std.specs.Prelude.{OnErr};
 ghost use Rattle.eip_tables.specs.declared.row.Stage.TheVariants.{Starved};
-ghost use Rattle.eip_tables.specs.Moves.{started, begun, answered, held, joining, sleeping, closed, starved_end, last_message, ended_with, finished_asked, ended_by};
+ghost use Rattle.eip_tables.specs.Moves.{started, answered, held, joining, sleeping, closed, starved_end, last_message, ended_with, finished_asked, ended_by};
 ghost use Rattle.eip_tables.specs.Parts.{seed_rows, starving_faults, rows_behind};
 ghost use Rattle.eip_tables.specs.Groups.{group_rows};
 ghost use Rattle.eip_tables.specs.State.{outside_at, is_wanted};
 ghost use Rattle.eip_tables.specs.Numbers.{IsNumberOf};
 ghost use Rattle.eip_history.specs.Rules.{first};
-ghost use Rattle.eip_tables.specs.Look.{HasCursor, LookedAt};
+ghost use Rattle.eip_rows.specs.First.{CanBegin};
+ghost use Rattle.eip_tables.specs.Look.{HasCursor, LookedAt, FirstSeen};
 
-use crate::look::look_at;
+use crate::look::{look_at, look_first};
 use eip_aggregator::Closed;
 use eip_exchange::{End, Ended, Fault};
 use eip_frames::{Answer, Request, Seed};
+use eip_ledger::Entry;
 use eip_route::RouteSet;
 use eip_tables::groups;
 use eip_tables::live::Live;
@@ -34,6 +34,8 @@ pub struct Rows {
     rows: Vec<Row>,
     // Where exchanges that are born find room for what they have.
     rooms: Vec<Boxed<Live>>,
+    // The room of the exchange that ended last, until another one needs it.
+    vacant: Option<Boxed<Live>>,
 }
 
 impl Drop for Rows {
@@ -42,9 +44,11 @@ impl Drop for Rows {
             alloc: _,
             rows,
             rooms,
+            vacant,
         } = self;
         drop(rows);
         drop(rooms);
+        drop(vacant);
     }
 }
 
@@ -67,6 +71,7 @@ impl Rows {
             alloc,
             rows: Vec::new(alloc),
             rooms: Vec::new(alloc),
+            vacant: None,
         }
     }
 
@@ -84,7 +89,7 @@ impl Rows {
         ensures spare { self.old.spare ≤ self.new.spare }
     {
         self.rows.reserve(count)?;
-        make_rooms(self.alloc, &mut self.rooms, count)
+        make_rooms(self.alloc, &mut self.vacant, &mut self.rooms, count)
     }
 
     /// The row of a newborn goes behind the others, into room that was reserved.
@@ -115,15 +120,29 @@ impl Rows {
         row::start(&mut self.rows[(number - 1) as usize]);
     }
 
-    /// The exchange has this first cursor, and asks this.
-    pub fn begin(&mut self, number: u64, live: Boxed<Live>)
+    /// Looks for the first time at what the exchange asks; these are the entries of the journal. On `NoMemory` the rows are as before.
+    pub fn begin(
+        &mut self,
+        number: u64,
+        alloc: Global,
+        set: &RouteSet,
+        entries: &[Entry],
+    ) -> Result<(), NoMemory>
         requires above { 0 < number }
         requires within { number ≤ length self.old.items }
-        requires first { (c : ACursor) × (q : ARequest) × (live ≡ asking c q) }
-        ensures items { (c : ACursor) (q : ARequest) (r : ARow) → live ≡ asking c q → slice_get self.old.items (number - 1) ≡ Some r → self.new.items ≡ slice_set self.old.items (number - 1) (begun c q r) }
+        requires birth { (r : ARow) → slice_get self.old.items (number - 1) ≡ Some r → CanBegin set.now entries.now number r }
+        ensures ok { OnOk result ((r : ARow) → slice_get self.old.items (number - 1) ≡ Some r → (new : ARow) × (self.new.items ≡ slice_set self.old.items (number - 1) new) × FirstSeen set.now entries.now number r new) }
+        ensures err { OnErr result (self.new.items ≡ self.old.items) }
         ensures spare { self.old.spare ≤ self.new.spare }
     {
-        row::begin(&mut self.rows[(number - 1) as usize], live);
+        look_first(
+            &mut self.rows[(number - 1) as usize],
+            alloc,
+            &mut self.vacant,
+            set,
+            entries,
+            number,
+        )
     }
 
     /// Gives the exchange's cursor an answer, behind which it goes on. On `NoMemory` the rows are as before.
@@ -240,7 +259,12 @@ impl Rows {
         ensures ended { (r : ARow) → slice_get self.old.items (number - 1) ≡ Some r → result ≡ ended_with told (last_message r.request) }
         ensures spare { self.old.spare ≤ self.new.spare }
     {
-        row::finish_asked(&mut self.rows[(number - 1) as usize], self.alloc, told)
+        row::finish_asked(
+            &mut self.rows[(number - 1) as usize],
+            self.alloc,
+            &mut self.vacant,
+            told,
+        )
     }
 
     /// The exchange ends by this end, as its source took it.
@@ -254,6 +278,7 @@ impl Rows {
         row::end_by(
             &mut self.rows[(number - 1) as usize],
             self.alloc,
+            &mut self.vacant,
             end,
             answer,
         );

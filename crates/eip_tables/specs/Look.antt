@@ -17,8 +17,7 @@ use Rattle.eip_history.specs.Place.{end_of}
 use Rattle.eip_plan.specs.Plan.{plan_of}
 use Rattle.eip_tables.specs.declared.row.Born.{Born}
 use Rattle.eip_tables.specs.declared.row.Born.TheVariants as born
-use Rattle.eip_tables.specs.Row.{Row, asking}
-use Rattle.eip_tables.specs.declared.live.Live.{Live}
+use Rattle.eip_tables.specs.Row.{Row}
 use Rattle.eip_tables.specs.Moves.{begun}
 use Rattle.eip_tables.specs.Groups.{completed}
 
@@ -74,16 +73,9 @@ pub record FirstLook (set : RouteSet) (entries : List Entry) (number : ℕ) (r :
   pub made : birth_of set entries number r ≡ Some birth
   pub stepped : Stepped set (mean set birth) [] c q
 
--- what a live exchange has that asks its first request, and gives on every list what the fate before gave
-pub record AsksFirst (set : RouteSet) (before : List Reply → Fate) (l : Live) : Type 0 where
+-- the row of the exchange with this number behind its first look
+pub record FirstSeen (set : RouteSet) (entries : List Entry) (number : ℕ) (old new : Row) : Type 0 where
   pub cursor : Cursor
   pub request : Request
-  pub is : l ≡ asking cursor request
-  pub stepped : Stepped set before [] cursor request
-
--- what the exchange with this number and row has behind its first look
-pub record FirstLive (set : RouteSet) (entries : List Entry) (number : ℕ) (r : Row) (l : Live) : Type 0 where
-  pub cursor : Cursor
-  pub request : Request
-  pub is : l ≡ asking cursor request
-  pub looked : FirstLook set entries number r cursor request
+  pub row : new ≡ begun cursor request old
+  pub looked : FirstLook set entries number old cursor request

@@ -44,10 +44,6 @@ kept_fault kept.Nothing = None
 abbrev pub row_of : Born → Stage → Kept → Row
 row_of born stage k = record { born = born; stage = stage; birth = kept_birth k; cursor = kept_cursor k; request = kept_request k; fault = kept_fault k }
 
--- what a live exchange has that nothing is kept of the birth of
-abbrev pub asking : Cursor → Request → Live
-asking c q = record { birth = None; cursor = Some c; request = Some q; fault = None }
-
 -- a row with what a live exchange has
 abbrev pub with_live : Live → Row → Row
 with_live l r = record r { birth = l.birth; cursor = l.cursor; request = l.request; fault = l.fault }

@@ -1,5 +1,5 @@
-ghost use Rattle.std.specs.Prelude.{◌≡◌, Some, None, IfOk, MatchOption};
-ghost use Rattle.eip_tables.specs.Row.{asking, kept_birth, kept_cursor, kept_request, kept_fault};
+ghost use Rattle.std.specs.Prelude.{◌≡◌, Some, None, IfOk, OnOk, OnErr, MatchOption};
+ghost use Rattle.eip_tables.specs.Row.{kept_birth, kept_cursor, kept_request, kept_fault};
 ghost use Rattle.eip_tables.specs.Moves.{starved_end};
 
 use eip_exchange::{Birth, End, Ended, Fault};
@@ -59,21 +59,6 @@ impl Live {
         )
     }
 
-    /// An exchange with this cursor that asks this, in an allocation of its own; nothing is kept of its birth.
-    pub fn asking(alloc: Global, cursor: Cursor, request: Request) -> Result<Boxed<Live>, NoMemory>
-        ensures { IfOk result (λ l. l ≡ asking cursor request) }
-    {
-        Boxed::of(
-            alloc,
-            Live {
-                birth: None,
-                cursor: Some(cursor),
-                request: Some(request),
-                fault: None,
-            },
-        )
-    }
-
     /// It is a newborn that is told this of its birth. What it had is dropped.
     fn tell(&mut self, birth: Option<Birth>, fault: Option<Fault>)
         ensures { self.new ≡ record { birth = birth; cursor = None; request = None; fault = fault } }
@@ -88,12 +73,12 @@ impl Live {
         drop(mem::replace(&mut self.fault, fault));
     }
 
-    /// It takes over what another one was told of its birth.
-    fn take_told(&mut self, from: &mut Live)
-        ensures { self.new ≡ record self.old { birth = from.old.birth; fault = from.old.fault } }
+    /// It has this cursor now, and asks this.
+    fn begin(&mut self, cursor: Cursor, request: Request)
+        ensures { self.new ≡ record self.old { cursor = Some cursor; request = Some request } }
     {
-        drop(mem::replace(&mut self.birth, from.birth.take()));
-        drop(mem::replace(&mut self.fault, from.fault.take()));
+        self.cursor = Some(cursor);
+        self.request = Some(request);
     }
 
     /// What it asks is handed out.
@@ -167,23 +152,41 @@ impl Kept {
         }
     }
 
-    /// The exchange goes on with what was made at its first look, beside what was kept of its birth.
-    pub fn begin(&mut self, mut live: Boxed<Live>)
-        requires birth { live.birth ≡ None }
-        requires fault { live.fault ≡ None }
-        ensures birth { kept_birth self.new ≡ kept_birth self.old }
-        ensures cursor { kept_cursor self.new ≡ live.cursor }
-        ensures request { kept_request self.new ≡ live.request }
-        ensures fault { kept_fault self.new ≡ kept_fault self.old }
+    /// The exchange has its first cursor and asks this, beside what was kept of its birth. Only where nothing was, room is needed; on
+    /// `NoMemory` all is as before.
+    pub fn begin(
+        &mut self,
+        alloc: Global,
+        vacant: &mut Option<Boxed<Live>>,
+        cursor: Cursor,
+        request: Request,
+    ) -> Result<(), NoMemory>
+        ensures birth { OnOk result (kept_birth self.new ≡ kept_birth self.old) }
+        ensures cursor { OnOk result (kept_cursor self.new ≡ Some cursor) }
+        ensures request { OnOk result (kept_request self.new ≡ Some request) }
+        ensures fault { OnOk result (kept_fault self.new ≡ kept_fault self.old) }
+        ensures err { OnErr result (self.new ≡ self.old) }
+    {
+        if let Kept::Live(live) = self {
+            live.get_mut().begin(cursor, request);
+            return Ok(());
+        }
+        let mut room = room_for(alloc, vacant)?;
+        room.get_mut().tell(None, self.take_fault());
+        room.get_mut().begin(cursor, request);
+        drop(mem::replace(self, Kept::Live(room)));
+        Ok(())
+    }
+
+    /// What it failed with is handed out.
+    fn take_fault(&mut self) -> Option<Fault>
+        ensures { result ≡ kept_fault self.old }
     {
         match self {
-            Kept::Live(old) => live.get_mut().take_told(old.get_mut()),
-            Kept::Failed(failed) => {
-                drop(mem::replace(&mut live.get_mut().fault, failed.replace(None)));
-            }
-            Kept::Nothing => {}
+            Kept::Live(live) => live.get_mut().fault.take(),
+            Kept::Failed(fault) => fault.replace(None),
+            Kept::Nothing => None,
         }
-        drop(mem::replace(self, Kept::Live(live)));
     }
 
     /// What it asks is handed out.
@@ -212,15 +215,30 @@ impl Kept {
     }
 }
 
+/// The room that is vacant, or else a new one.
+pub fn room_for(alloc: Global, vacant: &mut Option<Boxed<Live>>) -> Result<Boxed<Live>, NoMemory> {
+    match vacant.take() {
+        Some(room) => Ok(room),
+        None => Live::room(alloc),
+    }
+}
+
 /// What is kept of an exchange that has ended, with the fault that it failed with: that alone, or where there is no memory for it
-/// apart, in the place of what the exchange had.
-pub fn left_by(alloc: Global, mut live: Boxed<Live>, fault: Option<Fault>) -> Kept
+/// apart, in the place of what the exchange had. A room that it needs no more is the vacant one from now on.
+pub fn left_by(
+    alloc: Global,
+    vacant: &mut Option<Boxed<Live>>,
+    mut live: Boxed<Live>,
+    fault: Option<Fault>,
+) -> Kept
     ensures birth { kept_birth result ≡ None }
     ensures cursor { kept_cursor result ≡ None }
     ensures request { kept_request result ≡ None }
     ensures fault { kept_fault result ≡ fault }
 {
     let Some(fault) = fault else {
+        live.get_mut().tell(None, None);
+        drop(mem::replace(vacant, Some(live)));
         return Kept::Nothing;
     };
     match Boxed::of(alloc, None) {

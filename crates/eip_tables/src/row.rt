@@ -1,12 +1,12 @@
-ghost use Rattle.std.specs.Prelude.{◌≡◌, ◌<◌, ◌≤◌, ◌+◌, ◌++◌, ◌∷◌, [], Some, None, IfOk, OnOk, IsSome, MatchOption, length, option_map, vec_len, vec_capacity};
+ghost use Rattle.std.specs.Prelude.{◌≡◌, ◌<◌, ◌≤◌, ◌+◌, ◌++◌, ◌∷◌, [], Some, None, IfOk, OnOk, OnErr, IsSome, MatchOption, length, option_map, vec_len, vec_capacity};
 ghost use Rattle.eip_tables.specs.declared.row.Stage.TheVariants.{Asks};
 ghost use Rattle.eip_tables.specs.Row.{with_live};
-ghost use Rattle.eip_tables.specs.Moves.{new_row, copy_row, part_row, grouped_row, starving, started, answered, held, joining, sleeping, woken, closed, starved_end, stage_of, fault_of, finished, end_asked, last_message, part_end, ended_with, ticks_asked, line_asked, finished_asked, ended_by};
+ghost use Rattle.eip_tables.specs.Moves.{new_row, copy_row, part_row, grouped_row, starving, started, begun, answered, held, joining, sleeping, woken, closed, starved_end, stage_of, fault_of, finished, end_asked, last_message, part_end, ended_with, ticks_asked, line_asked, finished_asked, ended_by};
 ghost use Rattle.eip_tables.specs.State.{row_outside};
 ghost use Rattle.eip_tables.specs.Offers.{hops_by, offer_asked, offered_message};
 ghost use Rattle.eip_tables.specs.Parts.{at_by, seeds_asked, count_asked};
 
-use crate::live::{Kept, Live, left_by};
+use crate::live::{Kept, Live, left_by, room_for};
 use eip_exchange::{Birth, End, Ended, Fault, Message};
 use eip_frames::{Answer, At, Completion, Request, Seed, is_outside};
 use eip_progress::Cursor;
@@ -280,12 +280,17 @@ pub fn put_newborn(rows: &mut Vec<Row>, rooms: &mut Vec<Boxed<Live>>, newborn: N
 }
 
 /// Rooms for so many exchanges that are to be born, with those that are there.
-pub fn make_rooms(alloc: Global, rooms: &mut Vec<Boxed<Live>>, count: usize) -> Result<(), NoMemory>
+pub fn make_rooms(
+    alloc: Global,
+    vacant: &mut Option<Boxed<Live>>,
+    rooms: &mut Vec<Boxed<Live>>,
+    count: usize,
+) -> Result<(), NoMemory>
     ensures more { length rooms.old.items ≤ length rooms.new.items }
     ensures ok { OnOk result (count ≤ length rooms.new.items) }
 {
     for _index in rooms.len()..count {
-        rooms.push(Live::room(alloc)?)?;
+        rooms.push(room_for(alloc, vacant)?)?;
     }
     Ok(())
 }
@@ -297,14 +302,20 @@ pub fn start(row: &mut Row)
     row.stage = Stage::New;
 }
 
-/// An exchange goes on with its first cursor and what that asks.
-pub fn begin(row: &mut Row, live: Boxed<Live>)
-    requires birth { live.birth ≡ None }
-    requires fault { live.fault ≡ None }
-    ensures { row.new ≡ record row.old { stage = Asks; cursor = live.cursor; request = live.request } }
+/// An exchange has its first cursor and asks this. On `NoMemory` the row is as before.
+pub fn begin(
+    row: &mut Row,
+    alloc: Global,
+    vacant: &mut Option<Boxed<Live>>,
+    cursor: Cursor,
+    request: Request,
+) -> Result<(), NoMemory>
+    ensures ok { OnOk result (row.new ≡ begun cursor request row.old) }
+    ensures err { OnErr result (row.new ≡ row.old) }
 {
-    row.kept.begin(live);
+    row.kept.begin(alloc, vacant, cursor, request)?;
     row.stage = Stage::Asks;
+    Ok(())
 }
 
 /// What an exchange has while it lives is taken out, to be put back.
@@ -412,12 +423,19 @@ fn ended(end: End) -> (Stage, Option<Fault>)
 }
 
 /// A live exchange ends by this end, and gives up what it had.
-fn finish(row: &mut Row, alloc: Global, live: Boxed<Live>, end: End)
+fn finish(
+    row: &mut Row,
+    alloc: Global,
+    vacant: &mut Option<Boxed<Live>>,
+    live: Boxed<Live>,
+    end: End,
+)
     ensures { row.new ≡ finished end row.old }
 {
     let (stage, fault) = ended(end);
     row.stage = stage;
-    drop(mem::replace(&mut row.kept, left_by(alloc, live, fault)));
+    let left = left_by(alloc, vacant, live, fault);
+    drop(mem::replace(&mut row.kept, left));
 }
 
 /// The end that an exchange asks for, handed out; any other request is dropped.
@@ -516,7 +534,12 @@ fn ended_with(end: Option<End>, message: Option<Message>) -> Option<Ended>
 }
 
 /// The exchange ends by the end that it asks for; its message is handed out with the end that its parent is told, where there is one.
-pub fn finish_asked(row: &mut Row, alloc: Global, told: Option<End>) -> Option<Ended>
+pub fn finish_asked(
+    row: &mut Row,
+    alloc: Global,
+    vacant: &mut Option<Boxed<Live>>,
+    told: Option<End>,
+) -> Option<Ended>
     ensures row { row.new ≡ finished_asked row.old }
     ensures ended { result ≡ ended_with told (last_message row.old.request) }
 {
@@ -524,7 +547,7 @@ pub fn finish_asked(row: &mut Row, alloc: Global, told: Option<End>) -> Option<E
         Kept::Live(mut live) => {
             let (end, message) = finish_parts(live.get_mut().take_request());
             match end {
-                Some(end) => finish(row, alloc, live, end),
+                Some(end) => finish(row, alloc, vacant, live, end),
                 None => drop(mem::replace(&mut row.kept, Kept::Live(live))),
             }
             ended_with(told, message)
@@ -560,14 +583,20 @@ pub fn seeds_asked(request: Option<Request>) -> Option<Vec<Seed>>
 }
 
 /// The exchange ends by this end, as its source took it.
-pub fn end_by(row: &mut Row, alloc: Global, end: End, answer: &Answer)
+pub fn end_by(
+    row: &mut Row,
+    alloc: Global,
+    vacant: &mut Option<Boxed<Live>>,
+    end: End,
+    answer: &Answer,
+)
     requires { IsSome row.old.cursor }
     ensures { row.new ≡ ended_by end answer.now row.old }
 {
     match answer {
         Answer::CommitFailed => close(row, Stage::NotCommitted),
         _ => match mem::replace(&mut row.kept, Kept::Nothing) {
-            Kept::Live(live) => finish(row, alloc, live, end),
+            Kept::Live(live) => finish(row, alloc, vacant, live, end),
             Kept::Nothing | Kept::Failed(_) => unreachable!(),
         },
     }

@@ -1,8 +1,8 @@
 use Rattle.std.proofs.Common.{arith, refl, sym, subst, ⊎_elim, ◌≡◌, ◌-◌, ◌∙◌, ap}
 use Rattle.eip_ledger.specs.declared.place.Place.TheVariants.{Ready}
-use Rattle.eip_tables.specs.Moves.{begun}
 use Rattle.eip_tables.specs.State.{known_of}
 use Rattle.eip_tables.specs.Look.{HasCursor}
+use Rattle.eip_rows.specs.First.{CanBegin}
 use Rattle.eip_books.specs.Facts.{tables_of}
 use Rattle.eip_table_laws.proofs.RowPlaces.{lives-first}
 use Rattle.eip_table_laws.proofs.OwnCalls.{row-within}
@@ -19,9 +19,6 @@ get-row-requires-clause-within c = (row-within (tables_of c.self.inside) c.args.
 pub begin-requires-clause-above : goal.begin-requires-clause-above
 begin-requires-clause-above c = (row-within (tables_of c.self.inside) c.args.number Ready c.self.invariant.stands (rw (← c.self.view_is) at c.requires)).0
 
-pub begin-requires-clause-first : goal.begin-requires-clause-first
-begin-requires-clause-first c = let first = c.in_ok-first-in-New.ensures in (first.cursor, first.request, first.is)
-
 pub begin-requires-clause-within : goal.begin-requires-clause-within
 begin-requires-clause-within c = (row-within (tables_of c.self.inside) c.args.number Ready c.self.invariant.stands (rw (← c.self.view_is) at c.requires)).1
 
@@ -31,17 +28,22 @@ look-requires-clause-above c = (row-within (tables_of c.self.inside) c.args.numb
 pub look-requires-clause-within : goal.look-requires-clause-within
 look-requires-clause-within c = (row-within (tables_of c.self.inside) c.args.number Ready c.self.invariant.stands (rw (← c.self.view_is) at c.requires)).1
 
-pub first_look-requires : goal.first_look-requires
-first_look-requires c =
+pub begin-requires-clause-birth : goal.begin-requires-clause-birth
+begin-requires-clause-birth c = λ r at.
+    let row = c.get-row.ensures in
+    let same : c.get-row.result.now ≡ r = cc in
     let b = born-birth (tables_of c.self.inside) c.args.number c.get-row.result.now c.self.invariant.stands (rw (← c.self.view_is) at c.requires) c.get-row.ensures (sym c.stage.ensures ∙ c.in-New.is) in
-    record { birth = b.0; made = rw c.entries.ensures b.1; lives = lives-first _ b.0 }
+    subst (CanBegin c.self.inside.set c.entries.result.now c.args.number) same (record { birth = b.0; made = rw c.entries.ensures b.1; lives = lives-first _ b.0 })
 
 pub invariant_of-self : goal.invariant_of-self
 invariant_of-self c =
-    let first = c.in_ok-first-in-New.ensures in
     record {
-      stands = rw (c.begin.ensures.items first.cursor first.request c.get-row.result.now first.is c.get-row.ensures)
-          (new-looked (tables_of c.self.inside) c.args.number c.get-row.result.now c.self.invariant.stands (rw (← c.self.view_is) at c.requires) c.get-row.ensures first.cursor first.request (sym c.stage.ensures ∙ c.in-New.is) (rw c.entries.ensures at first.looked));
+      stands = ⊎_elim
+          (λ ok. let made = ok c.get-row.result.now c.get-row.ensures in
+          rw (made.1, made.2.row) (new-looked (tables_of c.self.inside) c.args.number c.get-row.result.now c.self.invariant.stands (rw (← c.self.view_is) at c.requires) c.get-row.ensures
+          made.2.cursor made.2.request (sym c.stage.ensures ∙ c.in-New.is) (rw c.entries.ensures at made.2.looked)))
+          (λ err. rw err c.self.invariant.stands)
+          (one-of-both c.begin.result _ _ c.begin.ensures.ok c.begin.ensures.err);
       few = c.self.invariant.few;
       room_small = c.self.invariant.room_small;
       room_journal = c.self.invariant.room_journal;
@@ -86,13 +88,14 @@ invariant_of-self-in-Answer c =
       room_ready = c.self.invariant.room_ready;
     }
 
-pub returns-in_ok-first-in-New-clause-known : goal.returns-in_ok-first-in-New-clause-known
-returns-in_ok-first-in-New-clause-known c =
-    let first = c.in_ok-first-in-New.ensures in (
-      first.request,
-      rw (c.begin.ensures.items first.cursor first.request c.get-row.result.now first.is c.get-row.ensures)
-          (known-now c.self.inside.rows.items (c.args.number - 1) c.get-row.result.now (begun first.cursor first.request c.get-row.result.now) first.request c.get-row.ensures refl),
-    )
+pub returns-in-New-clause-known : goal.returns-in-New-clause-known
+returns-in-New-clause-known c =
+    on-ok c.begin.result _ _
+    (λ ok. let made = ok c.get-row.result.now c.get-row.ensures in (
+      made.2.request,
+      rw made.1 (known-now c.self.inside.rows.items (c.args.number - 1) c.get-row.result.now made.0 made.2.request c.get-row.ensures (ap known_of made.2.row)),
+    ))
+    c.begin.ensures.ok
 
 pub returns-in-Answer-clause-known : goal.returns-in-Answer-clause-known
 returns-in-Answer-clause-known c =
@@ -103,14 +106,16 @@ returns-in-Answer-clause-known c =
     ))
     c.look.ensures.ok
 
-pub returns-in_ok-first-in-New-clause-outside : goal.returns-in_ok-first-in-New-clause-outside
-returns-in_ok-first-in-New-clause-outside c =
-    let first = c.in_ok-first-in-New.ensures in
-    rw (← c.self.view_is, c.begin.ensures.items first.cursor first.request c.get-row.result.now first.is c.get-row.ensures)
-    (looked-outside (tables_of c.self.inside) c.args.number c.get-row.result.now (begun first.cursor first.request c.get-row.result.now) first.cursor first.request
+pub returns-in-New-clause-outside : goal.returns-in-New-clause-outside
+returns-in-New-clause-outside c =
+    on-ok c.begin.result _ _
+    (λ ok. let made = ok c.get-row.result.now c.get-row.ensures in
+    rw (← c.self.view_is, made.1)
+    (looked-outside (tables_of c.self.inside) c.args.number c.get-row.result.now made.0 made.2.cursor made.2.request
     c.self.invariant.stands (rw (← c.self.view_is) at c.requires) c.get-row.ensures
-    (new-looked (tables_of c.self.inside) c.args.number c.get-row.result.now c.self.invariant.stands (rw (← c.self.view_is) at c.requires) c.get-row.ensures first.cursor first.request (sym c.stage.ensures ∙ c.in-New.is) (rw c.entries.ensures at first.looked))
-    refl (rw (sym c.stage.ensures ∙ c.in-New.is) refl))
+    (rw made.2.row (new-looked (tables_of c.self.inside) c.args.number c.get-row.result.now c.self.invariant.stands (rw (← c.self.view_is) at c.requires) c.get-row.ensures made.2.cursor made.2.request (sym c.stage.ensures ∙ c.in-New.is) (rw c.entries.ensures at made.2.looked)))
+    made.2.row (rw (sym c.stage.ensures ∙ c.in-New.is) refl)))
+    c.begin.ensures.ok
 
 pub returns-in-Answer-clause-outside : goal.returns-in-Answer-clause-outside
 returns-in-Answer-clause-outside c =
