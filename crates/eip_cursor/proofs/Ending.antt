@@ -20,7 +20,6 @@ use Rattle.eip_progress.specs.declared.frame.Task.{Task}
 use Rattle.eip_progress.specs.declared.frame.Wait.{Wait}
 use Rattle.eip_progress.specs.declared.frame.Wait.TheVariants as wait
 use Rattle.eip_progress.specs.declared.cursor.State.TheVariants as state
-use Rattle.eip_progress.specs.declared.cursor.Next.TheVariants as next
 use Rattle.eip_progress.specs.declared.cursor.Cursor.{Cursor}
 use Rattle.eip_progress.specs.Rest.{rest, asked_at, cont_of, guarded_mean, wait_mean, IsFirst}
 use Rattle.eip_turns.proofs.Trying.{first_message}
@@ -48,6 +47,6 @@ ends_with set k w a e s h = (
 )
 
 pub ends_follow : (set : RouteSet) (k : Cursor) (a : Reply) (m : Message) → EndsWith set k a m →
-    Follows set k (a ∷ []) (record k { state = state.Finishing Completed m }) (next.Asks (request.Finish Completed m k.commit))
+    Follows set k (a ∷ []) (record k { state = state.Finishing Completed m }) (request.Finish Completed m k.commit)
 unfolding rest asked_at IsFirst
 ends_follow set k a m h = (λ A. sym (h.1 A), refl, λ x. x)

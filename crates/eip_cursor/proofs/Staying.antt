@@ -1,6 +1,6 @@
 -- A sequential fan-out between two of its parts.
 use Rattle.std.proofs.Common.{◌≡◌, ℕ, ◌-◌, Bool, true, false, List, [], ◌∷◌, ◌++◌, length, refl, sym, ◌∙◌, ap, arith, length-append}
-use Rattle.std.specs.Prelude.{Option, Some, None, MatchOption, Result, Ok, Err, IfOk, slice_get, unwrap_or, is_some, ◌&&◌, reverse}
+use Rattle.std.specs.Prelude.{Option, Some, None, Result, Ok, Err, IfOk, slice_get, unwrap_or, is_some, ◌&&◌, reverse}
 use Rattle.eip_text.specs.declared.memory.NoMemory.{NoMemory}
 use Rattle.std.proofs.lemmas.List.{reverse-append, reverse-reverse}
 use Rattle.eip_exchange.specs.declared.message.Message.{Message}
@@ -32,7 +32,7 @@ use Rattle.eip_progress.specs.Answered.{next_tried, fan_on, going_on}
 use Rattle.eip_progress.specs.Rest.{tried_mean, guarded_mean, wait_mean}
 use Rattle.eip_progress.specs.declared.tried.Asking.{Asking}
 use Rattle.eip_progress.specs.Tries.{asked}
-use Rattle.eip_cursor.specs.InTurn.{stop_in, step_found, trying, Moves}
+use Rattle.eip_cursor.specs.InTurn.{stop_in, step_found, trying, Moves, AskingMoves, WaitMoves}
 use Rattle.eip_cursor.proofs.Replying.{step_goes_on, answered_none}
 
 none_some : {X : Type 0} {k : X} → None ≡ Some k → ⊥
@@ -109,12 +109,10 @@ module _ (set : RouteSet) (c : Context) where
     stays task.Dead f h v = absurd (none_some f)
     stays task.Whole f h v = absurd (none_some f)
 
--- the clause of a wait, from that of what was asked
-pub stays_or : (set : RouteSet) (c : Context) (t : Task) (left : ℕ) (m : Message) (x y : Asking) (a : Reply) (stop : Option Bool) (r : Result (Option Request) NoMemory) →
+-- a wait goes on where what it has asked does
+pub stays_or : (set : RouteSet) (c : Context) (t : Task) (left : ℕ) (m : Message) (x y : Asking) (a : Reply) (stop : Option Bool) (p p' : Option Request) (r : Result Bool NoMemory) →
     fits x.request a ≡ true → stop ≡ stop_in (step_found set t) →
-    IfOk r (λ o. MatchOption o (y ≡ x) (λ q. (b : Bool) × (stop ≡ Some b) × Moves b x a y × (y.request ≡ q))) →
-    IfOk r (λ o. MatchOption o (trying c t left m y ≡ trying c t left m x)
-    (λ q. ((whole : Option Uri) (A : List Reply) → wait_mean set whole (trying c t left m y) A ≡ wait_mean set whole (trying c t left m x) (a ∷ A)) × (y.request ≡ q)))
-stays_or set c t left m x y a stop (Ok None) h s e = ap (trying c t left m) e
-stays_or set c t left m x y a stop (Ok (Some q)) h s e = (λ whole A. stays set c whole left m e.0 x y a A t (sym s ∙ e.1) h e.2, e.3)
-stays_or set c t left m x y a stop (Err n) h s e = tt
+    IfOk r (λ b. AskingMoves b stop x a y p p') → IfOk r (λ b. WaitMoves b set (trying c t left m x) a (trying c t left m y) p p')
+stays_or set c t left m x y a stop p p' (Ok false) h s e = (ap (trying c t left m) e.0, e.1)
+stays_or set c t left m x y a stop p p' (Ok true) h s e = (e.0, e.1, λ whole A. stays set c whole left m e.2 x y a A t (sym s ∙ e.3) h e.4, e.5)
+stays_or set c t left m x y a stop p p' (Err n) h s e = tt

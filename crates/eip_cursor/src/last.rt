@@ -1,4 +1,4 @@
-ghost use Rattle.std.specs.Prelude.{◌≡◌, ◌∷◌, ℕ, [], List, Option, None, true, IfOk, IfSome};
+ghost use Rattle.std.specs.Prelude.{◌≡◌, ◌∷◌, ℕ, [], List, Option, None, Some, true, IfOk, IfSome};
 ghost use Rattle.eip_exchange.specs.declared.message.Message.{Message as AMessage};
 ghost use Rattle.eip_uri.specs.declared.uri.Uri.{Uri as AUri};
 ghost use Rattle.eip_route.specs.declared.route.RouteSet.{RouteSet as ARouteSet};
@@ -10,9 +10,10 @@ ghost use Rattle.eip_progress.specs.declared.tried.Progress.{Progress as AProgre
 ghost use Rattle.eip_progress.specs.Rest.{rest, wait_mean, cont_of, cont_of_step, goal_cont, request_of, AnswerFits};
 ghost use Rattle.eip_cursor.specs.Last.{message_of, HoldsMessage, EndsWith};
 
+use crate::asked::put_in;
 use eip_exchange::{End, Message};
 use eip_frames::{Answer, Request};
-use eip_progress::{Cursor, Next, State, Task, Wait};
+use eip_progress::{Cursor, State, Task, Wait};
 use eip_route::{Goal, RouteSet, Step};
 use eip_text::NoMemory;
 use eip_turns::step_at;
@@ -124,21 +125,23 @@ fn is_left_goal(goal: Goal) -> bool
     }
 }
 
-/// The exchange asks to end with the message that waits, and keeps this copy of it.
-pub fn ask_to_end(cursor: &mut Cursor, copy: Message) -> Next
+/// The exchange asks in this place to end with the message that waits, and keeps this copy of it.
+pub fn ask_to_end(cursor: &mut Cursor, place: &mut Option<Request>, copy: Message)
     requires { HoldsMessage cursor.old.state copy }
-    ensures next { result ≡ Next.Asks (Request.Finish End.Completed copy cursor.old.commit) }
+    ensures place { place.new ≡ Some (Request.Finish End.Completed copy cursor.old.commit) }
     ensures cursor { cursor.new ≡ record cursor.old { state = State.Finishing End.Completed copy } }
 {
     let commit = cursor.commit;
     let end = State::Finishing(End::Completed, copy);
-    let state = mem::replace(&mut cursor.state, end);
-    match state {
-        State::Runs(wait) => Next::Asks(Request::Finish {
-            end: End::Completed,
-            message: into_message(wait),
-            commit,
-        }),
+    match mem::replace(&mut cursor.state, end) {
+        State::Runs(wait) => {
+            let request = Request::Finish {
+                end: End::Completed,
+                message: into_message(wait),
+                commit,
+            };
+            put_in(place, Some(request));
+        }
         State::Starting(..) | State::Finishing(..) | State::Over(..) => unreachable!(),
     }
 }

@@ -4,6 +4,7 @@
 mod asked;
 mod cursor;
 mod ends;
+mod going;
 mod last;
 mod parts;
 mod waits;
@@ -11,3 +12,4 @@ mod waits;
 pub use cursor::Advance;
 pub use eip_progress::{Cursor, Next};
 pub use eip_turns::{faults, values};
+pub use going::{begin, go_on};

@@ -7,8 +7,10 @@ ghost use Rattle.eip_frames.specs.declared.request.Seed.{Seed as ASeed};
 ghost use Rattle.eip_meaning.specs.Outcomes.{fault_in};
 ghost use Rattle.eip_progress.specs.Rest.{wait_mean, request_of};
 ghost use Rattle.eip_progress.specs.declared.tried.Progress.TheVariants.{Joining as joined};
-ghost use Rattle.eip_cursor.specs.InTurn.{stop_in, step_found, Moves, TakesNext};
+ghost use Rattle.eip_frames.specs.declared.request.Request.TheVariants.{Spawn as spawned};
+ghost use Rattle.eip_cursor.specs.InTurn.{stop_in, step_found, TakesNext, WaitMoves, AskingMoves, PartEnds};
 
+use crate::asked::put_in;
 use eip_copies::copy_seed;
 use eip_exchange::Ended;
 use eip_frames::{Answer, Request, Seed};
@@ -37,25 +39,25 @@ fn is_in_turn(progress: &Progress) -> bool {
     )
 }
 
-/// Goes on from one part to the next, and says what is asked then; nothing is, and the wait is as before, where there is more to do
-/// than that. On `NoMemory` it is as before.
+/// Goes on from one part to the next, and asks in this place for what comes then. Where there is more to do than that it says so, and
+/// all is as before; on `NoMemory` it is as before too.
 pub fn between_parts(
     alloc: Global,
     set: &RouteSet,
     wait: &mut Wait,
+    place: &mut Option<Request>,
     answer: &Answer,
-) -> Result<Option<Request>, NoMemory>
+) -> Result<bool, NoMemory>
     requires { fits (request_of wait.old) answer.now ≡ true }
-    ensures ok { IfOk result (λ o. MatchOption o (wait.new ≡ wait.old)
-        (λ q. ((whole : Option AUri) (A : List AnAnswer) → wait_mean set.now whole wait.new A ≡ wait_mean set.now whole wait.old (answer.now ∷ A)) × (request_of wait.new ≡ q))) }
-    ensures err { OnErr result (wait.new ≡ wait.old) }
+    ensures ok { IfOk result (λ b. WaitMoves b set.now wait.old answer.now wait.new place.old place.new) }
+    ensures err { OnErr result ((wait.new ≡ wait.old) × (place.new ≡ place.old)) }
 {
     match wait {
         Wait::Trying { task, asking, .. } => {
             let stop = stop_of(set, *task);
-            next_asking(alloc, stop, asking.get_mut(), answer)
+            next_asking(alloc, stop, asking.get_mut(), place, answer)
         }
-        Wait::Sleeping { .. } => Ok(None),
+        Wait::Sleeping { .. } => Ok(false),
     }
 }
 
@@ -84,37 +86,40 @@ fn stop_at(step: &Step) -> Option<bool>
     }
 }
 
-/// From what a fan-out that stops so, or not, has asked to what it asks next.
+/// From what a fan-out that stops so, or not, has asked to what it asks next, which goes into the place.
 fn next_asking(
     alloc: Global,
     stop: Option<bool>,
     asking: &mut Asking,
+    place: &mut Option<Request>,
     answer: &Answer,
-) -> Result<Option<Request>, NoMemory>
-    ensures ok { IfOk result (λ o. MatchOption o (asking.new ≡ asking.old)
-        (λ q. (b : Bool) × (stop ≡ Some b) × Moves b asking.old answer.now asking.new × (asking.new.request ≡ q))) }
-    ensures err { OnErr result (asking.new ≡ asking.old) }
+) -> Result<bool, NoMemory>
+    ensures ok { IfOk result (λ b. AskingMoves b stop asking.old answer.now asking.new place.old place.new) }
+    ensures err { OnErr result ((asking.new ≡ asking.old) × (place.new ≡ place.old)) }
 {
     let Some(stop) = stop else {
-        return Ok(None);
+        return Ok(false);
     };
     if !is_of_parts(&asking.request) {
-        return Ok(None);
+        return Ok(false);
     }
     match mem::replace(&mut asking.progress, Progress::First) {
         Progress::Spawning { index, ended, left } => {
-            let asked = waits(answer);
-            asking.progress = Progress::Joining { index, ended, left };
-            asking.request = waits(answer);
+            put_in(
+                &mut asking.progress,
+                Progress::Joining { index, ended, left },
+            );
+            put_in(&mut asking.request, waits(answer));
             asking.index = index;
-            Ok(Some(asked))
+            put_in(place, Some(waits(answer)));
+            Ok(true)
         }
         Progress::Joining { index, ended, left } => {
-            part_ended(alloc, stop, asking, index, ended, left, answer)
+            part_ended(alloc, stop, asking, index, ended, left, place, answer)
         }
         other => {
-            asking.progress = other;
-            Ok(None)
+            put_in(&mut asking.progress, other);
+            Ok(false)
         }
     }
 }
@@ -138,54 +143,57 @@ fn part_ended(
     index: u32,
     ended: Series<Ended>,
     left: Queue<Seed>,
+    place: &mut Option<Request>,
     answer: &Answer,
-) -> Result<Option<Request>, NoMemory>
+) -> Result<bool, NoMemory>
     requires { (set : ARouteSet) → fault_in set asking.old.request answer.now ≡ None }
-    ensures ok { IfOk result (λ o. MatchOption o (asking.new ≡ record asking.old { progress = joined index ended left })
-        (λ q. Moves stop (record asking.old { progress = joined index ended left }) answer.now asking.new × (asking.new.request ≡ q))) }
-    ensures err { OnErr result (asking.new ≡ record asking.old { progress = joined index ended left }) }
+    ensures ok { IfOk result (λ b. PartEnds b stop (record asking.old { progress = joined index ended left }) answer.now asking.new place.old place.new) }
+    ensures err { OnErr result ((asking.new ≡ record asking.old { progress = joined index ended left }) × (place.new ≡ place.old)) }
 {
     let mut ended = ended.into_vec();
     let mut left = left;
     match take_next(alloc, stop, &mut ended, &mut left, answer) {
-        Ok(Some(taken)) => {
+        Ok(Some((kept, asked))) => {
             let index = index.saturating_add(1);
             let ended = Series::of(ended);
-            asking.progress = Progress::Spawning { index, ended, left };
-            asking.request = taken.kept;
+            put_in(
+                &mut asking.progress,
+                Progress::Spawning { index, ended, left },
+            );
+            put_in(&mut asking.request, Request::Spawn { parts: kept });
             asking.index = index;
-            Ok(Some(taken.asked))
+            put_in(place, Some(Request::Spawn { parts: asked }));
+            Ok(true)
         }
         Ok(None) => {
             let ended = Series::of(ended);
-            asking.progress = Progress::Joining { index, ended, left };
-            Ok(None)
+            put_in(
+                &mut asking.progress,
+                Progress::Joining { index, ended, left },
+            );
+            Ok(false)
         }
         Err(NoMemory) => {
             let ended = Series::of(ended);
-            asking.progress = Progress::Joining { index, ended, left };
+            put_in(
+                &mut asking.progress,
+                Progress::Joining { index, ended, left },
+            );
             Err(NoMemory)
         }
     }
 }
 
-/// What asks for a seed: once to be kept, once to be handed out.
-#[derive(Drop)]
-struct Taken {
-    kept: Request,
-    asked: Request,
-}
-
-/// Takes the next seed behind the part that ended, where one is left and it isn't stopped.
+/// Takes the next seed behind the part that ended, where one is left and it isn't stopped: once to be kept, once to be handed out.
 fn take_next(
     alloc: Global,
     stop: bool,
     ended: &mut Vec<Ended>,
     left: &mut Queue<Seed>,
     answer: &Answer,
-) -> Result<Option<Taken>, NoMemory>
+) -> Result<Option<(Series<Seed>, Series<Seed>)>, NoMemory>
     ensures ok { IfOk result (λ o. MatchOption o ((ended.new.items ≡ ended.old.items) × (left.new ≡ left.old))
-        (λ t. TakesNext stop ended.old.items left.old answer.now ended.new.items left.new t.kept × (t.kept ≡ t.asked))) }
+        (λ t. TakesNext stop ended.old.items left.old answer.now ended.new.items left.new (spawned t.0) × (t.0 ≡ t.1))) }
     ensures err { OnErr result ((ended.new.items ≡ ended.old.items) × (left.new ≡ left.old)) }
 {
     let mut parts = parts_in(alloc, answer)?;
@@ -198,10 +206,7 @@ fn take_next(
             let room = Vec::with_capacity(alloc, 1)?;
             ended.append(&mut parts)?;
             let kept = first_alone(left, room);
-            Ok(Some(Taken {
-                kept: Request::Spawn { parts: kept },
-                asked: Request::Spawn { parts: asked },
-            }))
+            Ok(Some((kept, asked)))
         }
         None => Ok(None),
     }

@@ -33,3 +33,10 @@ pub record SteppedOn (set : RouteSet) (a : Reply) (old new : Live) : Type 0 wher
   pub request : Request
   pub live : new ≡ record old { cursor = Some now; request = Some request }
   pub stepped : Stepped set (rest set was) (a ∷ []) now request
+
+-- an exchange of this birth with its first cursor, which asks
+pub record BegunOn (set : RouteSet) (b : Birth) (old new : Live) : Type 0 where
+  pub cursor : Cursor
+  pub request : Request
+  pub live : new ≡ record old { cursor = Some cursor; request = Some request }
+  pub stepped : Stepped set (mean set b) [] cursor request

@@ -1,53 +1,22 @@
-ghost use Rattle.std.specs.Prelude.{◌≡◌, ◌<◌, [], ◌∷◌, length, Some, None, IsSome, IfOk, OnOk, OnErr};
+ghost use Rattle.std.specs.Prelude.{◌≡◌, ◌<◌, [], Some, None, IsSome, IfOk, OnOk, OnErr};
 ghost use Rattle.eip_history.specs.Place.{end_of};
 ghost use Rattle.eip_plan.specs.Plan.{plan_of};
 ghost use Rattle.eip_meaning.specs.Meaning.{mean};
-ghost use Rattle.eip_progress.specs.Rest.{rest, IsFirst};
-ghost use Rattle.eip_rows.specs.First.{CanBegin, MayStep, SteppedOn};
-ghost use Rattle.eip_tables.specs.Look.{CanTake, Stepped, HasCursor, LookedAt, birth_at, birth_of as told_birth, FirstSeen};
+ghost use Rattle.eip_rows.specs.First.{CanBegin, MayStep, SteppedOn, BegunOn};
+ghost use Rattle.eip_tables.specs.Look.{HasCursor, LookedAt, birth_at, birth_of as told_birth, FirstSeen};
 ghost use Rattle.eip_tables.specs.Offers.{copy_birth as offered_copy};
 ghost use Rattle.eip_tables.specs.Groups.{completed};
 ghost use Rattle.eip_history.specs.Births.{name_of};
 
-use eip_cursor::{Advance, Cursor, Next};
+use eip_cursor::{begin, go_on};
 use eip_exchange::{Birth, Care, Message, Origin, Work};
-use eip_frames::{Answer, Completion, Request};
+use eip_frames::{Answer, Completion};
 use eip_ledger::{Entry, Kind};
 use eip_route::RouteSet;
 use eip_tables::live::Live;
 use eip_tables::row::{self, Born, Row};
 use eip_text::{Boxed, NoMemory, Text};
 use std::alloc::Global;
-use std::mem;
-
-/// Gives a cursor an answer, behind which it goes on.
-fn step(
-    cursor: &mut Cursor,
-    alloc: Global,
-    set: &RouteSet,
-    answer: &Answer,
-) -> Result<Request, NoMemory>
-    requires { CanTake set.now answer.now cursor.old }
-    ensures ok { IfOk result (λ q. Stepped set.now (rest set.now cursor.old) (answer.now ∷ []) cursor.new q) }
-    ensures err { OnErr result (cursor.new ≡ cursor.old) }
-{
-    match cursor.advance(alloc, set, Some(answer))? {
-        Next::Asks(request) => Ok(request),
-        Next::Ended(..) => unreachable!(),
-    }
-}
-
-/// The cursor of a birth, and what it asks first.
-fn first_cursor(alloc: Global, birth: Birth, set: &RouteSet) -> Result<(Cursor, Request), NoMemory>
-    requires { end_of (mean set.now birth []) ≡ None }
-    ensures { IfOk result (λ p. Stepped set.now (mean set.now birth) [] p.0 p.1) }
-{
-    let (first, next) = Cursor::begin(alloc, birth, set)?;
-    match next {
-        Next::Asks(request) => Ok((first, request)),
-        Next::Ended(..) => unreachable!(),
-    }
-}
 
 /// Gives the cursor of a live exchange an answer, behind which it goes on and asks again. On `NoMemory` all is as before.
 fn step_on(live: &mut Live, alloc: Global, set: &RouteSet, answer: &Answer) -> Result<(), NoMemory>
@@ -56,13 +25,18 @@ fn step_on(live: &mut Live, alloc: Global, set: &RouteSet, answer: &Answer) -> R
     ensures err { OnErr result (live.new ≡ live.old) }
 {
     match &mut live.cursor {
-        Some(cursor) => {
-            let request = step(cursor, alloc, set, answer)?;
-            drop(mem::replace(&mut live.request, Some(request)));
-            Ok(())
-        }
+        Some(cursor) => go_on(cursor, &mut live.request, alloc, set, answer),
         None => unreachable!(),
     }
+}
+
+/// The exchange of a birth begins, and asks for the first time. On `NoMemory` all is as before.
+fn begin_on(live: &mut Live, alloc: Global, birth: Birth, set: &RouteSet) -> Result<(), NoMemory>
+    requires { end_of (mean set.now birth []) ≡ None }
+    ensures ok { OnOk result (BegunOn set.now birth live.old live.new) }
+    ensures err { OnErr result (live.new ≡ live.old) }
+{
+    begin(&mut live.cursor, &mut live.request, alloc, birth, set)
 }
 
 /// Gives the cursor of a row an answer, behind which it goes on. On `NoMemory` the row is as before.
@@ -258,6 +232,15 @@ pub fn look_first(
     ensures err { OnErr result (row.new ≡ row.old) }
 {
     let birth = birth_of(alloc, set, entries, number, row)?;
-    let (cursor, request) = first_cursor(alloc, birth, set)?;
-    row::begin(row, alloc, vacant, cursor, request)
+    let mut live = row::take_room(row, alloc, vacant)?;
+    match begin_on(live.get_mut(), alloc, birth, set) {
+        Ok(()) => {
+            row::ask(row, live);
+            Ok(())
+        }
+        Err(NoMemory) => {
+            row::put_live(row, live);
+            Err(NoMemory)
+        }
+    }
 }

@@ -1,18 +1,18 @@
 ghost use Rattle.std.specs.Prelude.{◌≡◌, IfOk};
-ghost use Rattle.eip_meaning.specs.Values.{with_body, with_property, without_the_header};
 ghost use Rattle.eip_meaning.specs.Meaning.{steps_of};
 ghost use Rattle.eip_meaning.specs.Steps.{log_name, thrown, no_key, no_message_id};
-ghost use Rattle.eip_progress.specs.FirstTry.{asks, value_tried, not_empty, key_tried, header_tried, listed_tried, first_tried};
+ghost use Rattle.eip_progress.specs.FirstTry.{asks, value_tried, not_empty, key_tried, listed_tried, first_tried};
 ghost use Rattle.eip_meaning.specs.FanOuts.{listed};
+ghost use Rattle.eip_steps.specs.Changes.{IsOther};
 
+use crate::changes::{Change, change_message};
 use crate::sends::{asks, try_to};
-use eip_exchange::{Fault, HeaderFault, Message};
+use eip_exchange::{Fault, Message};
 use eip_frames::Request;
 use eip_meaning::Context;
 use eip_parts::checks::{choose, filter};
 use eip_parts::fans::{multicast, recipient_list, split};
 use eip_parts::faults::{bare_fault, too_long};
-use eip_parts::messages::with_body;
 use eip_parts::part;
 use eip_parts::values::{empty, evaluated, route_id, value_of};
 use eip_progress::Tried;
@@ -40,20 +40,30 @@ pub fn try_step(
 ) -> Result<Tried, NoMemory>
     ensures { IfOk result (λ t. t ≡ first_tried set.now context step.now message) }
 {
+    let mut message = message;
+    match change_message(alloc, set, context, step, &mut message)? {
+        Change::Goes => Ok(Tried::Goes(message)),
+        Change::Faults(fault) => Ok(Tried::Faults(fault, false, message)),
+        Change::Other => try_other(alloc, set, context, step, message),
+    }
+}
+
+/// One try of a step that does more than change the message.
+fn try_other(
+    alloc: Global,
+    set: &RouteSet,
+    context: Context,
+    step: &Step,
+    message: Message,
+) -> Result<Tried, NoMemory>
+    requires { IsOther step.now }
+    ensures { IfOk result (λ t. t ≡ first_tried set.now context step.now message) }
+{
     match step {
-        Step::SetBody(value) => {
-            let value = value_of(alloc, set, context, value, &message)?;
-            set_body(alloc, value, message)
-        }
-        Step::SetHeader { name, value } => {
-            let value = value_of(alloc, set, context, value, &message)?;
-            set_header(alloc, name, value, message)
-        }
-        Step::SetProperty { name, value } => {
-            let value = value_of(alloc, set, context, value, &message)?;
-            set_property(alloc, name, value, message)
-        }
-        Step::RemoveHeader(name) => remove_header(name, message),
+        Step::SetBody(_)
+        | Step::SetHeader { .. }
+        | Step::SetProperty { .. }
+        | Step::RemoveHeader(_) => unreachable!(),
         Step::To(uri) => try_to(alloc, set, context, uri, message),
         Step::Log {
             name,
@@ -103,72 +113,6 @@ pub fn try_step(
             part(alloc, 0, None, *block, latest, message)
         }
     }
-}
-
-fn set_body(alloc: Global, value: Option<Text>, message: Message) -> Result<Tried, NoMemory>
-    ensures { IfOk result (λ t. t ≡ value_tried value message (λ v. Tried.Goes (with_body message v))) }
-{
-    match value {
-        Some(value) => Ok(Tried::Goes(with_body(message, value))),
-        None => Ok(Tried::Faults(too_long(alloc)?, false, message)),
-    }
-}
-
-fn set_header(
-    alloc: Global,
-    name: &Text,
-    value: Option<Text>,
-    message: Message,
-) -> Result<Tried, NoMemory>
-    ensures { IfOk result (λ t. t ≡ value_tried value message (λ v. header_tried name.now v message)) }
-{
-    match value {
-        Some(value) => put_header(alloc, name, value, message),
-        None => Ok(Tried::Faults(too_long(alloc)?, false, message)),
-    }
-}
-
-fn put_header(
-    alloc: Global,
-    name: &Text,
-    value: Text,
-    mut message: Message,
-) -> Result<Tried, NoMemory>
-    ensures { IfOk result (λ t. t ≡ header_tried name.now value message) }
-{
-    match message.headers.set(name.copy()?, value) {
-        Ok(()) => Ok(Tried::Goes(message)),
-        Err(HeaderFault::TooManyHeaders) => {
-            let fault = Fault {
-                kind: Text::of_str(alloc, "TooManyHeaders")?,
-                text: name.copy()?,
-            };
-            Ok(Tried::Faults(fault, false, message))
-        }
-        Err(HeaderFault::NoMemory) => Err(NoMemory),
-    }
-}
-
-fn set_property(
-    alloc: Global,
-    name: &Text,
-    value: Option<Text>,
-    mut message: Message,
-) -> Result<Tried, NoMemory>
-    ensures { IfOk result (λ t. t ≡ value_tried value message (λ v. Tried.Goes (with_property message name.now v))) }
-{
-    let Some(value) = value else {
-        return Ok(Tried::Faults(too_long(alloc)?, false, message));
-    };
-    message.properties.set(name.copy()?, value)?;
-    Ok(Tried::Goes(message))
-}
-
-fn remove_header(name: &Text, mut message: Message) -> Result<Tried, NoMemory>
-    ensures { IfOk result (λ t. t ≡ Tried.Goes (without_the_header message name.now)) }
-{
-    let _ = message.headers.remove(name.bytes())?;
-    Ok(Tried::Goes(message))
 }
 
 /// A line of the log is asked for (Camel manual, *Log EIP*).

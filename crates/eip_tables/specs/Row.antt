@@ -1,5 +1,5 @@
 -- What is known of one exchange, however its row keeps it.
-use Rattle.std.specs.Prelude.{Option, Some, None}
+use Rattle.std.specs.Prelude.{Option, None}
 use Rattle.eip_exchange.specs.declared.birth.Birth.{Birth}
 use Rattle.eip_exchange.specs.declared.end.Fault.{Fault}
 use Rattle.eip_frames.specs.declared.request.Request.{Request}

@@ -1,6 +1,6 @@
-ghost use Rattle.std.specs.Prelude.{◌≡◌, Some, None, IfOk, OnOk, OnErr, MatchOption};
+ghost use Rattle.std.specs.Prelude.{◌≡◌, None, IfOk, IfNone, OnErr, MatchOption};
 ghost use Rattle.eip_tables.specs.Row.{kept_birth, kept_cursor, kept_request, kept_fault};
-ghost use Rattle.eip_tables.specs.Moves.{starved_end};
+ghost use Rattle.eip_tables.specs.Moves.{end_asked, starved_end};
 
 use eip_exchange::{Birth, End, Ended, Fault};
 use eip_frames::Request;
@@ -45,6 +45,15 @@ fn starved_end(birth: Option<Birth>, fault: Option<Fault>) -> Option<Ended>
     })
 }
 
+/// Drops what stands in a place. Where nothing does, the place is left alone, since to write a `None` fills all of it.
+fn clear<T: Drop>(place: &mut Option<T>)
+    ensures { place.new ≡ None }
+{
+    if place.is_some() {
+        *place = None;
+    }
+}
+
 impl Live {
     /// An exchange of which nothing is known, in an allocation of its own: the room for one that is to be born.
     pub fn room(alloc: Global) -> Result<Boxed<Live>, NoMemory> {
@@ -63,22 +72,19 @@ impl Live {
     fn tell(&mut self, birth: Option<Birth>, fault: Option<Fault>)
         ensures { self.new ≡ record { birth = birth; cursor = None; request = None; fault = fault } }
     {
-        if self.cursor.is_some() {
-            drop(self.cursor.take());
-        }
-        if self.request.is_some() {
-            drop(self.request.take());
-        }
-        drop(mem::replace(&mut self.birth, birth));
-        drop(mem::replace(&mut self.fault, fault));
+        self.forget();
+        self.birth = birth;
+        self.fault = fault;
     }
 
-    /// It has this cursor now, and asks this.
-    fn begin(&mut self, cursor: Cursor, request: Request)
-        ensures { self.new ≡ record self.old { cursor = Some cursor; request = Some request } }
+    /// Nothing is known of it. What it had is dropped.
+    fn forget(&mut self)
+        ensures { self.new ≡ record { birth = None; cursor = None; request = None; fault = None } }
     {
-        self.cursor = Some(cursor);
-        self.request = Some(request);
+        clear(&mut self.birth);
+        clear(&mut self.cursor);
+        clear(&mut self.request);
+        clear(&mut self.fault);
     }
 
     /// What it asks is handed out.
@@ -87,6 +93,20 @@ impl Live {
         ensures request { result ≡ self.old.request }
     {
         self.request.take()
+    }
+
+    /// The end that it asks for, handed out; any other request is dropped.
+    pub fn take_end(&mut self) -> Option<End>
+        ensures end { result ≡ end_asked self.old.request }
+        ensures none { IfNone result (self.new ≡ record self.old { request = None }) }
+    {
+        match &mut self.request {
+            Some(Request::Finish { end, .. }) => Some(mem::replace(end, End::Completed)),
+            _ => {
+                clear(&mut self.request);
+                None
+            }
+        }
     }
 
     /// The end that it has if it is starved, where it is a part, with the message that it was born with.
@@ -152,40 +172,35 @@ impl Kept {
         }
     }
 
-    /// The exchange has its first cursor and asks this, beside what was kept of its birth. Only where nothing was, room is needed; on
-    /// `NoMemory` all is as before.
-    pub fn begin(
+    /// What it has while it lives, taken out to be put back; where it has nothing yet, room for that. On `NoMemory` all is as before.
+    pub fn take_room(
         &mut self,
         alloc: Global,
         vacant: &mut Option<Boxed<Live>>,
-        cursor: Cursor,
-        request: Request,
-    ) -> Result<(), NoMemory>
-        ensures birth { OnOk result (kept_birth self.new ≡ kept_birth self.old) }
-        ensures cursor { OnOk result (kept_cursor self.new ≡ Some cursor) }
-        ensures request { OnOk result (kept_request self.new ≡ Some request) }
-        ensures fault { OnOk result (kept_fault self.new ≡ kept_fault self.old) }
+    ) -> Result<Boxed<Live>, NoMemory>
+        ensures birth { IfOk result (λ l. l.birth ≡ kept_birth self.old) }
+        ensures cursor { IfOk result (λ l. l.cursor ≡ kept_cursor self.old) }
+        ensures request { IfOk result (λ l. l.request ≡ kept_request self.old) }
+        ensures fault { IfOk result (λ l. l.fault ≡ kept_fault self.old) }
         ensures err { OnErr result (self.new ≡ self.old) }
     {
-        if let Kept::Live(live) = self {
-            live.get_mut().begin(cursor, request);
-            return Ok(());
-        }
-        let mut room = room_for(alloc, vacant)?;
-        room.get_mut().tell(None, self.take_fault());
-        room.get_mut().begin(cursor, request);
-        drop(mem::replace(self, Kept::Live(room)));
-        Ok(())
-    }
-
-    /// What it failed with is handed out.
-    fn take_fault(&mut self) -> Option<Fault>
-        ensures { result ≡ kept_fault self.old }
-    {
-        match self {
-            Kept::Live(live) => live.get_mut().fault.take(),
-            Kept::Failed(fault) => fault.replace(None),
-            Kept::Nothing => None,
+        match mem::replace(self, Kept::Nothing) {
+            Kept::Live(live) => Ok(live),
+            Kept::Nothing => {
+                let mut room = room_for(alloc, vacant)?;
+                room.get_mut().forget();
+                Ok(room)
+            }
+            Kept::Failed(mut fault) => match room_for(alloc, vacant) {
+                Ok(mut room) => {
+                    room.get_mut().tell(None, fault.replace(None));
+                    Ok(room)
+                }
+                Err(NoMemory) => {
+                    *self = Kept::Failed(fault);
+                    Err(NoMemory)
+                }
+            },
         }
     }
 
@@ -215,8 +230,11 @@ impl Kept {
     }
 }
 
-/// The room that is vacant, or else a new one.
-pub fn room_for(alloc: Global, vacant: &mut Option<Boxed<Live>>) -> Result<Boxed<Live>, NoMemory> {
+/// The room that is vacant, or else a new one. What stands in it is dropped when it is told of an exchange.
+pub(crate) fn room_for(
+    alloc: Global,
+    vacant: &mut Option<Boxed<Live>>,
+) -> Result<Boxed<Live>, NoMemory> {
     match vacant.take() {
         Some(room) => Ok(room),
         None => Live::room(alloc),
@@ -224,7 +242,7 @@ pub fn room_for(alloc: Global, vacant: &mut Option<Boxed<Live>>) -> Result<Boxed
 }
 
 /// What is kept of an exchange that has ended, with the fault that it failed with: that alone, or where there is no memory for it
-/// apart, in the place of what the exchange had. A room that it needs no more is the vacant one from now on.
+/// apart, in the place of what the exchange had. A room that it needs no more is the vacant one from now on, as it stands.
 pub fn left_by(
     alloc: Global,
     vacant: &mut Option<Boxed<Live>>,
@@ -237,8 +255,7 @@ pub fn left_by(
     ensures fault { kept_fault result ≡ fault }
 {
     let Some(fault) = fault else {
-        live.get_mut().tell(None, None);
-        drop(mem::replace(vacant, Some(live)));
+        *vacant = Some(live);
         return Kept::Nothing;
     };
     match Boxed::of(alloc, None) {

@@ -1,7 +1,7 @@
 ghost use Rattle.std.specs.Prelude.{◌≡◌, ◌<◌, ◌≤◌, ◌+◌, ◌++◌, ◌∷◌, [], Some, None, IfOk, OnOk, OnErr, IsSome, MatchOption, length, option_map, vec_len, vec_capacity};
 ghost use Rattle.eip_tables.specs.declared.row.Stage.TheVariants.{Asks};
 ghost use Rattle.eip_tables.specs.Row.{with_live};
-ghost use Rattle.eip_tables.specs.Moves.{new_row, copy_row, part_row, grouped_row, starving, started, begun, answered, held, joining, sleeping, woken, closed, starved_end, stage_of, fault_of, finished, end_asked, last_message, part_end, ended_with, ticks_asked, line_asked, finished_asked, ended_by};
+ghost use Rattle.eip_tables.specs.Moves.{new_row, copy_row, part_row, grouped_row, starving, started, answered, held, joining, sleeping, woken, closed, starved_end, stage_of, fault_of, finished, end_asked, last_message, part_end, ended_with, ticks_asked, line_asked, finished_asked, ended_by};
 ghost use Rattle.eip_tables.specs.State.{row_outside};
 ghost use Rattle.eip_tables.specs.Offers.{hops_by, offer_asked, offered_message};
 ghost use Rattle.eip_tables.specs.Parts.{at_by, seeds_asked, count_asked};
@@ -9,7 +9,6 @@ ghost use Rattle.eip_tables.specs.Parts.{at_by, seeds_asked, count_asked};
 use crate::live::{Kept, Live, left_by, room_for};
 use eip_exchange::{Birth, End, Ended, Fault, Message};
 use eip_frames::{Answer, At, Completion, Request, Seed, is_outside};
-use eip_progress::Cursor;
 use eip_text::{Boxed, NoMemory, Text};
 use std::alloc::Global;
 use std::marker::Model;
@@ -302,20 +301,17 @@ pub fn start(row: &mut Row)
     row.stage = Stage::New;
 }
 
-/// An exchange has its first cursor and asks this. On `NoMemory` the row is as before.
-pub fn begin(
+/// What an exchange has while it lives is taken out, to be put back; where it has nothing yet, that is room. On `NoMemory` the row is
+/// as before.
+pub fn take_room(
     row: &mut Row,
     alloc: Global,
     vacant: &mut Option<Boxed<Live>>,
-    cursor: Cursor,
-    request: Request,
-) -> Result<(), NoMemory>
-    ensures ok { OnOk result (row.new ≡ begun cursor request row.old) }
+) -> Result<Boxed<Live>, NoMemory>
+    ensures ok { IfOk result (λ l. row.old ≡ with_live l row.new) }
     ensures err { OnErr result (row.new ≡ row.old) }
 {
-    row.kept.begin(alloc, vacant, cursor, request)?;
-    row.stage = Stage::Asks;
-    Ok(())
+    row.kept.take_room(alloc, vacant)
 }
 
 /// What an exchange has while it lives is taken out, to be put back.
@@ -325,7 +321,7 @@ pub fn take_live(row: &mut Row) -> Option<Boxed<Live>>
     match mem::replace(&mut row.kept, Kept::Nothing) {
         Kept::Live(live) => Some(live),
         other => {
-            drop(mem::replace(&mut row.kept, other));
+            row.kept = other;
             None
         }
     }
@@ -335,14 +331,14 @@ pub fn take_live(row: &mut Row) -> Option<Boxed<Live>>
 pub fn put_live(row: &mut Row, live: Boxed<Live>)
     ensures { row.new ≡ with_live live row.old }
 {
-    drop(mem::replace(&mut row.kept, Kept::Live(live)));
+    row.kept = Kept::Live(live);
 }
 
 /// The exchange goes on, and asks what is put back with what it has.
 pub fn ask(row: &mut Row, live: Boxed<Live>)
     ensures { row.new ≡ record (with_live live row.old) { stage = Asks } }
 {
-    drop(mem::replace(&mut row.kept, Kept::Live(live)));
+    row.kept = Kept::Live(live);
     row.stage = Stage::Asks;
 }
 
@@ -397,7 +393,7 @@ pub fn close(row: &mut Row, stage: Stage)
     ensures { row.new ≡ closed stage row.old }
 {
     row.stage = stage;
-    drop(mem::replace(&mut row.kept, Kept::Nothing));
+    row.kept = Kept::Nothing;
 }
 
 /// The exchange is ended for want of memory; the end of a part is handed out, with the message that it was born with. It takes no
@@ -434,8 +430,7 @@ fn finish(
 {
     let (stage, fault) = ended(end);
     row.stage = stage;
-    let left = left_by(alloc, vacant, live, fault);
-    drop(mem::replace(&mut row.kept, left));
+    row.kept = left_by(alloc, vacant, live, fault);
 }
 
 /// The end that an exchange asks for, handed out; any other request is dropped.
@@ -543,19 +538,36 @@ pub fn finish_asked(
     ensures row { row.new ≡ finished_asked row.old }
     ensures ended { result ≡ ended_with told (last_message row.old.request) }
 {
+    if told.is_none() {
+        finish_alone(row, alloc, vacant);
+        return None;
+    }
     match mem::replace(&mut row.kept, Kept::Nothing) {
         Kept::Live(mut live) => {
             let (end, message) = finish_parts(live.get_mut().take_request());
             match end {
                 Some(end) => finish(row, alloc, vacant, live, end),
-                None => drop(mem::replace(&mut row.kept, Kept::Live(live))),
+                None => row.kept = Kept::Live(live),
             }
             ended_with(told, message)
         }
         other => {
-            drop(mem::replace(&mut row.kept, other));
+            row.kept = other;
             ended_with(told, None)
         }
+    }
+}
+
+/// The exchange ends by the end that it asks for, and nobody is told.
+fn finish_alone(row: &mut Row, alloc: Global, vacant: &mut Option<Boxed<Live>>)
+    ensures { row.new ≡ finished_asked row.old }
+{
+    match mem::replace(&mut row.kept, Kept::Nothing) {
+        Kept::Live(mut live) => match live.get_mut().take_end() {
+            Some(end) => finish(row, alloc, vacant, live, end),
+            None => row.kept = Kept::Live(live),
+        },
+        other => row.kept = other,
     }
 }
 

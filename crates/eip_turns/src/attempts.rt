@@ -7,7 +7,7 @@ ghost use Rattle.eip_meaning.specs.Values.{redelivered};
 ghost use Rattle.eip_meaning.specs.Attempts.{number_of_try};
 ghost use Rattle.eip_meaning.specs.Meaning.{steps_of as steps_in_block, block_of_route};
 ghost use Rattle.eip_progress.specs.Rest.{now_mean, guarded_mean, tried_mean, tries_of, nested_at, call_at, block_at};
-ghost use Rattle.eip_turns.specs.First.{first_at};
+ghost use Rattle.eip_turns.specs.First.{first_at, ChangesAt};
 ghost use Rattle.eip_turns.specs.Kept.{HasKept};
 ghost use Rattle.eip_turns.specs.Weights.{block_weight, nested_block};
 ghost use Rattle.eip_turns.specs.Falls.{now_weight, handling_in, tried_weight, try_weight};
@@ -18,7 +18,7 @@ use eip_meaning::Context;
 use eip_progress::{Now, Task, Tried, Wait};
 use eip_route::{RouteSet, Step};
 use eip_steps::messages::redelivered;
-use eip_steps::{try_step, try_to};
+use eip_steps::{Change, change_message, try_step, try_to};
 use eip_text::{Boxed, NoMemory};
 use eip_uri::Uri;
 use std::alloc::Global;
@@ -147,6 +147,24 @@ pub fn step_at(set: &RouteSet, block: u32, index: usize) -> Option<&Step>
     match set.blocks.items().get(block as usize) {
         Some(found) => found.steps.items().get(index),
         None => None,
+    }
+}
+
+/// What the step of a block at an index has done to the message, if it only changes it. One that isn't there lets it go
+/// on as it is.
+pub fn change_at(
+    alloc: Global,
+    set: &RouteSet,
+    context: Context,
+    block: u32,
+    index: usize,
+    message: &mut Message,
+) -> Result<Change, NoMemory>
+    ensures { IfOk result (λ x. ChangesAt set.now context (slice_get (steps_in_block set.now block) index) message.old message.new x) }
+{
+    match step_at(set, block, index) {
+        Some(step) => change_message(alloc, set, context, step, message),
+        None => Ok(Change::Goes),
     }
 }
 

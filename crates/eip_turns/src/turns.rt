@@ -15,30 +15,30 @@ ghost use Rattle.eip_turns.specs.Kept.{HasKept, IsLater};
 ghost use Rattle.eip_turns.specs.Weights.{block_weight, weight_of_option};
 ghost use Rattle.eip_turns.specs.Falls.{now_weight, handling_in, tried_weight, frame_weight, stack_weight, TurnFalls};
 
-use crate::attempts::{after_try, begin_dead, first_try};
+use crate::attempts::{after_try, begin_dead, change_at, first_try};
 use eip_exchange::{End, Message};
 use eip_meaning::Context;
-use eip_progress::{Frame, Now, State, Task, Tried, Turn};
+use eip_progress::{Frame, Now, State, Task, Tried, Turn, Wait};
 use eip_route::RouteSet;
-use eip_steps::steps_of;
+use eip_steps::{Change, steps_of};
 use eip_text::NoMemory;
 use std::alloc::Global;
 
-/// All turns up to the next request or the end.
+/// All turns up to the next request or the end, on what comes behind the part that runs.
 pub fn run(
     alloc: Global,
     set: &RouteSet,
-    mut stack: Vec<Frame>,
+    stack: &mut Vec<Frame>,
     mut now: Now,
-) -> Result<(Vec<Frame>, State), NoMemory>
-    ensures means { IfOk result (λ r. (commit : Bool) (item : List ℕ) (c : AContext) (whole : Option AUri) (A : List AnAnswer) → rest_of set.now commit item c whole r.0.items r.1 A
-        ≡ finished commit item (place_in c 0) (behind_all set.now stack.items (now_mean set.now whole now A))) }
-    ensures later { IfOk result (λ r. IsStarting r.1 → ⊥) }
+) -> Result<State, NoMemory>
+    ensures means { IfOk result (λ s. (commit : Bool) (item : List ℕ) (c : AContext) (whole : Option AUri) (A : List AnAnswer) → rest_of set.now commit item c whole stack.new.items s A
+        ≡ finished commit item (place_in c 0) (behind_all set.now stack.old.items (now_mean set.now whole now A))) }
+    ensures later { IfOk result (λ s. IsStarting s → ⊥) }
 {
     loop {
-        match turn(alloc, set, &mut stack, now)? {
+        match turn(alloc, set, stack, now)? {
             Turn::Again(next) => now = next,
-            Turn::Done(state) => return Ok((stack, state)),
+            Turn::Done(state) => return Ok(state),
         }
     }
 }
@@ -218,15 +218,26 @@ fn resume_rest(
     let mut index = index;
     let mut message = message;
     while let Some(next) = next_index(set, block, index) {
-        let tried = first_try(alloc, set, context, block, index, message)?;
-        match tried {
-            Tried::Goes(gone) => {
-                message = gone;
-                index = next;
-            }
-            tried => {
+        match change_at(alloc, set, context, block, index, &mut message)? {
+            Change::Goes => index = next,
+            Change::Faults(fault) => {
+                let tried = Tried::Faults(fault, false, message);
                 let now = behind_step(alloc, set, stack, context, block, index, next, tried)?;
                 return Ok(now);
+            }
+            Change::Other => {
+                match first_try(alloc, set, context, block, index, message)? {
+                    Tried::Goes(gone) => {
+                        message = gone;
+                        index = next;
+                    }
+                    tried => {
+                        let now = behind_step(
+                            alloc, set, stack, context, block, index, next, tried,
+                        )?;
+                        return Ok(now);
+                    }
+                }
             }
         }
     }
@@ -250,8 +261,21 @@ fn behind_step(
 {
     push_rest(set, stack, context, block, next)?;
     let task = Task::Step { block, index };
-    let now = after_try(alloc, set, context, task, 1000, None, tried)?;
-    Ok(now)
+    match tried {
+        Tried::Asks(asking, message) => {
+            Ok(Now::Waits(Wait::Trying {
+                context,
+                task,
+                left: 1000,
+                message,
+                asking,
+            }))
+        }
+        tried => {
+            let now = after_try(alloc, set, context, task, 1000, None, tried)?;
+            Ok(now)
+        }
+    }
 }
 
 /// The steps of a block from an index on come behind what runs. Where there are none, nothing does.

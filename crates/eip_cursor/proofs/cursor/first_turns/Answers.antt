@@ -1,6 +1,7 @@
 use Rattle.std.proofs.Common.{◌∙◌, refl}
+use Rattle.eip_cursor.proofs.Following.{if-ok}
 use Rattle.eip_cursor.proofs.cursor.first_turns.Goals as goal
 
 pub returns-clause-rest : goal.returns-clause-rest
-returns-clause-rest c = λ commit item A.
-    c.in_ok-last.ensures.means commit item c.args.context c.in_ok-first.first.0 A ∙ rw (c.in_ok-first.ensures A) refl
+returns-clause-rest c =
+    if-ok c.run.result _ _ (λ s means commit item A. means commit item c.args.context c.begun.new.whole A ∙ rw (c.in_ok-now.ensures A) refl) c.run.ensures.means

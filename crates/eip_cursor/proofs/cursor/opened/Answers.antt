@@ -6,5 +6,5 @@ use Rattle.eip_cursor.proofs.cursor.opened.Goals as goal
 pub returns-clause-rest : goal.returns-clause-rest
 unfolding rest
 returns-clause-rest c = λ A.
-    c.in_ok-reached.ensures.rest c.args.cursor.now.commit (item_of c.args.cursor.now.origin) A
-    ∙ rw (c.in_ok-frames.ensures, c.deref.ensures.value, c.in_ok-message.ensures, c.in-Starting.is) refl
+    c.in_ok-state.ensures.rest c.args.cursor.now.commit (item_of c.args.cursor.now.origin) A
+    ∙ rw (c.in_ok-stack.ensures, c.deref.ensures.value, c.in_ok-message.ensures, c.in-Starting.is) refl

@@ -7,4 +7,4 @@ use Rattle.eip_cursor.proofs.cursor.sent.Goals as goal
 
 pub returns-in_ok-now-in-Ok : goal.returns-in_ok-now-in-Ok
 returns-in_ok-now-in-Ok c = λ A.
-    c.in_ok-now-in-Ok.ensures A ∙ rw c.in_ok-of-in-Ok.ensures (ap (λ (r : Result Uri UriFault). send_to c.args.set.now c.args.context r c.args.message A) (sym c.in-Ok.ensures.reads))
+    c.in_ok-now-in-Ok.ensures A ∙ rw (c.put_in.ensures, c.in_ok-of-in-Ok.ensures) (ap (λ (r : Result Uri UriFault). send_to c.args.set.now c.args.context r c.args.message A) (sym c.in-Ok.ensures.reads))

@@ -1,13 +1,16 @@
-use Rattle.eip_rows.proofs.There.{on-ok}
+use Rattle.std.proofs.Common.{ap, sym, ◌∙◌}
+use Rattle.eip_tables.specs.Row.{with_live}
+use Rattle.eip_tables.specs.Moves.{begun}
+use Rattle.eip_tables.specs.declared.live.Live.{Live}
+use Rattle.eip_tables.specs.declared.row.Stage.TheVariants.{Asks}
 use Rattle.eip_rows.proofs.look.look_first.Goals as goal
 
-pub returns-clause-ok : goal.returns-clause-ok
-returns-clause-ok c =
-    on-ok c.begin.result _ _
-    (λ begins. record {
-      cursor = c.in_ok-cursor.cursor;
-      request = c.in_ok-cursor.request;
-      row = begins;
-      looked = record { birth = c.in_ok-birth.birth; made = c.in_ok-birth.ensures; stepped = c.in_ok-cursor.ensures };
-    })
-    c.begin.ensures.ok
+pub returns-in-Ok-clause-ok : goal.returns-in-Ok-clause-ok
+returns-in-Ok-clause-ok c =
+    let on = rw c.get_mut.ensures.value at c.in-Ok.ensures.ok in
+    record {
+      cursor = on.cursor;
+      request = on.request;
+      row = c.ask.ensures ∙ (ap (λ (l : Live). record (with_live l c.take_room.new.row) { stage = Asks }) on.live ∙ sym (ap (begun on.cursor on.request) c.in_ok-live.ensures.ok));
+      looked = record { birth = c.in_ok-birth.birth; made = c.in_ok-birth.ensures; stepped = on.stepped };
+    }

@@ -9,10 +9,10 @@ use Rattle.eip_progress.specs.Rest.{now_mean, behind_all}
 use Rattle.eip_turns.specs.Falls.{stack_weight, now_weight}
 use Rattle.eip_turns.proofs.turns.run.Given as goal
 
-abbrev pub invariant-loop-stack : goal.invariant-loop-stack
-invariant-loop-stack l = (commit : Bool) (item : List ℕ) (c : Context) (whole : Option Uri) (A : List Reply) →
+abbrev pub invariant-loop-next : goal.invariant-loop-next
+invariant-loop-next l = (commit : Bool) (item : List ℕ) (c : Context) (whole : Option Uri) (A : List Reply) →
     finished commit item (place_in c 0) (behind_all l.set l.stack.items (now_mean l.set whole l.now A))
     ≡ finished commit item (place_in c 0) (behind_all l.set l.initial.stack.items (now_mean l.set whole l.initial.now A))
 
-abbrev pub decreases-loop-stack : goal.decreases-loop-stack
-decreases-loop-stack l = stack_weight l.set l.stack.items + now_weight l.set l.now
+abbrev pub decreases-loop-next : goal.decreases-loop-next
+decreases-loop-next l = stack_weight l.set l.stack.items + now_weight l.set l.now
