@@ -49,8 +49,7 @@ impl Books {
         };
         self.keys.settle(number, ending);
         leave(&mut self.queues, born);
-        let ended = self.rows.finish_asked(number, told);
-        let woken = tell(&mut self.joins, born, number, ended);
+        let woken = self.rows.finish_asked(&mut self.joins, number, told);
         self.ready.remove(number);
         wake(&mut self.rows, &mut self.ready, woken);
         append_answer(&mut self.journal, worker, number, Answer::Finished);

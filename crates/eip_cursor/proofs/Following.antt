@@ -18,7 +18,10 @@ use Rattle.eip_progress.specs.declared.frame.Wait.{Wait}
 use Rattle.eip_progress.specs.declared.cursor.State.{State}
 use Rattle.eip_progress.specs.declared.cursor.State.TheVariants as state
 use Rattle.eip_progress.specs.declared.cursor.Cursor.{Cursor}
-use Rattle.eip_progress.specs.Rest.{rest, rest_of, behind_all, request_of, wait_place, state_place, asked_at, IsFirst}
+use Rattle.eip_progress.specs.Rest.{rest, rest_of, behind_all, request_of, wait_place, state_place, asked_at, IsFirst, IsStarting}
+use Rattle.eip_turns.specs.declared.course.Course.{Course}
+use Rattle.eip_turns.specs.declared.course.Course.TheVariants as course
+use Rattle.eip_turns.specs.Courses.{state_of, IsLast}
 use Rattle.eip_cursor.specs.Follows.{IsOver, MayGoOn}
 use Rattle.eip_cursor.specs.InTurn.{WaitMoves}
 use Rattle.eip_cursor.proofs.Fitting.{asks_wait}
@@ -55,3 +58,13 @@ asks_waiting commit s w p (Err n) e h = tt
 pub if-ok : {X E : Type 0} (r : Result X E) (P Q : X → Type 0) → ((x : X) → P x → Q x) → IfOk r P → IfOk r Q
 if-ok (Ok x) P Q f h = f x h
 if-ok (Err e) P Q f h = tt
+
+-- an exchange whose turns are done has asked something
+pub not_starting : (x : Course) (m : Message) → IsLast x → IsStarting (state_of x m) → ⊥
+not_starting course.Goes m l s = l
+not_starting (course.Stops e) m l s = s
+not_starting (course.Asks c t left x) m l s = s
+not_starting (course.Sleeps c t left ticks) m l s = s
+not_starting (course.Enters c b) m l s = l
+not_starting (course.Handles handled continued f c b) m l s = l
+not_starting (course.Letters c) m l s = l

@@ -7,19 +7,21 @@ ghost use Rattle.eip_frames.specs.declared.request.At.{At as APlace};
 ghost use Rattle.eip_uri.specs.Reading.{read};
 ghost use Rattle.eip_meaning.specs.Contexts.{place_in};
 ghost use Rattle.eip_meaning.specs.Meaning.{mean, item_of, work_mean, send_to, finished};
+ghost use Rattle.eip_turns.specs.Courses.{now_of, state_of, IsLast};
 ghost use Rattle.eip_progress.specs.Rest.{rest, rest_of, behind_all, now_mean, IsFirst, IsStarting, asked_at, state_place, next_fate, answers_of, AnswerFits};
 
 use crate::asked::{asked, put_in};
 use crate::ends::{end_answered, is_told_origin};
+use crate::last::message_in;
 use crate::waits::on_answer;
 use eip_copies::copy_frames;
 use eip_exchange::{Birth, Message, Work};
 use eip_frames::Answer;
 use eip_meaning::Context;
-use eip_progress::{Cursor, Frame, Next, Now, State};
+use eip_progress::{Cursor, Frame, Next, State};
 use eip_route::RouteSet;
 use eip_text::{Boxed, NoMemory, Text};
-use eip_turns::{begin_whole, run};
+use eip_turns::{Course, begin_whole, into_state, run};
 use eip_uri::{Uri, UriFault};
 use std::alloc::Global;
 
@@ -150,20 +152,20 @@ fn opened(cursor: &Cursor, alloc: Global, set: &RouteSet) -> Result<Reached, NoM
     };
     let mut stack = copy_frames(alloc, &cursor.stack)?;
     let mut whole = None;
-    let message = message.copy(alloc)?;
-    let state = first_turns(
+    let mut message = message.copy(alloc)?;
+    let course = first_turns(
         alloc,
         set,
         cursor.context,
         work,
-        message,
+        &mut message,
         &mut whole,
         &mut stack,
     )?;
     Ok(Reached {
         whole,
         stack,
-        state,
+        state: into_state(course, message),
     })
 }
 
@@ -174,16 +176,16 @@ pub fn first_turns(
     set: &RouteSet,
     context: Context,
     work: &Work,
-    message: Message,
+    message: &mut Message,
     whole: &mut Option<Boxed<Uri>>,
     stack: &mut Vec<Frame>,
-) -> Result<State, NoMemory>
-    ensures rest { IfOk result (λ s. (commit : Bool) (item : List ℕ) (A : List AnAnswer) → rest_of set.now commit item context whole.new stack.new.items s A
-        ≡ finished commit item (place_in context 0) (behind_all set.now stack.old.items (work_mean set.now context work.now message A))) }
-    ensures later { IfOk result (λ s. IsStarting s → ⊥) }
+) -> Result<Course, NoMemory>
+    ensures rest { IfOk result (λ x. (commit : Bool) (item : List ℕ) (A : List AnAnswer) → rest_of set.now commit item context whole.new stack.new.items (state_of x message.new) A
+        ≡ finished commit item (place_in context 0) (behind_all set.now stack.old.items (work_mean set.now context work.now message.old A))) }
+    ensures last { IfOk result (λ x. IsLast x) }
 {
-    let now = begun(alloc, set, context, work, message, whole)?;
-    run(alloc, set, stack, now)
+    let course = begun(alloc, set, context, work, message, whole)?;
+    run(alloc, set, stack, message, course)
 }
 
 /// The work of a birth begins.
@@ -192,20 +194,19 @@ fn begun(
     set: &RouteSet,
     context: Context,
     work: &Work,
-    message: Message,
+    message: &mut Message,
     whole: &mut Option<Boxed<Uri>>,
-) -> Result<Now, NoMemory>
-    ensures { IfOk result (λ n. (A : List AnAnswer) → now_mean set.now whole.new n A ≡ work_mean set.now context work.now message A) }
+) -> Result<Course, NoMemory>
+    ensures { IfOk result (λ n. (A : List AnAnswer) → now_mean set.now whole.new (now_of n message.new) A ≡ work_mean set.now context work.now message.old A) }
 {
     match work {
-        Work::Block(block) => Ok(Now::Enters {
+        Work::Block(block) => Ok(Course::Enters {
             context,
             block: *block,
-            message,
         }),
         Work::To(text) => {
-            let now = sent(alloc, set, context, text, message, whole)?;
-            Ok(now)
+            let course = sent(alloc, set, context, text, message, whole)?;
+            Ok(course)
         }
     }
 }
@@ -216,22 +217,22 @@ fn sent(
     set: &RouteSet,
     context: Context,
     text: &Text,
-    message: Message,
+    message: &mut Message,
     whole: &mut Option<Boxed<Uri>>,
-) -> Result<Now, NoMemory>
-    ensures { IfOk result (λ n. (A : List AnAnswer) → now_mean set.now whole.new n A ≡ send_to set.now context (read text.now []) message A) }
+) -> Result<Course, NoMemory>
+    ensures { IfOk result (λ n. (A : List AnAnswer) → now_mean set.now whole.new (now_of n message.new) A ≡ send_to set.now context (read text.now []) message.old A) }
 {
     match Uri::read(alloc, text, &[]) {
         Ok(uri) => {
             put_in(whole, Some(Boxed::of(alloc, uri)?));
-            let now = begin_whole(alloc, set, whole, context, 1000, message)?;
-            Ok(now)
+            let course = begin_whole(alloc, set, whole, context, 1000, message)?;
+            Ok(course)
         }
         Err(fault) => {
             if is_want_of_memory(&fault) {
                 return Err(NoMemory);
             }
-            Ok(Now::Goes(message))
+            Ok(Course::Goes)
         }
     }
 }
@@ -266,12 +267,13 @@ pub fn answered(
     let whole = copy_whole(alloc, &cursor.whole)?;
     match &cursor.state {
         State::Runs(wait) => {
-            let now = on_answer(alloc, set, &whole, wait, answer)?;
-            let state = run(alloc, set, &mut stack, now)?;
+            let mut message = message_in(wait).copy(alloc)?;
+            let course = on_answer(alloc, set, &whole, wait, &mut message, answer)?;
+            let course = run(alloc, set, &mut stack, &mut message, course)?;
             Ok(Reached {
                 whole,
                 stack,
-                state,
+                state: into_state(course, message),
             })
         }
         State::Finishing(end, message) => {

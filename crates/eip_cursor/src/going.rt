@@ -2,50 +2,55 @@ ghost use Rattle.std.specs.Prelude.{◌≡◌, ◌∷◌, [], IfOk, OnOk, OnErr}
 ghost use Rattle.eip_exchange.specs.declared.message.Message.{Message as AMessage};
 ghost use Rattle.eip_exchange.specs.declared.end.End.{End as AnEnd};
 ghost use Rattle.eip_frames.specs.Fate.{Ends};
-ghost use Rattle.eip_meaning.specs.Meaning.{mean};
 ghost use Rattle.eip_progress.specs.Rest.{rest, IsFirst, AnswerFits};
-ghost use Rattle.eip_cursor.specs.Follows.{GoesOn, MayGoOn, Begun};
+ghost use Rattle.eip_cursor.specs.Follows.{GoesOn, MayGoOn, Begun, begins};
 
 use crate::asked::{ask, put_in};
 use crate::cursor::{answered, first_turns, put};
 use crate::ends::is_told_origin;
 use crate::last::{ask_to_end, last_message};
 use crate::parts::{between_parts, is_between};
-use eip_exchange::Birth;
+use eip_exchange::{Message, Origin, Work};
 use eip_frames::{Answer, Request};
 use eip_meaning::Context;
 use eip_progress::{Cursor, State};
 use eip_route::RouteSet;
 use eip_text::NoMemory;
+use eip_turns::into_state;
 use std::alloc::Global;
 
 // An exchange that lives goes on where its cursor and its request lie, so that neither is moved.
 
-/// Puts the cursor of a birth into the one place, and what it asks first into the other: what `start` and the first `advance` give,
-/// without a copy of the message. On `NoMemory` both places are as before.
-#[tactic(auto, unfolding(eip_progress::specs::Rest::rest, eip_progress::specs::Rest::IsFirst, eip_progress::specs::Rest::asked_at, eip_meaning::specs::Meaning::mean))]
+/// Puts the cursor of an exchange of this origin into the one place, and what it asks first into the other; its work begins with this
+/// message. It is what `start` and the first `advance` give on a birth, without one. On `NoMemory` both places are as before.
+#[tactic(auto, unfolding(eip_progress::specs::Rest::rest, eip_progress::specs::Rest::IsFirst, eip_progress::specs::Rest::asked_at))]
 pub fn begin(
     place: &mut Option<Cursor>,
     asked: &mut Option<Request>,
     alloc: Global,
-    birth: Birth,
     set: &RouteSet,
+    context: Context,
+    origin: Origin,
+    work: &Work,
+    mut message: Message,
 ) -> Result<(), NoMemory>
-    requires lives { (e : AnEnd) (m : AMessage) → mean set.now birth [] ≡ Ends e m → ⊥ }
-    ensures ok { OnOk result (Begun set.now birth place.new asked.new) }
+    requires lives { (e : AnEnd) (m : AMessage) → begins set.now context origin work.now message [] ≡ Ends e m → ⊥ }
+    ensures ok { OnOk result (Begun set.now (begins set.now context origin work.now message) place.new asked.new) }
     ensures err { OnErr result ((place.new ≡ place.old) × (asked.new ≡ asked.old)) }
 {
-    let context = Context::of(&birth);
-    let commit = is_told_origin(set, &birth.origin);
-    let Birth {
-        origin,
-        work,
-        message,
-        ..
-    } = birth;
+    let commit = is_told_origin(set, &origin);
     let mut whole = None;
     let mut stack = Vec::new(alloc);
-    let state = first_turns(alloc, set, context, &work, message, &mut whole, &mut stack)?;
+    let course = first_turns(
+        alloc,
+        set,
+        context,
+        work,
+        &mut message,
+        &mut whole,
+        &mut stack,
+    )?;
+    let state = into_state(course, message);
     ask(alloc, commit, &state, asked)?;
     let cursor = Cursor {
         context,

@@ -47,7 +47,8 @@ pub fn last_message(
     }
 }
 
-fn message_in(wait: &Wait) -> &Message
+/// The message that waits, as it stood at the step.
+pub fn message_in(wait: &Wait) -> &Message
     ensures { result.now ≡ message_of wait.now }
 {
     match wait {

@@ -1,4 +1,4 @@
-ghost use Rattle.std.specs.Prelude.{◌≡◌, ◌<◌, ◌⊎◌, ℕ, List, [], false, bytes_eq, length, vec_len, IfOk, IfErr, IsErrOf};
+ghost use Rattle.std.specs.Prelude.{◌≡◌, ◌<◌, ◌⊎◌, ℕ, List, [], false, bytes_eq, length, vec_len, IfOk, IfErr, IfSome, IsErrOf};
 ghost use Rattle.std.specs.Io.KnownBytes.{prepend_known};
 ghost use Rattle.eip_text.specs.Causes.{Rises, Rose};
 ghost use Rattle.eip_uri.specs.Printed.{printed};
@@ -18,6 +18,17 @@ use eip_text::{NoMemory, Text};
 use eip_uri::Uri;
 use std::alloc::Global;
 
+/// The index of the reader of a URI, where it has one and its printed form is known without memory.
+fn standing(readers: &[(Text, LineReader)], from: &Uri) -> Option<usize>
+    ensures first { IfSome result (λ k. StandsAt (printed from.now) k readers.now) }
+    ensures within { IfSome result (λ k. k < length readers.now) }
+{
+    match from {
+        Uri::StreamIn => find(readers, b"stream:in"),
+        _ => None,
+    }
+}
+
 /// The index of the reader of a printed URI, which is made where it has none yet.
 fn place_for(
     alloc: Global,
@@ -34,6 +45,23 @@ fn place_for(
     let place = readers.len();
     readers.push((uri, LineReader::new(alloc)?))?;
     Ok(place)
+}
+
+/// The index of the reader of a URI, which is made where it has none yet.
+fn place_of(
+    alloc: Global,
+    readers: &mut Vec<(Text, LineReader)>,
+    from: &Uri,
+) -> Result<usize, NoMemory>
+    ensures same { (v : List ℕ) → reader_for v readers.new.items ≡ reader_for v readers.old.items }
+    ensures first { IfOk result (λ k. StandsAt (printed from.now) k readers.new.items) }
+    ensures within { IfOk result (λ k. k < vec_len readers.new) }
+{
+    if let Some(place) = standing(readers.as_slice(), from) {
+        return Ok(place);
+    }
+    let uri = from.print(alloc)?;
+    place_for(alloc, readers, uri)
 }
 
 /// The next line of the reader with this index, which is the first one of the endpoint. The other readers are as
@@ -129,10 +157,7 @@ impl<L: Link + Send + Drop> Source for LineSource<L> {
         ensures others { (v : List ℕ) → bytes_eq (printed from.now) v ≡ false → reader_for v self.new.readers.items ≡ reader_for v self.old.readers.items }
         ensures written { L.written self.new.link ≡ L.written self.old.link }
     {
-        let Ok(uri) = from.print(self.alloc) else {
-            return Err(PullFault::NoMemory);
-        };
-        let Ok(place) = place_for(self.alloc, &mut self.readers, uri) else {
+        let Ok(place) = place_of(self.alloc, &mut self.readers, from) else {
             return Err(PullFault::NoMemory);
         };
         let readers = self.readers.as_mut_slice();

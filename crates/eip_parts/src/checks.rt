@@ -6,13 +6,15 @@ ghost use Rattle.eip_simple.specs.Holding.{predicate_holds};
 ghost use Rattle.eip_meaning.specs.Values.{seen_in};
 ghost use Rattle.eip_meaning.specs.Checks.{held};
 ghost use Rattle.eip_progress.specs.FirstTry.{check_tried, nested_if, nested_where, choice_tried};
+ghost use Rattle.eip_parts.specs.Effects.{tried_of};
 ghost use Rattle.eip_parts.specs.Knowing.{known_tried};
 
+use crate::effect::Effect;
 use crate::values::{empty, route_id};
 use eip_exchange::Message;
 use eip_frames::{Answer, Request};
 use eip_meaning::Context;
-use eip_progress::{Progress, Tried};
+use eip_progress::Progress;
 use eip_route::{Check, RouteSet};
 use eip_simple::{View, holds};
 use eip_simple_read::Predicate;
@@ -79,13 +81,13 @@ pub fn held(answer: &Answer) -> bool
 }
 
 /// The block, where the check holds (Camel manual, *Filter EIP*).
-pub fn nested_if(holds: bool, block: u32, message: Message) -> Tried
-    ensures { result ≡ nested_if holds block message }
+pub fn nested_if(holds: bool, block: u32) -> Effect
+    ensures { (m : AMessage) → tried_of result m ≡ nested_if holds block m }
 {
     if holds {
-        Tried::Enters(block, message)
+        Effect::Enters(block)
     } else {
-        Tried::Goes(message)
+        Effect::Goes
     }
 }
 
@@ -95,13 +97,13 @@ pub fn filter(
     context: Context,
     check: &Check,
     block: u32,
-    message: Message,
-) -> Result<Tried, NoMemory>
-    ensures { IfOk result (λ t. t ≡ check_tried set.now context check.now Progress.First message message (λ holds. nested_if holds block message)) }
+    message: &Message,
+) -> Result<Effect, NoMemory>
+    ensures { IfOk result (λ e. tried_of e message.now ≡ check_tried set.now context check.now Progress.First message.now message.now (λ holds. nested_if holds block message.now)) }
 {
-    match checked(alloc, set, context, check, &message)? {
-        Known::Is(holds) => Ok(nested_if(holds, block, message)),
-        Known::Asks(request) => Tried::asked(alloc, Progress::First, request, 0, message),
+    match checked(alloc, set, context, check, message)? {
+        Known::Is(holds) => Ok(nested_if(holds, block)),
+        Known::Asks(request) => Effect::asking(alloc, Progress::First, request, 0),
     }
 }
 
@@ -113,33 +115,33 @@ pub fn choose(
     cases: &[(Check, u32)],
     otherwise: Option<u32>,
     from: usize,
-    message: Message,
-) -> Result<Tried, NoMemory>
-    ensures { IfOk result (λ t. t ≡ choice_tried set.now context from (drop from cases.now) otherwise message) }
+    message: &Message,
+) -> Result<Effect, NoMemory>
+    ensures { IfOk result (λ e. tried_of e message.now ≡ choice_tried set.now context from (drop from cases.now) otherwise message.now) }
 {
     let mut index = from;
     while index < cases.len() {
         let case = &cases[index];
-        match checked(alloc, set, context, &case.0, &message)? {
+        match checked(alloc, set, context, &case.0, message)? {
             Known::Is(holds) => {
                 if holds {
-                    return Ok(Tried::Enters(case.1, message));
+                    return Ok(Effect::Enters(case.1));
                 }
             }
             Known::Asks(request) => {
-                return Tried::asked(alloc, Progress::Choosing(index), request, 0, message);
+                return Effect::asking(alloc, Progress::Choosing(index), request, 0);
             }
         }
         index += 1;
     }
-    Ok(nested_where(otherwise, message))
+    Ok(nested_where(otherwise))
 }
 
-fn nested_where(block: Option<u32>, message: Message) -> Tried
-    ensures { result ≡ nested_where block message }
+fn nested_where(block: Option<u32>) -> Effect
+    ensures { (m : AMessage) → tried_of result m ≡ nested_where block m }
 {
     match block {
-        Some(block) => Tried::Enters(block, message),
-        None => Tried::Goes(message),
+        Some(block) => Effect::Enters(block),
+        None => Effect::Goes,
     }
 }

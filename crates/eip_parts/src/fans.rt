@@ -10,14 +10,16 @@ ghost use Rattle.eip_meaning.specs.Parts.{block_seed, send_seed, first_born, cou
 ghost use Rattle.eip_uri.specs.Printed.{printed};
 ghost use Rattle.eip_progress.specs.FirstTry.{fan_tried, pieces_tried, branches_tried, listed_tried};
 ghost use Rattle.eip_progress.specs.Answered.{taken_tried, join_tried, next_seed, next_tried, fan_on};
+ghost use Rattle.eip_parts.specs.Effects.{tried_of};
 
+use crate::effect::Effect;
 use crate::faults::{bare_fault, counted_fault, strategy_fault, too_many_parts};
-use crate::messages::with_content;
+use crate::messages::set_content;
 use eip_copies::{copy_ended, copy_queue};
 use eip_exchange::{Care, End, Ended, Fault, How, Message, Strategy, Work};
 use eip_frames::{Answer, Request, Seed};
 use eip_meaning::Context;
-use eip_progress::{Progress, Queue, Tried};
+use eip_progress::{Progress, Queue};
 use eip_route::Fan;
 use eip_router::{RecipientFault, recipients};
 use eip_splitter::{SplitFault, parts};
@@ -39,15 +41,15 @@ pub fn split(
     how: &How,
     fan: &Fan,
     block: u32,
-    message: Message,
-) -> Result<Tried, NoMemory>
-    ensures { IfOk result (λ t. t ≡ pieces_tried (spec.cut how.now message) context fan.now block message) }
+    message: &mut Message,
+) -> Result<Effect, NoMemory>
+    ensures { IfOk result (λ e. tried_of e message.new ≡ pieces_tried (spec.cut how.now message.old) context fan.now block message.old) }
 {
-    match cut(alloc, how, &message) {
+    match cut(alloc, how, message) {
         Ok(pieces) => split_into(alloc, context, fan, block, pieces, message),
         Err(fault) => {
             let fault = split_fault(alloc, fault)?;
-            Ok(Tried::Faults(fault, false, message))
+            Effect::faulting(alloc, fault, false)
         }
     }
 }
@@ -58,9 +60,9 @@ fn split_into(
     fan: &Fan,
     block: u32,
     pieces: Vec<Message>,
-    message: Message,
-) -> Result<Tried, NoMemory>
-    ensures { IfOk result (λ t. t ≡ pieces_tried (Ok pieces.items) context fan.now block message) }
+    message: &mut Message,
+) -> Result<Effect, NoMemory>
+    ensures { IfOk result (λ e. tried_of e message.new ≡ pieces_tried (Ok pieces.items) context fan.now block message.old) }
 {
     let care = context.care_of_parts(fan.share);
     let seeds = piece_seeds(alloc, care, block, pieces)?;
@@ -133,17 +135,17 @@ pub fn multicast(
     context: Context,
     fan: &Fan,
     blocks: &[u32],
-    message: Message,
-) -> Result<Tried, NoMemory>
-    ensures { IfOk result (λ t. t ≡ branches_tried context fan.now blocks.now message) }
+    message: &mut Message,
+) -> Result<Effect, NoMemory>
+    ensures { IfOk result (λ e. tried_of e message.new ≡ branches_tried context fan.now blocks.now message.old) }
 {
     if blocks.len() <= PARTS {
         let care = context.care_of_parts(fan.share);
-        let seeds = branch_seeds(alloc, care, blocks, &message)?;
-        Ok(fan_out(alloc, fan, seeds, message)?)
+        let seeds = branch_seeds(alloc, care, blocks, message)?;
+        fan_out(alloc, fan, seeds, message)
     } else {
         let fault = too_many_parts(alloc, blocks.len())?;
-        Ok(Tried::Faults(fault, false, message))
+        Effect::faulting(alloc, fault, false)
     }
 }
 
@@ -170,15 +172,15 @@ pub fn recipient_list(
     fan: &Fan,
     delimiter: &Text,
     value: &Text,
-    message: Message,
-) -> Result<Tried, NoMemory>
-    ensures { IfOk result (λ t. t ≡ listed_tried (spec.listed delimiter.now value.now) context fan.now message) }
+    message: &mut Message,
+) -> Result<Effect, NoMemory>
+    ensures { IfOk result (λ e. tried_of e message.new ≡ listed_tried (spec.listed delimiter.now value.now) context fan.now message.old) }
 {
     match listed(alloc, delimiter, value) {
         Ok(uris) => send_to_each(alloc, context, fan, &uris, message),
         Err(fault) => {
             let fault = recipient_fault(alloc, fault)?;
-            Ok(Tried::Faults(fault, false, message))
+            Effect::faulting(alloc, fault, false)
         }
     }
 }
@@ -188,12 +190,12 @@ fn send_to_each(
     context: Context,
     fan: &Fan,
     uris: &[Uri],
-    message: Message,
-) -> Result<Tried, NoMemory>
-    ensures { IfOk result (λ t. t ≡ listed_tried (Ok uris.now) context fan.now message) }
+    message: &mut Message,
+) -> Result<Effect, NoMemory>
+    ensures { IfOk result (λ e. tried_of e message.new ≡ listed_tried (Ok uris.now) context fan.now message.old) }
 {
     let care = context.care_of_parts(fan.share);
-    let seeds = recipient_seeds(alloc, care, uris, &message)?;
+    let seeds = recipient_seeds(alloc, care, uris, message)?;
     fan_out(alloc, fan, seeds, message)
 }
 
@@ -243,16 +245,21 @@ fn recipient_seeds(
 
 /// All parts at once, or the first of them; without any the message goes on.
 #[tactic(auto, using(crate::proofs::Seeding::at_once, crate::proofs::Seeding::none, crate::proofs::Seeding::in_turn))]
-fn fan_out(alloc: Global, fan: &Fan, seeds: Vec<Seed>, message: Message) -> Result<Tried, NoMemory>
-    ensures { IfOk result (λ t. t ≡ fan_tried fan.now seeds.items message) }
+fn fan_out(
+    alloc: Global,
+    fan: &Fan,
+    seeds: Vec<Seed>,
+    message: &mut Message,
+) -> Result<Effect, NoMemory>
+    ensures { IfOk result (λ e. tried_of e message.new ≡ fan_tried fan.now seeds.items message.old) }
 {
     if seeds.is_empty() {
-        return Ok(Tried::Goes(message));
+        return Ok(Effect::Goes);
     }
     if fan.parallel {
         let parts = Series::of(seeds);
         let request = Request::Spawn { parts };
-        return Tried::asked(alloc, Progress::SpawningAll, request, 0, message);
+        return Effect::asking(alloc, Progress::SpawningAll, request, 0);
     }
     let ended = Vec::new(alloc);
     next_seed(
@@ -272,9 +279,9 @@ fn next_seed(
     ended: Vec<Ended>,
     index: u32,
     mut left: Queue<Seed>,
-    message: Message,
-) -> Result<Tried, NoMemory>
-    ensures { IfOk result (λ t. t ≡ next_seed strategy.now ended.items index left message) }
+    message: &mut Message,
+) -> Result<Effect, NoMemory>
+    ensures { IfOk result (λ e. tried_of e message.new ≡ next_seed strategy.now ended.items index left message.old) }
 {
     match left.take() {
         Some(seed) => {
@@ -284,7 +291,7 @@ fn next_seed(
                 ended: Series::of(ended),
                 left,
             };
-            Tried::asked(alloc, progress, Request::Spawn { parts }, index, message)
+            Effect::asking(alloc, progress, Request::Spawn { parts }, index)
         }
         None => join(alloc, strategy, ended, message),
     }
@@ -307,19 +314,17 @@ pub fn fan_answered(
     strategy: &Strategy,
     stop: bool,
     progress: &Progress,
-    message: Message,
+    message: &mut Message,
     answer: &Answer,
-) -> Result<Tried, NoMemory>
-    ensures { IfOk result (λ t. t ≡ fan_on strategy.now stop progress.now message answer.now) }
+) -> Result<Effect, NoMemory>
+    ensures { IfOk result (λ e. tried_of e message.new ≡ fan_on strategy.now stop progress.now message.old answer.now) }
 {
     match progress {
-        Progress::SpawningAll => {
-            Tried::asked(alloc, Progress::JoiningAll, waits(answer), 0, message)
-        }
+        Progress::SpawningAll => { Effect::asking(alloc, Progress::JoiningAll, waits(answer), 0) }
         Progress::JoiningAll => join(alloc, strategy, parts_in(alloc, answer)?, message),
         Progress::Spawning { index, ended, left } => {
             let progress = joining(alloc, *index, ended.items(), left)?;
-            Tried::asked(alloc, progress, waits(answer), *index, message)
+            Effect::asking(alloc, progress, waits(answer), *index)
         }
         Progress::Joining { index, ended, left } => {
             let parts = parts_in(alloc, answer)?;
@@ -331,7 +336,7 @@ pub fn fan_answered(
         | Progress::Choosing(_)
         | Progress::Entering { .. }
         | Progress::Leaving { .. }
-        | Progress::Testing { .. } => Ok(Tried::Goes(message)),
+        | Progress::Testing { .. } => Ok(Effect::Goes),
     }
 }
 
@@ -380,9 +385,9 @@ fn next_part(
     index: u32,
     left: Queue<Seed>,
     parts: Vec<Ended>,
-    message: Message,
-) -> Result<Tried, NoMemory>
-    ensures { IfOk result (λ t. t ≡ next_tried strategy.now stop ended.items index left parts.items message) }
+    message: &mut Message,
+) -> Result<Effect, NoMemory>
+    ensures { IfOk result (λ e. tried_of e message.new ≡ next_tried strategy.now stop ended.items index left parts.items message.old) }
 {
     if stops(stop, &parts) {
         let ended = with_parts(ended, parts)?;
@@ -435,12 +440,12 @@ fn join(
     alloc: Global,
     strategy: &Strategy,
     parts: Vec<Ended>,
-    message: Message,
-) -> Result<Tried, NoMemory>
-    ensures { IfOk result (λ t. t ≡ join_tried strategy.now parts.items message) }
+    message: &mut Message,
+) -> Result<Effect, NoMemory>
+    ensures { IfOk result (λ e. tried_of e message.new ≡ join_tried strategy.now parts.items message.old) }
 {
     match first_fault(&parts)? {
-        Some(fault) => Ok(Tried::Faults(fault, false, message)),
+        Some(fault) => Effect::faulting(alloc, fault, false),
         None => take_over(alloc, strategy, parts, message),
     }
 }
@@ -461,12 +466,12 @@ fn take_over(
     alloc: Global,
     strategy: &Strategy,
     parts: Vec<Ended>,
-    message: Message,
-) -> Result<Tried, NoMemory>
-    ensures { IfOk result (λ t. t ≡ taken_tried (made_one strategy.now message (messages_of parts.items)) message) }
+    message: &mut Message,
+) -> Result<Effect, NoMemory>
+    ensures { IfOk result (λ e. tried_of e message.new ≡ taken_tried (made_one strategy.now message.old (messages_of parts.items)) message.old) }
 {
     match strategy {
-        Strategy::Original => Ok(Tried::Goes(message)),
+        Strategy::Original => Ok(Effect::Goes),
         Strategy::Latest
         | Strategy::Joined(_)
         | Strategy::Grouped
@@ -492,16 +497,19 @@ fn fold_over(
     alloc: Global,
     strategy: &Strategy,
     messages: &[Message],
-    message: Message,
-) -> Result<Tried, NoMemory>
-    ensures { IfOk result (λ t. t ≡ taken_tried (folded strategy.now messages.now) message) }
+    message: &mut Message,
+) -> Result<Effect, NoMemory>
+    ensures { IfOk result (λ e. tried_of e message.new ≡ taken_tried (folded strategy.now messages.now) message.old) }
 {
     match fold(alloc, strategy, messages) {
-        Ok(Some(new)) => Ok(Tried::Goes(with_content(message, new))),
-        Ok(None) => Ok(Tried::Goes(message)),
+        Ok(Some(new)) => {
+            set_content(message, new);
+            Ok(Effect::Goes)
+        }
+        Ok(None) => Ok(Effect::Goes),
         Err(fault) => {
             let fault = strategy_fault(alloc, fault)?;
-            Ok(Tried::Faults(fault, false, message))
+            Effect::faulting(alloc, fault, false)
         }
     }
 }

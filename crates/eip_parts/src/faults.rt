@@ -8,7 +8,7 @@ ghost use Rattle.eip_meaning.specs.Parts.{fault_of_strategy};
 use crate::values::empty;
 use eip_exchange::Fault;
 use eip_strategy::StrategyFault;
-use eip_text::{NoMemory, Text, decimal};
+use eip_text::{Boxed, NoMemory, Text, decimal};
 use std::alloc::Global;
 
 /// A fault of this kind without a text.
@@ -71,4 +71,14 @@ pub fn strategy_fault(alloc: Global, found: StrategyFault) -> Result<Fault, NoMe
         StrategyFault::SumTooLarge => Ok(bare_fault(alloc, "SumTooLarge")?),
         StrategyFault::NoMemory => Err(NoMemory),
     }
+}
+
+/// The fault, out of its box. It takes no memory.
+pub fn taken(alloc: Global, fault: Boxed<Fault>) -> Fault
+    ensures { result ≡ fault }
+{
+    let mut fault = fault;
+    let kind = empty(alloc);
+    let text = empty(alloc);
+    fault.replace(Fault { kind, text })
 }

@@ -3,10 +3,12 @@
 #![tactic(auto)]
 
 pub mod checks;
+mod effect;
 pub mod fans;
 pub mod faults;
 pub mod messages;
 mod tries;
 pub mod values;
 
+pub use effect::Effect;
 pub use tries::{part, try_answered};

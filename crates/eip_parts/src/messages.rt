@@ -1,93 +1,69 @@
-ghost use Rattle.std.specs.Prelude.{◌≡◌, true, IfOk};
+ghost use Rattle.std.specs.Prelude.{◌≡◌, true, OnOk};
 ghost use Rattle.eip_exchange.specs.Headers.{is_redelivery};
-ghost use Rattle.eip_meaning.specs.Values.{with_body, with_header, with_property, with_content, duplicate_message, redelivered, caught_message};
+ghost use Rattle.eip_meaning.specs.Values.{with_header, with_property, with_content, duplicate_message, redelivered, caught_message};
 
 use eip_exchange::{Fault, HeaderFault, Message};
 use eip_text::{NoMemory, Text, decimal};
 use std::alloc::Global;
 
-pub fn with_body(message: Message, body: Text) -> Message
-    ensures { result ≡ with_body message body }
+/// A message takes the body and headers of another, and keeps its properties.
+pub fn set_content(message: &mut Message, new: Message)
+    ensures { message.new ≡ with_content message.old new }
 {
-    let Message {
-        headers,
-        properties,
-        ..
-    } = message;
-    Message {
-        body,
-        headers,
-        properties,
-    }
-}
-
-/// The body and headers of another message, and the properties of its own.
-pub fn with_content(message: Message, new: Message) -> Message
-    ensures { result ≡ with_content message new }
-{
-    let Message { properties, .. } = message;
     let Message { body, headers, .. } = new;
-    Message {
-        body,
-        headers,
-        properties,
-    }
+    message.body = body;
+    message.headers = headers;
 }
 
-pub fn with_property(
+fn set_property(
     alloc: Global,
-    mut message: Message,
+    message: &mut Message,
     name: &str,
     value: Text,
-) -> Result<Message, NoMemory>
-    ensures { IfOk result (λ m. m ≡ with_property message name.now value) }
+) -> Result<(), NoMemory>
+    ensures { OnOk result (message.new ≡ with_property message.old name.now value) }
 {
     message.properties.set(Text::of_str(alloc, name)?, value)?;
-    Ok(message)
+    Ok(())
 }
 
-/// The message of an exchange whose key was met before (Camel manual, *Idempotent Consumer EIP*).
-pub fn duplicate_message(alloc: Global, message: Message) -> Result<Message, NoMemory>
-    ensures { IfOk result (λ m. m ≡ duplicate_message message) }
+/// Marks the message of an exchange whose key was met before (Camel manual, *Idempotent Consumer EIP*).
+pub fn mark_duplicate(alloc: Global, message: &mut Message) -> Result<(), NoMemory>
+    ensures { OnOk result (message.new ≡ duplicate_message message.old) }
 {
     let value = Text::of_str(alloc, "true")?;
-    with_property(alloc, message, "CamelDuplicateMessage", value)
+    set_property(alloc, message, "CamelDuplicateMessage", value)
 }
 
-/// The message of an exchange whose fault has no attempt left (Camel manual, *Exception Clause*).
-pub fn caught_message(alloc: Global, message: Message, fault: &Fault) -> Result<Message, NoMemory>
-    ensures { IfOk result (λ m. m ≡ caught_message message fault.now) }
+/// Tells the fault that has no attempt left in the message of its exchange (Camel manual, *Exception Clause*).
+pub fn set_caught(alloc: Global, message: &mut Message, fault: &Fault) -> Result<(), NoMemory>
+    ensures { OnOk result (message.new ≡ caught_message message.old fault.now) }
 {
     let text = fault.text.copy()?;
-    with_property(alloc, message, "CamelExceptionCaught", text)
+    set_property(alloc, message, "CamelExceptionCaught", text)
 }
 
-/// The message at the n-th try of a step, from 1 (Camel manual, *Redelivery*).
+/// Makes a message that of the n-th try of a step, from 1 (Camel manual, *Redelivery*).
 #[tactic(auto, unfolding(eip_exchange::specs::Headers::is_redelivery))]
-pub fn redelivered(alloc: Global, message: Message, number: u32) -> Result<Message, NoMemory>
-    ensures { IfOk result (λ m. m ≡ redelivered message number) }
+pub fn mark_redelivered(alloc: Global, message: &mut Message, number: u32) -> Result<(), NoMemory>
+    ensures { OnOk result (message.new ≡ redelivered message.old number) }
 {
     if number <= 1 {
-        return Ok(message);
+        return Ok(());
     }
     let told = Text::of_str(alloc, "true")?;
-    let marked = with_header(alloc, message, "CamelRedelivered", told)?;
+    set_header(alloc, message, "CamelRedelivered", told)?;
     let count = decimal(alloc, u64::from(number - 1))?;
-    with_header(alloc, marked, "CamelRedeliveryCounter", count)
+    set_header(alloc, message, "CamelRedeliveryCounter", count)
 }
 
-/// A message with one of the two headers of redelivery, which no limit counts.
-fn with_header(
-    alloc: Global,
-    mut message: Message,
-    name: &str,
-    value: Text,
-) -> Result<Message, NoMemory>
+/// Sets one of the two headers of redelivery, which no limit counts.
+fn set_header(alloc: Global, message: &mut Message, name: &str, value: Text) -> Result<(), NoMemory>
     requires { is_redelivery name.now ≡ true }
-    ensures { IfOk result (λ m. m ≡ with_header message name.now value) }
+    ensures { OnOk result (message.new ≡ with_header message.old name.now value) }
 {
     match message.headers.set(Text::of_str(alloc, name)?, value) {
-        Ok(()) => Ok(message),
+        Ok(()) => Ok(()),
         Err(HeaderFault::TooManyHeaders) => unreachable!(),
         Err(HeaderFault::NoMemory) => Err(NoMemory),
     }

@@ -7,17 +7,19 @@ ghost use Rattle.eip_meaning.specs.Parts.{fault_of_end, or_fault, parts_in};
 ghost use Rattle.eip_meaning.specs.Tries.{names_kind};
 ghost use Rattle.eip_progress.specs.FirstTry.{part_tried};
 ghost use Rattle.eip_progress.specs.Answered.{ends_tried, finally_tried, when_tried, catches_tried, block_left, part_left, only_left, catch_held, try_on};
+ghost use Rattle.eip_parts.specs.Effects.{tried_of};
 ghost use Rattle.eip_parts.specs.Knowing.{known_tried};
 
 use crate::checks::{Known, checked, held};
+use crate::effect::Effect;
 use crate::fans::{block_seed, one, waits};
-use crate::messages::with_content;
+use crate::messages::set_content;
 use eip_copies::copy_pending;
 use eip_error_handler::last_segment;
 use eip_exchange::{Care, End, Ended, Fault, Message};
 use eip_frames::{Answer, Request};
 use eip_meaning::Context;
-use eip_progress::{Progress, Tried};
+use eip_progress::Progress;
 use eip_route::{Catch, Check, RouteSet};
 use eip_text::{NoMemory, Text};
 use std::alloc::Global;
@@ -29,16 +31,15 @@ pub fn part(
     pending: Option<Fault>,
     block: u32,
     latest: Message,
-    message: Message,
-) -> Result<Tried, NoMemory>
-    ensures { IfOk result (λ t. t ≡ part_tried index pending block latest message) }
+) -> Result<Effect, NoMemory>
+    ensures { IfOk result (λ e. (m : AMessage) → tried_of e m ≡ part_tried index pending block latest m) }
 {
     let parts = one(alloc, block_seed(Care::Bare, block, latest))?;
     let progress = Progress::Entering {
         part: index,
         pending,
     };
-    Tried::asked(alloc, progress, Request::Spawn { parts }, index, message)
+    Effect::asking(alloc, progress, Request::Spawn { parts }, index)
 }
 
 /// What an answer gives at a doTry (Camel manual, *doTry*).
@@ -49,15 +50,15 @@ pub fn try_answered(
     catches: &[Catch],
     finish: Option<u32>,
     progress: &Progress,
-    message: Message,
+    message: &mut Message,
     answer: &Answer,
-) -> Result<Tried, NoMemory>
-    ensures { IfOk result (λ t. t ≡ try_on set.now context catches.now finish progress.now message answer.now) }
+) -> Result<Effect, NoMemory>
+    ensures { IfOk result (λ e. tried_of e message.new ≡ try_on set.now context catches.now finish progress.now message.old answer.now) }
 {
     match progress {
         Progress::Entering { part, pending } => {
             let progress = leaving(*part, pending)?;
-            Tried::asked(alloc, progress, waits(answer), *part, message)
+            Effect::asking(alloc, progress, waits(answer), *part)
         }
         Progress::Leaving { part, pending } => {
             let pending = copy_pending(pending)?;
@@ -82,7 +83,7 @@ pub fn try_answered(
         | Progress::SpawningAll
         | Progress::JoiningAll
         | Progress::Spawning { .. }
-        | Progress::Joining { .. } => Ok(Tried::Goes(message)),
+        | Progress::Joining { .. } => Ok(Effect::Goes),
     }
 }
 
@@ -103,13 +104,13 @@ fn left(
     finish: Option<u32>,
     part: u32,
     pending: Option<Fault>,
-    message: Message,
+    message: &mut Message,
     answer: &Answer,
-) -> Result<Tried, NoMemory>
-    ensures { IfOk result (λ t. t ≡ only_left set.now context catches.now finish part pending (parts_in answer.now) message) }
+) -> Result<Effect, NoMemory>
+    ensures { IfOk result (λ e. tried_of e message.new ≡ only_left set.now context catches.now finish part pending (parts_in answer.now) message.old) }
 {
     let Answer::Joined(parts) = answer else {
-        return Ok(Tried::Goes(message));
+        return Ok(Effect::Goes);
     };
     only_left(
         alloc,
@@ -133,9 +134,9 @@ fn only_left(
     part: u32,
     pending: Option<Fault>,
     parts: &[Ended],
-    message: Message,
-) -> Result<Tried, NoMemory>
-    ensures { IfOk result (λ t. t ≡ only_left set.now context catches.now finish part pending parts.now message) }
+    message: &mut Message,
+) -> Result<Effect, NoMemory>
+    ensures { IfOk result (λ e. tried_of e message.new ≡ only_left set.now context catches.now finish part pending parts.now message.old) }
 {
     match parts.first() {
         Some(ended) => {
@@ -144,7 +145,7 @@ fn only_left(
                 alloc, set, context, catches, finish, part, pending, ended, message,
             )
         }
-        None => Ok(Tried::Goes(message)),
+        None => Ok(Effect::Goes),
     }
 }
 
@@ -158,9 +159,9 @@ fn part_left(
     part: u32,
     pending: Option<Fault>,
     ended: Ended,
-    message: Message,
-) -> Result<Tried, NoMemory>
-    ensures { IfOk result (λ t. t ≡ part_left set.now context catches.now finish part pending ended message) }
+    message: &mut Message,
+) -> Result<Effect, NoMemory>
+    ensures { IfOk result (λ e. tried_of e message.new ≡ part_left set.now context catches.now finish part pending ended message.old) }
 {
     let Ended {
         end,
@@ -170,7 +171,7 @@ fn part_left(
     match part {
         0 => block_left(alloc, set, context, catches, finish, fault, latest, message),
         1 => finally(alloc, finish, fault, latest, message),
-        _ => Ok(ends(or_fault(fault, pending), latest, message)),
+        _ => ends(alloc, or_fault(fault, pending), latest, message),
     }
 }
 
@@ -201,9 +202,9 @@ fn block_left(
     finish: Option<u32>,
     fault: Option<Fault>,
     latest: Message,
-    message: Message,
-) -> Result<Tried, NoMemory>
-    ensures { IfOk result (λ t. t ≡ block_left set.now context catches.now finish fault latest message) }
+    message: &mut Message,
+) -> Result<Effect, NoMemory>
+    ensures { IfOk result (λ e. tried_of e message.new ≡ block_left set.now context catches.now finish fault latest message.old) }
 {
     match fault {
         Some(fault) => {
@@ -227,13 +228,13 @@ fn caught(
     holds: bool,
     fault: Fault,
     latest: Message,
-    message: Message,
-) -> Result<Tried, NoMemory>
-    ensures { IfOk result (λ t. t ≡ catch_held set.now context catches.now finish index (slice_get catches.now index) holds fault latest message) }
+    message: &mut Message,
+) -> Result<Effect, NoMemory>
+    ensures { IfOk result (λ e. tried_of e message.new ≡ catch_held set.now context catches.now finish index (slice_get catches.now index) holds fault latest message.old) }
 {
     if index < catches.len() {
         if holds {
-            part(alloc, 1, None, catches[index].block, latest, message)
+            part(alloc, 1, None, catches[index].block, latest)
         } else {
             catch_from(
                 alloc,
@@ -248,7 +249,7 @@ fn caught(
             )
         }
     } else {
-        Ok(Tried::Goes(message))
+        Ok(Effect::Goes)
     }
 }
 
@@ -262,9 +263,9 @@ fn catch_from(
     from: usize,
     fault: Fault,
     latest: Message,
-    message: Message,
-) -> Result<Tried, NoMemory>
-    ensures { IfOk result (λ t. t ≡ catches_tried set.now context finish from (drop from catches.now) fault latest message) }
+    message: &mut Message,
+) -> Result<Effect, NoMemory>
+    ensures { IfOk result (λ e. tried_of e message.new ≡ catches_tried set.now context finish from (drop from catches.now) fault latest message.old) }
 {
     let mut index = from;
     while index < catches.len() {
@@ -272,7 +273,7 @@ fn catch_from(
         match takes(alloc, set, context, catch, &fault, &latest)? {
             Known::Is(holds) => {
                 if holds {
-                    return part(alloc, 1, None, catch.block, latest, message);
+                    return part(alloc, 1, None, catch.block, latest);
                 }
             }
             Known::Asks(request) => {
@@ -281,7 +282,7 @@ fn catch_from(
                     fault,
                     latest,
                 };
-                return Tried::asked(alloc, progress, request, 0, message);
+                return Effect::asking(alloc, progress, request, 0);
             }
         }
         index += 1;
@@ -352,21 +353,29 @@ fn finally(
     finish: Option<u32>,
     pending: Option<Fault>,
     latest: Message,
-    message: Message,
-) -> Result<Tried, NoMemory>
-    ensures { IfOk result (λ t. t ≡ finally_tried finish pending latest message) }
+    message: &mut Message,
+) -> Result<Effect, NoMemory>
+    ensures { IfOk result (λ e. tried_of e message.new ≡ finally_tried finish pending latest message.old) }
 {
     match finish {
-        Some(block) => part(alloc, 2, pending, block, latest, message),
-        None => Ok(ends(pending, latest, message)),
+        Some(block) => part(alloc, 2, pending, block, latest),
+        None => ends(alloc, pending, latest, message),
     }
 }
 
-fn ends(pending: Option<Fault>, latest: Message, message: Message) -> Tried
-    ensures { result ≡ ends_tried pending latest message }
+fn ends(
+    alloc: Global,
+    pending: Option<Fault>,
+    latest: Message,
+    message: &mut Message,
+) -> Result<Effect, NoMemory>
+    ensures { IfOk result (λ e. tried_of e message.new ≡ ends_tried pending latest message.old) }
 {
     match pending {
-        Some(fault) => Tried::Faults(fault, false, message),
-        None => Tried::Goes(with_content(message, latest)),
+        Some(fault) => Effect::faulting(alloc, fault, false),
+        None => {
+            set_content(message, latest);
+            Ok(Effect::Goes)
+        }
     }
 }

@@ -21,21 +21,20 @@ use Rattle.eip_frames.specs.declared.request.Seed.{Seed}
 use Rattle.eip_frames.specs.declared.request.Request.{Request}
 use Rattle.eip_frames.specs.declared.answer.Answer.{Answer as Reply}
 use Rattle.eip_meaning.specs.declared.context.Context.{Context}
-use Rattle.eip_meaning.specs.Outcomes.{Outcome, Goes, Faults, unless_fault, ask}
+use Rattle.eip_meaning.specs.Outcomes.{Outcome, Goes, unless_fault, ask}
 use Rattle.eip_meaning.specs.Contexts.{place_in}
 use Rattle.eip_meaning.specs.Values.{seen_in, value_of, short, with_short, with_key, with_short_key, sets_header}
 use Rattle.eip_meaning.specs.Checks.{held, tested, block_or_goes, choice_mean}
-use Rattle.eip_meaning.specs.FanOuts.{at_once, in_turn, fan_mean, cut, listed, with_parts, with_recipients}
+use Rattle.eip_meaning.specs.FanOuts.{fan_mean, cut, listed, with_parts, with_recipients}
 use Rattle.eip_meaning.specs.Steps.{one_try}
 use Rattle.eip_meaning.specs.Meaning.{steps_of}
 use Rattle.eip_progress.specs.declared.tried.Progress.{Progress}
 use Rattle.eip_progress.specs.declared.tried.Progress.TheVariants as progress
 use Rattle.eip_progress.specs.declared.tried.Tried.{Tried}
 use Rattle.eip_progress.specs.Tries.{asked}
-use Rattle.eip_progress.specs.declared.tried.Tried.TheVariants as tried
 use Rattle.eip_progress.specs.declared.frame.Task.TheVariants as task
-use Rattle.eip_progress.specs.FirstTry.{asks, unless_tried, value_tried, not_empty, key_tried, header_tried, check_tried, nested_if, nested_where, choice_tried, fan_tried, piece_seeds, recipient_seeds, pieces_tried, listed_tried, first_tried}
-use Rattle.eip_progress.specs.Rest.{nested_at, call_at, fan_cont, case_cont, cont_of_step, cont_of_found, cont_of, tried_mean}
+use Rattle.eip_progress.specs.FirstTry.{unless_tried, value_tried, not_empty, key_tried, header_tried, check_tried, nested_if, nested_where, choice_tried, fan_tried, piece_seeds, recipient_seeds, pieces_tried, listed_tried, first_tried}
+use Rattle.eip_progress.specs.Rest.{nested_at, call_at, fan_cont, case_cont, cont_of_step, cont_of_found, tried_mean}
 use Rattle.eip_progress.proofs.SendTries.{send_as}
 
 -- ---- lists from a place on

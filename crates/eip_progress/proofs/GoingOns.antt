@@ -18,9 +18,9 @@ use Rattle.eip_route.specs.declared.step.Step.TheVariants as step
 use Rattle.eip_frames.specs.declared.request.Seed.{Seed}
 use Rattle.eip_frames.specs.declared.answer.Answer.{Answer as Reply}
 use Rattle.eip_meaning.specs.declared.context.Context.{Context}
-use Rattle.eip_meaning.specs.Outcomes.{Outcome, Goes}
-use Rattle.eip_meaning.specs.Values.{with_content, duplicate_message}
-use Rattle.eip_meaning.specs.Checks.{held, choice_mean}
+use Rattle.eip_meaning.specs.Outcomes.{Outcome}
+use Rattle.eip_meaning.specs.Values.{duplicate_message}
+use Rattle.eip_meaning.specs.Checks.{held}
 use Rattle.eip_meaning.specs.Parts.{parts_in, first_fault, fault_of_end, or_fault, messages_of, made_one, taken_over, join_mean}
 use Rattle.eip_meaning.specs.FanOuts.{in_turn}
 use Rattle.eip_meaning.specs.Tries.{names_kind, tested_when, finally_mean, try_ends, catch_mean, catches_mean, behind_block}
@@ -30,7 +30,7 @@ use Rattle.eip_progress.specs.declared.tried.Progress.{Progress}
 use Rattle.eip_progress.specs.declared.tried.Progress.TheVariants as progress
 use Rattle.eip_progress.specs.declared.tried.Tried.{Tried}
 use Rattle.eip_progress.specs.declared.tried.Tried.TheVariants as tried
-use Rattle.eip_progress.specs.FirstTry.{part_tried, choice_tried}
+use Rattle.eip_progress.specs.FirstTry.{part_tried}
 use Rattle.eip_progress.specs.Answered.{case_held, choice_on, taken_tried, join_tried, next_seed, next_tried, fan_on, ends_tried, finally_tried, when_tried, catches_tried, block_left, part_left, only_left, catch_held, try_on, going_on}
 use Rattle.eip_progress.specs.Rest.{nested_at, next_part, fan_cont, case_cont, choice_cont, part_cont, only_cont, catch_cont, try_cont, cont_of_step}
 use Rattle.eip_progress.specs.declared.frame.Task.TheVariants as task

@@ -15,7 +15,6 @@ use Rattle.eip_route.specs.declared.goal.Goal.TheVariants as goal
 use Rattle.eip_route.specs.declared.route.RouteSet.{RouteSet}
 use Rattle.eip_route.specs.declared.step.Catch.{Catch}
 use Rattle.eip_route.specs.declared.step.Check.{Check}
-use Rattle.eip_route.specs.declared.step.Fan.{Fan}
 use Rattle.eip_route.specs.declared.step.Step.{Step}
 use Rattle.eip_route.specs.declared.step.Step.TheVariants as step
 use Rattle.eip_frames.specs.declared.request.Seed.{Seed}

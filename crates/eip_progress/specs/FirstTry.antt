@@ -1,6 +1,5 @@
 -- What one try of a step gives first, as data.
-use Rattle.std.specs.Prelude.{ℕ, suc, Bool, false, cond, nat_le, List, [], ◌∷◌, length, map, codes, Option, Some, None, unwrap_or, Result, Ok, Err}
-use Rattle.std.specs.List.{list_any}
+use Rattle.std.specs.Prelude.{ℕ, suc, Bool, false, cond, nat_le, List, [], ◌∷◌, length, map, codes, Option, Some, None, Result, Ok, Err}
 use Rattle.eip_exchange.specs.Ends.{fault}
 use Rattle.eip_exchange.specs.Headers.{is_one_too_many}
 use Rattle.eip_exchange.specs.declared.message.Message.{Message}

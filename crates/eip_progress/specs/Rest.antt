@@ -1,5 +1,5 @@
 -- What a cursor gives on the answers that are still to come.
-use Rattle.std.specs.Prelude.{◌≡◌, ℕ, zero, suc, Bool, true, false, cond, ◌&&◌, is_some, List, [], ◌∷◌, ◌++◌, drop, slice_get, Option, Some, None, unwrap_or}
+use Rattle.std.specs.Prelude.{◌≡◌, ℕ, zero, suc, Bool, true, cond, ◌&&◌, is_some, List, [], ◌∷◌, ◌++◌, drop, slice_get, Option, Some, None, unwrap_or}
 use Rattle.std.specs.Borrow.{Bor}
 use Rattle.eip_exchange.specs.declared.message.Message.{Message}
 use Rattle.eip_exchange.specs.declared.end.Fault.{Fault}
@@ -49,8 +49,6 @@ use Rattle.eip_progress.specs.declared.frame.Frame.{Frame}
 use Rattle.eip_progress.specs.declared.frame.Frame.TheVariants as frame
 use Rattle.eip_progress.specs.declared.frame.Now.{Now}
 use Rattle.eip_progress.specs.declared.frame.Now.TheVariants as now
-use Rattle.eip_progress.specs.declared.frame.Turn.{Turn}
-use Rattle.eip_progress.specs.declared.frame.Turn.TheVariants as turn
 use Rattle.eip_progress.specs.declared.cursor.State.{State}
 use Rattle.eip_progress.specs.declared.cursor.State.TheVariants as state
 use Rattle.eip_progress.specs.declared.cursor.Next.{Next}
@@ -243,11 +241,6 @@ rest_of set commit item c whole fs (state.Starting w m) A = finished commit item
 rest_of set commit item c whole fs (state.Runs w) A = finished commit item (place_in c 0) (behind_all set fs (wait_mean set whole w A))
 rest_of set commit item c whole fs (state.Finishing e m) A = finish_by commit item (place_in c 0) e m A
 rest_of set commit item c whole fs (state.Over e m) A = over_mean e m A
-
--- what one turn of the loop gives
-abbrev pub turn_mean : RouteSet → (commit : Bool) (item : List ℕ) → Context → Option Uri → List Frame → Turn → List Reply → Fate
-turn_mean set commit item c whole fs (turn.Again n) A = finished commit item (place_in c 0) (behind_all set fs (now_mean set whole n A))
-turn_mean set commit item c whole fs (turn.Done s) A = rest_of set commit item c whole fs s A
 
 -- what a cursor gives on these answers
 unfoldable pub rest : RouteSet → Cursor → List Reply → Fate

@@ -55,7 +55,7 @@ pub enum Frame {
     Letter,
 }
 
-/// What is to be done next, between two turns of the loop.
+/// What is to be done next, between two turns of the loop, with the message. The definitions speak of it; the code has its two parts.
 #[derive(Drop)]
 pub enum Now {
     /// It goes on with this message, behind the frames.
@@ -84,11 +84,4 @@ pub enum Now {
         context: Context,
         message: Message,
     },
-}
-
-/// What one turn of the loop gives.
-#[derive(Drop)]
-pub enum Turn {
-    Again(Now),
-    Done(State),
 }

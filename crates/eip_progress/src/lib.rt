@@ -7,6 +7,6 @@ mod queue;
 mod tried;
 
 pub use cursor::{Cursor, Next, State};
-pub use frame::{Frame, Now, Task, Turn, Wait};
+pub use frame::{Frame, Now, Task, Wait};
 pub use queue::Queue;
 pub use tried::{Asking, Progress, Tried};

@@ -1,11 +1,7 @@
-ghost use Rattle.std.specs.Prelude.{◌≡◌, IfOk};
-ghost use Rattle.eip_progress.specs.Tries.{asked};
-
 use crate::queue::Queue;
 use eip_exchange::{Ended, Fault, Message};
 use eip_frames::{Request, Seed};
-use eip_text::{Boxed, NoMemory, Series};
-use std::alloc::Global;
+use eip_text::{Boxed, Series};
 
 /// How far one try of a step is: what its request was for.
 #[derive(Drop)]
@@ -56,7 +52,8 @@ pub struct Asking {
     pub index: u32,
 }
 
-/// What one try of a step gives, at first or behind an answer.
+/// What one try of a step gives, at first or behind an answer. The definitions speak of it; the code has its two parts, an effect and
+/// the message.
 #[derive(Drop)]
 pub enum Tried {
     /// It goes on with this message.
@@ -69,24 +66,4 @@ pub enum Tried {
     Enters(u32, Message),
     /// The block of a called route runs on this message.
     Calls(u32, Message),
-}
-
-impl Tried {
-    /// It asks this, with parts from this index on, and keeps this message.
-    pub fn asked(
-        alloc: Global,
-        progress: Progress,
-        request: Request,
-        index: u32,
-        message: Message,
-    ) -> Result<Tried, NoMemory>
-        ensures { IfOk result (λ t. t ≡ asked progress request index message) }
-    {
-        let asking = Asking {
-            progress,
-            request,
-            index,
-        };
-        Ok(Tried::Asks(Boxed::of(alloc, asking)?, message))
-    }
 }

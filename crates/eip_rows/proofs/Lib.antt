@@ -1,3 +1,4 @@
+mod Beginning
 pub mod Settings
 pub mod Comings
 pub mod There

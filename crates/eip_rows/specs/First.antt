@@ -1,5 +1,6 @@
 -- What a look at an exchange needs, and what it does to what a live exchange has.
-use Rattle.std.specs.Prelude.{ℕ, ◌≡◌, List, [], ◌∷◌, Some, None}
+use Rattle.std.specs.Prelude.{ℕ, ◌≡◌, List, [], ◌∷◌, Option, Some, None}
+use Rattle.eip_exchange.specs.declared.message.Message.{Message}
 use Rattle.eip_exchange.specs.declared.birth.Birth.{Birth}
 use Rattle.eip_route.specs.declared.route.RouteSet.{RouteSet}
 use Rattle.eip_ledger.specs.declared.entry.Entry.{Entry}
@@ -34,9 +35,22 @@ pub record SteppedOn (set : RouteSet) (a : Reply) (old new : Live) : Type 0 wher
   pub live : new ≡ record old { cursor = Some now; request = Some request }
   pub stepped : Stepped set (rest set was) (a ∷ []) now request
 
--- an exchange of this birth with its first cursor, which asks
-pub record BegunOn (set : RouteSet) (b : Birth) (old new : Live) : Type 0 where
+-- the exchange has this birth, which has not ended before its first request
+pub record MayBegin (set : RouteSet) (b : Option Birth) : Type 0 where
+  pub birth : Birth
+  pub made : b ≡ Some birth
+  pub lives : end_of (mean set birth []) ≡ None
+
+-- the exchange of this birth has its first cursor, which asks
+pub record BegunOn (set : RouteSet) (b : Option Birth) (old new : Live) : Type 0 where
+  pub birth : Birth
+  pub made : b ≡ Some birth
   pub cursor : Cursor
   pub request : Request
   pub live : new ≡ record old { cursor = Some cursor; request = Some request }
-  pub stepped : Stepped set (mean set b) [] cursor request
+  pub stepped : Stepped set (mean set birth) [] cursor request
+
+-- a birth with another message
+abbrev pub with_message : Message → Option Birth → Option Birth
+with_message m None = None
+with_message m (Some b) = Some (record b { message = m })

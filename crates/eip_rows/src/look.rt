@@ -1,9 +1,8 @@
-ghost use Rattle.std.specs.Prelude.{◌≡◌, ◌<◌, [], Some, None, IsSome, IfOk, OnOk, OnErr};
-ghost use Rattle.eip_history.specs.Place.{end_of};
+ghost use Rattle.std.specs.Prelude.{◌≡◌, ◌<◌, Option, IsSome, IfOk, OnOk, OnErr, option_map};
+ghost use Rattle.eip_exchange.specs.declared.birth.Birth.{Birth as ABirth};
 ghost use Rattle.eip_plan.specs.Plan.{plan_of};
-ghost use Rattle.eip_meaning.specs.Meaning.{mean};
-ghost use Rattle.eip_rows.specs.First.{CanBegin, MayStep, SteppedOn, BegunOn};
-ghost use Rattle.eip_tables.specs.Look.{HasCursor, LookedAt, birth_at, birth_of as told_birth, FirstSeen};
+ghost use Rattle.eip_rows.specs.First.{CanBegin, MayBegin, MayStep, SteppedOn, BegunOn, with_message};
+ghost use Rattle.eip_tables.specs.Look.{HasCursor, LookedAt, birth_at, birth_by, FirstSeen};
 ghost use Rattle.eip_tables.specs.Offers.{copy_birth as offered_copy};
 ghost use Rattle.eip_tables.specs.Groups.{completed};
 ghost use Rattle.eip_history.specs.Births.{name_of};
@@ -12,6 +11,7 @@ use eip_cursor::{begin, go_on};
 use eip_exchange::{Birth, Care, Message, Origin, Work};
 use eip_frames::{Answer, Completion};
 use eip_ledger::{Entry, Kind};
+use eip_meaning::Context;
 use eip_route::RouteSet;
 use eip_tables::live::Live;
 use eip_tables::row::{self, Born, Row};
@@ -28,15 +28,6 @@ fn step_on(live: &mut Live, alloc: Global, set: &RouteSet, answer: &Answer) -> R
         Some(cursor) => go_on(cursor, &mut live.request, alloc, set, answer),
         None => unreachable!(),
     }
-}
-
-/// The exchange of a birth begins, and asks for the first time. On `NoMemory` all is as before.
-fn begin_on(live: &mut Live, alloc: Global, birth: Birth, set: &RouteSet) -> Result<(), NoMemory>
-    requires { end_of (mean set.now birth []) ≡ None }
-    ensures ok { OnOk result (BegunOn set.now birth live.old live.new) }
-    ensures err { OnErr result (live.new ≡ live.old) }
-{
-    begin(&mut live.cursor, &mut live.request, alloc, birth, set)
 }
 
 /// Gives the cursor of a row an answer, behind which it goes on. On `NoMemory` the row is as before.
@@ -76,10 +67,17 @@ fn block_of(set: &RouteSet, route: u32) -> u32
     }
 }
 
-/// The birth of the exchange whose item an entry accepted.
-fn item_birth(alloc: Global, set: &RouteSet, number: u64, kind: &Kind) -> Result<Birth, NoMemory>
-    requires { IsSome (birth_at set.now number kind.now) }
-    ensures { IfOk result (λ b. birth_at set.now number kind.now ≡ Some b) }
+/// The exchange whose item an entry accepted begins, and asks for the first time. On `NoMemory` all is as before.
+fn begin_item(
+    live: &mut Live,
+    alloc: Global,
+    set: &RouteSet,
+    number: u64,
+    kind: &Kind,
+) -> Result<(), NoMemory>
+    requires { MayBegin set.now (birth_at set.now number kind.now) }
+    ensures ok { OnOk result (BegunOn set.now (birth_at set.now number kind.now) live.old live.new) }
+    ensures err { OnErr result (live.new ≡ live.old) }
 {
     match kind {
         Kind::Accept {
@@ -87,22 +85,30 @@ fn item_birth(alloc: Global, set: &RouteSet, number: u64, kind: &Kind) -> Result
             item,
             message,
         } => {
-            let block = block_of(set, *source);
-            let item = item.copy()?;
-            let message = message.get().copy(alloc)?;
-            Ok(Birth {
+            let context = Context {
                 number,
-                origin: Origin::Source {
-                    route: *source,
-                    item,
-                },
-                work: Work::Block(block),
                 hops: 0,
-                depth: 0,
-                route: *source,
                 care: Care::Full,
+                handling: false,
+                route: *source,
+                depth: 0,
+            };
+            let origin = Origin::Source {
+                route: *source,
+                item: item.copy()?,
+            };
+            let work = Work::Block(block_of(set, *source));
+            let message = message.get().copy(alloc)?;
+            begin(
+                &mut live.cursor,
+                &mut live.request,
+                alloc,
+                set,
+                context,
+                origin,
+                &work,
                 message,
-            })
+            )
         }
         _ => unreachable!(),
     }
@@ -125,32 +131,43 @@ fn copy_origin(origin: &Origin) -> Result<Origin, NoMemory>
     }
 }
 
-fn copy_work(work: &Work) -> Result<Work, NoMemory>
-    ensures { IfOk result (λ w. w ≡ work.now) }
+/// The exchange of a birth that is kept begins, with this copy of its message. On `NoMemory` all is as before.
+fn begin_birth(
+    live: &mut Live,
+    alloc: Global,
+    set: &RouteSet,
+    message: Message,
+) -> Result<(), NoMemory>
+    requires { MayBegin set.now (with_message message live.old.birth) }
+    ensures ok { OnOk result (BegunOn set.now (with_message message live.old.birth) live.old live.new) }
+    ensures err { OnErr result (live.new ≡ live.old) }
 {
-    match work {
-        Work::Block(block) => Ok(Work::Block(*block)),
-        Work::To(text) => Ok(Work::To(text.copy()?)),
-    }
+    let Some(birth) = &live.birth else {
+        unreachable!()
+    };
+    let context = Context::of(birth);
+    let origin = copy_origin(&birth.origin)?;
+    begin(
+        &mut live.cursor,
+        &mut live.request,
+        alloc,
+        set,
+        context,
+        origin,
+        &birth.work,
+        message,
+    )
 }
 
-/// The same birth.
-fn copy_birth(alloc: Global, birth: &Birth) -> Result<Birth, NoMemory>
-    ensures { IfOk result (λ b. b ≡ birth.now) }
+/// A copy of the message of a birth that is kept.
+fn born_message(alloc: Global, birth: &Option<Birth>) -> Result<Message, NoMemory>
+    requires { IsSome birth.now }
+    ensures { IfOk result (λ m. with_message m birth.now ≡ birth.now) }
 {
-    let origin = copy_origin(&birth.origin)?;
-    let work = copy_work(&birth.work)?;
-    let message = birth.message.copy(alloc)?;
-    Ok(Birth {
-        number: birth.number,
-        origin,
-        work,
-        hops: birth.hops,
-        depth: birth.depth,
-        route: birth.route,
-        care: birth.care,
-        message,
-    })
+    match birth {
+        Some(birth) => Ok(birth.message.copy(alloc)?),
+        None => unreachable!(),
+    }
 }
 
 /// The copy that an exchange with so many hops puts into a queue, as the exchange with this number.
@@ -182,39 +199,43 @@ fn cause_name(cause: Completion) -> &'static str
     }
 }
 
-/// The birth of a closed group's exchange, with what its message says of its closing.
-fn completed(alloc: Global, cause: Completion, birth: Birth) -> Result<Birth, NoMemory>
-    ensures { IfOk result (λ b. b ≡ completed cause birth) }
+/// The message of a closed group's exchange says what closed it.
+fn tell_cause(alloc: Global, cause: Completion, message: &mut Message) -> Result<(), NoMemory>
+    ensures { OnOk result ((o : Option ABirth) → with_message message.old o ≡ o → with_message message.new o ≡ option_map (completed cause) o) }
 {
-    let mut birth = birth;
     let name = Text::of_str(alloc, "CamelAggregatedCompletedBy")?;
     let value = Text::of_str(alloc, cause_name(cause))?;
-    birth.message.properties.set(name, value)?;
-    Ok(birth)
+    message.properties.set(name, value)?;
+    Ok(())
 }
 
-/// The birth of an exchange, from the entry that accepted its item or from its row.
-fn birth_of(
+/// An exchange begins that was born so, in the room that it was given, and asks for the first time. On `NoMemory` all is as before.
+fn begin_on(
+    live: &mut Live,
     alloc: Global,
     set: &RouteSet,
     entries: &[Entry],
     number: u64,
-    row: &Row,
-) -> Result<Birth, NoMemory>
-    requires { IsSome (told_birth set.now entries.now number row.now) }
-    ensures { IfOk result (λ b. told_birth set.now entries.now number row.now ≡ Some b) }
+    born: Born,
+) -> Result<(), NoMemory>
+    requires { MayBegin set.now (birth_by set.now entries.now number born live.old.birth) }
+    ensures ok { OnOk result (BegunOn set.now (birth_by set.now entries.now number born live.old.birth) live.old live.new) }
+    ensures err { OnErr result (live.new ≡ live.old) }
 {
-    match (row.born(), row.birth()) {
-        (Born::Item(entry), _) => match entries.get(entry) {
-            Some(entry) => item_birth(alloc, set, number, &entry.kind),
+    match born {
+        Born::Item(entry) => match entries.get(entry) {
+            Some(entry) => begin_item(live, alloc, set, number, &entry.kind),
             None => unreachable!(),
         },
-        (Born::Copy(_) | Born::Part { .. }, Some(birth)) => copy_birth(alloc, birth),
-        (Born::Group { cause, .. }, Some(birth)) => {
-            let copy = copy_birth(alloc, birth)?;
-            completed(alloc, cause, copy)
+        Born::Copy(_) | Born::Part { .. } => {
+            let message = born_message(alloc, &live.birth)?;
+            begin_birth(live, alloc, set, message)
         }
-        (Born::Copy(_) | Born::Part { .. } | Born::Group { .. }, None) => unreachable!(),
+        Born::Group { cause, .. } => {
+            let mut message = born_message(alloc, &live.birth)?;
+            tell_cause(alloc, cause, &mut message)?;
+            begin_birth(live, alloc, set, message)
+        }
     }
 }
 
@@ -231,15 +252,15 @@ pub fn look_first(
     ensures ok { OnOk result (FirstSeen set.now entries.now number row.old row.new) }
     ensures err { OnErr result (row.new ≡ row.old) }
 {
-    let birth = birth_of(alloc, set, entries, number, row)?;
-    let mut live = row::take_room(row, alloc, vacant)?;
-    match begin_on(live.get_mut(), alloc, birth, set) {
+    let born = row.born();
+    let mut room = row::take_room(row, alloc, vacant)?;
+    match begin_on(room.live.get_mut(), alloc, set, entries, number, born) {
         Ok(()) => {
-            row::ask(row, live);
+            row::ask(row, room.live);
             Ok(())
         }
         Err(NoMemory) => {
-            row::put_live(row, live);
+            row::leave_room(row, room);
             Err(NoMemory)
         }
     }

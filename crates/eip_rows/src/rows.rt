@@ -3,6 +3,7 @@ ghost use Rattle.eip_tables.specs.Row.{Row as ARow};
 ghost use Rattle.std.specs.Prelude.{OnErr};
 ghost use Rattle.eip_tables.specs.declared.row.Stage.TheVariants.{Starved};
 ghost use Rattle.eip_tables.specs.Moves.{started, answered, held, joining, sleeping, closed, starved_end, last_message, ended_with, finished_asked, ended_by};
+ghost use Rattle.eip_tables.specs.Joins.{MayTell, Tells, Wakes};
 ghost use Rattle.eip_tables.specs.Parts.{seed_rows, starving_faults, rows_behind};
 ghost use Rattle.eip_tables.specs.Groups.{group_rows};
 ghost use Rattle.eip_tables.specs.State.{outside_at, is_wanted};
@@ -15,9 +16,11 @@ use crate::look::{look_at, look_first};
 use eip_aggregator::Closed;
 use eip_exchange::{End, Ended, Fault};
 use eip_frames::{Answer, Request, Seed};
+use eip_join::Joins;
 use eip_ledger::Entry;
 use eip_route::RouteSet;
 use eip_tables::groups;
+use eip_tables::joins::finish;
 use eip_tables::live::Live;
 use eip_tables::parts::{self, Parent};
 use eip_tables::rising::RisingNumbers;
@@ -250,19 +253,23 @@ impl Rows {
         row::starve(&mut self.rows[(number - 1) as usize])
     }
 
-    /// The exchange ends by the end that it asks for; its message is handed out with the end that its parent is told, where there is
-    /// one.
-    pub fn finish_asked(&mut self, number: u64, told: Option<End>) -> Option<Ended>
+    /// The exchange ends by the end that it asks for, and the join of its parent is told, where this end is for one. The parent, where
+    /// this was the last of its parts.
+    pub fn finish_asked(&mut self, joins: &mut Joins, number: u64, told: Option<End>) -> Option<u64>
         requires above { 0 < number }
         requires within { number ≤ length self.old.items }
+        requires may { (r : ARow) → slice_get self.old.items (number - 1) ≡ Some r → MayTell r.born number (ended_with told (last_message r.request)) joins.old }
         ensures items { (r : ARow) → slice_get self.old.items (number - 1) ≡ Some r → self.new.items ≡ slice_set self.old.items (number - 1) (finished_asked r) }
-        ensures ended { (r : ARow) → slice_get self.old.items (number - 1) ≡ Some r → result ≡ ended_with told (last_message r.request) }
+        ensures tells { (r : ARow) → slice_get self.old.items (number - 1) ≡ Some r → Tells r.born number (ended_with told (last_message r.request)) joins.old joins.new }
+        ensures woken { (r : ARow) → slice_get self.old.items (number - 1) ≡ Some r → Wakes r.born joins.new result }
         ensures spare { self.old.spare ≤ self.new.spare }
     {
-        row::finish_asked(
+        finish(
             &mut self.rows[(number - 1) as usize],
             self.alloc,
             &mut self.vacant,
+            joins,
+            number,
             told,
         )
     }

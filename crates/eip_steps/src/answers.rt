@@ -1,9 +1,12 @@
 ghost use Rattle.std.specs.Prelude.{◌≡◌, ◌++◌, codes, decimal, IfOk, slice_get, unwrap_or};
+ghost use Rattle.eip_exchange.specs.declared.message.Message.{Message as AMessage};
 ghost use Rattle.eip_exchange.specs.Ends.{fault};
 ghost use Rattle.eip_frames.specs.Targets.{target_text};
 ghost use Rattle.eip_meaning.specs.Outcomes.{queue_of, queue_in, queue_full, fault_in, is_tried_again};
 ghost use Rattle.eip_meaning.specs.Steps.{became, is_fresh};
 ghost use Rattle.eip_progress.specs.Answered as on;
+ghost use Rattle.eip_progress.specs.declared.tried.Tried.TheVariants as tried;
+ghost use Rattle.eip_parts.specs.Effects.{tried_of};
 
 use eip_exchange::{Fault, Message, Strategy};
 use eip_frames::{Answer, Request, Target};
@@ -11,9 +14,9 @@ use eip_meaning::Context;
 use eip_parts::checks::{choose, held, nested_if};
 use eip_parts::fans::fan_answered;
 use eip_parts::faults::told_fault;
-use eip_parts::messages::duplicate_message;
-use eip_parts::try_answered;
-use eip_progress::{Progress, Tried};
+use eip_parts::messages::mark_duplicate;
+use eip_parts::{Effect, try_answered};
+use eip_progress::Progress;
 use eip_route::{Check, Goal, RouteSet, Step};
 use eip_text::{NoMemory, Text, decimal};
 use eip_uri::Uri;
@@ -130,13 +133,13 @@ pub fn goes_on(
     context: Context,
     step: &Step,
     progress: &Progress,
-    message: Message,
+    message: &mut Message,
     answer: &Answer,
-) -> Result<Tried, NoMemory>
-    ensures { IfOk result (λ t. t ≡ on.going_on set.now context step.now progress.now message answer.now) }
+) -> Result<Effect, NoMemory>
+    ensures { IfOk result (λ e. tried_of e message.new ≡ on.going_on set.now context step.now progress.now message.old answer.now) }
 {
     match step {
-        Step::To(uri) => Ok(to_answered(set, uri, message)),
+        Step::To(uri) => Ok(to_answered(set, uri)),
         Step::Process(_) => became(alloc, message, answer),
         Step::Choice { cases, otherwise } => {
             choice_answered(
@@ -150,7 +153,7 @@ pub fn goes_on(
                 answer,
             )
         }
-        Step::Filter { block, .. } => Ok(nested_if(held(answer), *block, message)),
+        Step::Filter { block, .. } => Ok(nested_if(held(answer), *block)),
         Step::Split { fan, .. } => {
             let original = Strategy::Original;
             let strategy = or_default(&fan.strategy, &original);
@@ -189,33 +192,33 @@ pub fn goes_on(
         | Step::RemoveHeader(_)
         | Step::Log { .. }
         | Step::Throw { .. }
-        | Step::Aggregate(_) => Ok(Tried::Goes(message)),
+        | Step::Aggregate(_) => Ok(Effect::Goes),
     }
 }
 
 /// What the answer to a send gives: the block of a route that is called runs.
-pub fn to_answered(set: &RouteSet, uri: &Uri, message: Message) -> Tried
-    ensures { result ≡ on.to_on set.now uri.now message }
+pub fn to_answered(set: &RouteSet, uri: &Uri) -> Effect
+    ensures { (m : AMessage) → tried_of result m ≡ on.to_on set.now uri.now m }
 {
-    goal_answered(set.resolve(uri), message)
+    goal_answered(set.resolve(uri))
 }
 
-fn goal_answered(goal: Goal, message: Message) -> Tried
-    ensures { result ≡ on.goal_on goal message }
+fn goal_answered(goal: Goal) -> Effect
+    ensures { (m : AMessage) → tried_of result m ≡ on.goal_on goal m }
 {
     match goal {
-        Goal::Direct(route) => Tried::Calls(route, message),
-        Goal::Queue(_) | Goal::Lane | Goal::Log | Goal::NoConsumer => Tried::Goes(message),
+        Goal::Direct(route) => Effect::Calls(route),
+        Goal::Queue(_) | Goal::Lane | Goal::Log | Goal::NoConsumer => Effect::Goes,
     }
 }
 
-fn became(alloc: Global, message: Message, answer: &Answer) -> Result<Tried, NoMemory>
-    ensures { IfOk result (λ t. t ≡ Tried.Goes (became message answer.now)) }
+fn became(alloc: Global, message: &mut Message, answer: &Answer) -> Result<Effect, NoMemory>
+    ensures { IfOk result (λ e. tried_of e message.new ≡ tried.Goes (became message.old answer.now)) }
 {
-    match answer {
-        Answer::Became(new) => Ok(Tried::Goes(new.get().copy(alloc)?)),
-        _ => Ok(Tried::Goes(message)),
+    if let Answer::Became(new) = answer {
+        *message = new.get().copy(alloc)?;
     }
+    Ok(Effect::Goes)
 }
 
 fn choice_answered(
@@ -225,10 +228,10 @@ fn choice_answered(
     cases: &[(Check, u32)],
     otherwise: Option<u32>,
     progress: &Progress,
-    message: Message,
+    message: &mut Message,
     answer: &Answer,
-) -> Result<Tried, NoMemory>
-    ensures { IfOk result (λ t. t ≡ on.choice_on set.now context cases.now otherwise progress.now message answer.now) }
+) -> Result<Effect, NoMemory>
+    ensures { IfOk result (λ e. tried_of e message.new ≡ on.choice_on set.now context cases.now otherwise progress.now message.old answer.now) }
 {
     match progress {
         Progress::Choosing(index) => {
@@ -243,7 +246,7 @@ fn choice_answered(
                 message,
             )
         }
-        _ => Ok(Tried::Goes(message)),
+        _ => Ok(Effect::Goes),
     }
 }
 
@@ -256,18 +259,18 @@ fn case_held(
     cases: &[(Check, u32)],
     otherwise: Option<u32>,
     holds: bool,
-    message: Message,
-) -> Result<Tried, NoMemory>
-    ensures { IfOk result (λ t. t ≡ on.case_held set.now context index cases.now otherwise (slice_get cases.now index) holds message) }
+    message: &Message,
+) -> Result<Effect, NoMemory>
+    ensures { IfOk result (λ e. tried_of e message.now ≡ on.case_held set.now context index cases.now otherwise (slice_get cases.now index) holds message.now) }
 {
     if index < cases.len() {
         if holds {
-            Ok(Tried::Enters(cases[index].1, message))
+            Ok(Effect::Enters(cases[index].1))
         } else {
             choose(alloc, set, context, cases, otherwise, index + 1, message)
         }
     } else {
-        Ok(Tried::Goes(message))
+        Ok(Effect::Goes)
     }
 }
 
@@ -284,19 +287,19 @@ fn key_answered(
     alloc: Global,
     skip: bool,
     block: u32,
-    message: Message,
+    message: &mut Message,
     answer: &Answer,
-) -> Result<Tried, NoMemory>
-    ensures { IfOk result (λ t. t ≡ on.key_on skip block message answer.now) }
+) -> Result<Effect, NoMemory>
+    ensures { IfOk result (λ e. tried_of e message.new ≡ on.key_on skip block message.old answer.now) }
 {
     if is_fresh(answer) {
-        return Ok(Tried::Enters(block, message));
+        return Ok(Effect::Enters(block));
     }
-    let marked = duplicate_message(alloc, message)?;
+    mark_duplicate(alloc, message)?;
     if skip {
-        Ok(Tried::Goes(marked))
+        Ok(Effect::Goes)
     } else {
-        Ok(Tried::Enters(block, marked))
+        Ok(Effect::Enters(block))
     }
 }
 

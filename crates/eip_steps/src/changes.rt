@@ -1,80 +1,44 @@
-ghost use Rattle.std.specs.Prelude.{IfOk};
-ghost use Rattle.eip_meaning.specs.Values.{with_body, with_property};
+ghost use Rattle.std.specs.Prelude.{◌≡◌, IfOk};
+ghost use Rattle.eip_meaning.specs.Values.{with_body, with_property, without_the_header};
 ghost use Rattle.eip_progress.specs.declared.tried.Tried.TheVariants as tried;
 ghost use Rattle.eip_progress.specs.FirstTry.{value_tried, header_tried};
-ghost use Rattle.eip_steps.specs.Changes.{Gives, Changes};
+ghost use Rattle.eip_parts.specs.Effects.{tried_of};
 
+use crate::steps::is_too_long;
 use eip_exchange::{Fault, HeaderFault, Message};
-use eip_meaning::Context;
-use eip_parts::faults::too_long;
-use eip_parts::values::value_of;
-use eip_route::{RouteSet, Step};
+use eip_parts::Effect;
 use eip_text::{NoMemory, Text};
 use std::alloc::Global;
 
-/// What a step that only changes the message has done to it.
-#[derive(Drop)]
-pub enum Change {
-    /// The message is changed, and goes on.
-    Goes,
-    /// The step faults, and the message is as before.
-    Faults(Fault),
-    /// The step isn't one that only changes the message, which is as before.
-    Other,
-}
+// What the steps do that only change the message.
 
-/// Changes the message where it stands, if that is all that the step does.
-pub fn change_message(
+/// The value is the body (Camel manual, *Set Body EIP*).
+pub fn set_body(
     alloc: Global,
-    set: &RouteSet,
-    context: Context,
-    step: &Step,
+    value: Option<Text>,
     message: &mut Message,
-) -> Result<Change, NoMemory>
-    ensures { IfOk result (λ x. Changes set.now context step.now message.old message.new x) }
-{
-    match step {
-        Step::SetBody(value) => {
-            let value = value_of(alloc, set, context, value, message)?;
-            set_body(alloc, value, message)
-        }
-        Step::SetHeader { name, value } => {
-            let value = value_of(alloc, set, context, value, message)?;
-            set_header(alloc, name, value, message)
-        }
-        Step::SetProperty { name, value } => {
-            let value = value_of(alloc, set, context, value, message)?;
-            set_property(alloc, name, value, message)
-        }
-        Step::RemoveHeader(name) => {
-            let _ = message.headers.remove(name.bytes())?;
-            Ok(Change::Goes)
-        }
-        _ => Ok(Change::Other),
-    }
-}
-
-fn set_body(alloc: Global, value: Option<Text>, message: &mut Message) -> Result<Change, NoMemory>
-    ensures { IfOk result (λ x. Gives (value_tried value message.old (λ v. tried.Goes (with_body message.old v))) message.new x) }
+) -> Result<Effect, NoMemory>
+    ensures { IfOk result (λ e. tried_of e message.new ≡ value_tried value message.old (λ v. tried.Goes (with_body message.old v))) }
 {
     let Some(value) = value else {
-        return Ok(Change::Faults(too_long(alloc)?));
+        return is_too_long(alloc);
     };
     message.body = value;
-    Ok(Change::Goes)
+    Ok(Effect::Goes)
 }
 
-fn set_header(
+/// The value is that of the header with this name (Camel manual, *Set Header EIP*).
+pub fn set_header(
     alloc: Global,
     name: &Text,
     value: Option<Text>,
     message: &mut Message,
-) -> Result<Change, NoMemory>
-    ensures { IfOk result (λ x. Gives (value_tried value message.old (λ v. header_tried name.now v message.old)) message.new x) }
+) -> Result<Effect, NoMemory>
+    ensures { IfOk result (λ e. tried_of e message.new ≡ value_tried value message.old (λ v. header_tried name.now v message.old)) }
 {
     match value {
         Some(value) => put_header(alloc, name, value, message),
-        None => Ok(Change::Faults(too_long(alloc)?)),
+        None => is_too_long(alloc),
     }
 }
 
@@ -83,33 +47,42 @@ fn put_header(
     name: &Text,
     value: Text,
     message: &mut Message,
-) -> Result<Change, NoMemory>
-    ensures { IfOk result (λ x. Gives (header_tried name.now value message.old) message.new x) }
+) -> Result<Effect, NoMemory>
+    ensures { IfOk result (λ e. tried_of e message.new ≡ header_tried name.now value message.old) }
 {
     match message.headers.set(name.copy()?, value) {
-        Ok(()) => Ok(Change::Goes),
+        Ok(()) => Ok(Effect::Goes),
         Err(HeaderFault::TooManyHeaders) => {
             let fault = Fault {
                 kind: Text::of_str(alloc, "TooManyHeaders")?,
                 text: name.copy()?,
             };
-            Ok(Change::Faults(fault))
+            Effect::faulting(alloc, fault, false)
         }
         Err(HeaderFault::NoMemory) => Err(NoMemory),
     }
 }
 
-fn set_property(
+/// The value is that of the property with this name (Camel manual, *Set Property EIP*).
+pub fn set_property(
     alloc: Global,
     name: &Text,
     value: Option<Text>,
     message: &mut Message,
-) -> Result<Change, NoMemory>
-    ensures { IfOk result (λ x. Gives (value_tried value message.old (λ v. tried.Goes (with_property message.old name.now v))) message.new x) }
+) -> Result<Effect, NoMemory>
+    ensures { IfOk result (λ e. tried_of e message.new ≡ value_tried value message.old (λ v. tried.Goes (with_property message.old name.now v))) }
 {
     let Some(value) = value else {
-        return Ok(Change::Faults(too_long(alloc)?));
+        return is_too_long(alloc);
     };
     message.properties.set(name.copy()?, value)?;
-    Ok(Change::Goes)
+    Ok(Effect::Goes)
+}
+
+/// The header with this name is taken off (Camel manual, *Remove Header EIP*).
+pub fn remove_header(name: &Text, message: &mut Message) -> Result<Effect, NoMemory>
+    ensures { IfOk result (λ e. tried_of e message.new ≡ tried.Goes (without_the_header message.old name.now)) }
+{
+    let _ = message.headers.remove(name.bytes())?;
+    Ok(Effect::Goes)
 }

@@ -7,7 +7,6 @@ mod sends;
 mod steps;
 
 pub use answers::{fault_of, goes_on, is_tried_again, to_answered};
-pub use changes::{Change, change_message};
-pub use eip_parts::{fans, faults, messages, values};
+pub use eip_parts::{Effect, fans, faults, messages, values};
 pub use sends::try_to;
 pub use steps::{steps_of, try_step};

@@ -1,13 +1,16 @@
 ghost use Rattle.std.specs.Prelude.{◌≡◌, IfOk, not, slice_get};
 ghost use Rattle.std.specs.List.{list_any};
+ghost use Rattle.eip_exchange.specs.declared.message.Message.{Message as AMessage};
 ghost use Rattle.eip_meaning.specs.Sends as spec;
 ghost use Rattle.eip_progress.specs.FirstTry.{asks, unless_tried, sent_tried, offer_tried, goal_tried, to_tried};
+ghost use Rattle.eip_parts.specs.Effects.{tried_of};
 
 use eip_exchange::{Fault, Message};
 use eip_frames::{Request, Target};
 use eip_meaning::Context;
+use eip_parts::Effect;
 use eip_parts::faults::{bare_fault, named_fault, told_fault};
-use eip_progress::{Progress, Tried};
+use eip_progress::Progress;
 use eip_route::{Goal, RouteSet};
 use eip_text::cuts::holds;
 use eip_text::{NoMemory, Text, decimal};
@@ -26,21 +29,21 @@ pub fn try_to(
     set: &RouteSet,
     context: Context,
     uri: &Uri,
-    message: Message,
-) -> Result<Tried, NoMemory>
-    ensures { IfOk result (λ t. t ≡ to_tried set.now context uri.now message) }
+    message: &Message,
+) -> Result<Effect, NoMemory>
+    ensures { IfOk result (λ e. tried_of e message.now ≡ to_tried set.now context uri.now message.now) }
 {
     match limit_fault(alloc, context, uri)? {
-        Some(fault) => Ok(Tried::Faults(fault, false, message)),
+        Some(fault) => Effect::faulting(alloc, fault, false),
         None => try_goal(alloc, set, context, uri, set.resolve(uri), message),
     }
 }
 
 /// The only request of a step.
-pub fn asks(alloc: Global, request: Request, message: Message) -> Result<Tried, NoMemory>
-    ensures { IfOk result (λ t. t ≡ asks request message) }
+pub fn asks(alloc: Global, request: Request) -> Result<Effect, NoMemory>
+    ensures { IfOk result (λ e. (m : AMessage) → tried_of e m ≡ asks request m) }
 {
-    Tried::asked(alloc, Progress::First, request, 0, message)
+    Effect::asking(alloc, Progress::First, request, 0)
 }
 
 fn try_goal(
@@ -49,18 +52,18 @@ fn try_goal(
     context: Context,
     uri: &Uri,
     goal: Goal,
-    message: Message,
-) -> Result<Tried, NoMemory>
-    ensures { IfOk result (λ t. t ≡ goal_tried set.now context uri.now goal message) }
+    message: &Message,
+) -> Result<Effect, NoMemory>
+    ensures { IfOk result (λ e. tried_of e message.now ≡ goal_tried set.now context uri.now goal message.now) }
 {
     match goal {
-        Goal::Direct(route) => asks(alloc, Request::Call { route }, message),
+        Goal::Direct(route) => asks(alloc, Request::Call { route }),
         Goal::Queue(route) => offer(alloc, set, uri, route, message),
         Goal::Lane => send(alloc, context, uri, message),
         Goal::Log => log_body(alloc, uri, message),
         Goal::NoConsumer => {
             let fault = no_consumer(alloc, uri)?;
-            Ok(Tried::Faults(fault, false, message))
+            Effect::faulting(alloc, fault, false)
         }
     }
 }
@@ -71,20 +74,20 @@ fn offer(
     set: &RouteSet,
     uri: &Uri,
     route: u32,
-    message: Message,
-) -> Result<Tried, NoMemory>
-    ensures { IfOk result (λ t. t ≡ offer_tried set.now uri.now route message) }
+    message: &Message,
+) -> Result<Effect, NoMemory>
+    ensures { IfOk result (λ e. tried_of e message.now ≡ offer_tried set.now uri.now route message.now) }
 {
     if !is_queue(set, route) {
         let fault = no_consumer(alloc, uri)?;
-        return Ok(Tried::Faults(fault, false, message));
+        return Effect::faulting(alloc, fault, false);
     }
     let request = Request::Offer {
         queue: route,
         discard: discards(uri),
         message: message.copy(alloc)?,
     };
-    asks(alloc, request, message)
+    asks(alloc, request)
 }
 
 fn is_queue(set: &RouteSet, route: u32) -> bool
@@ -106,20 +109,20 @@ fn is_queue_uri(from: &Uri) -> bool
 }
 
 /// Out by a lane, where the endpoint can take the message.
-fn send(alloc: Global, context: Context, uri: &Uri, message: Message) -> Result<Tried, NoMemory>
-    ensures { IfOk result (λ t. t ≡ unless_tried (spec.form_fault context uri.now message) message (sent_tried (spec.target_of context uri.now message) message)) }
+fn send(alloc: Global, context: Context, uri: &Uri, message: &Message) -> Result<Effect, NoMemory>
+    ensures { IfOk result (λ e. tried_of e message.now ≡ unless_tried (spec.form_fault context uri.now message.now) message.now (sent_tried (spec.target_of context uri.now message.now) message.now)) }
 {
-    match form_fault(alloc, context, uri, &message)? {
-        Some(fault) => Ok(Tried::Faults(fault, false, message)),
+    match form_fault(alloc, context, uri, message)? {
+        Some(fault) => Effect::faulting(alloc, fault, false),
         None => {
-            let target = target_of(alloc, context, uri, &message)?;
+            let target = target_of(alloc, context, uri, message)?;
             send_to(alloc, target, message)
         }
     }
 }
 
-fn send_to(alloc: Global, target: Option<Target>, message: Message) -> Result<Tried, NoMemory>
-    ensures { IfOk result (λ t. t ≡ sent_tried target message) }
+fn send_to(alloc: Global, target: Option<Target>, message: &Message) -> Result<Effect, NoMemory>
+    ensures { IfOk result (λ e. tried_of e message.now ≡ sent_tried target message.now) }
 {
     match target {
         Some(target) => {
@@ -127,20 +130,20 @@ fn send_to(alloc: Global, target: Option<Target>, message: Message) -> Result<Tr
                 target,
                 message: message.copy(alloc)?,
             };
-            asks(alloc, request, message)
+            asks(alloc, request)
         }
-        None => Ok(Tried::Goes(message)),
+        None => Ok(Effect::Goes),
     }
 }
 
-fn log_body(alloc: Global, uri: &Uri, message: Message) -> Result<Tried, NoMemory>
-    ensures { IfOk result (λ t. t ≡ asks (Request.Log (spec.log_of uri.now) message.body) message) }
+fn log_body(alloc: Global, uri: &Uri, message: &Message) -> Result<Effect, NoMemory>
+    ensures { IfOk result (λ e. tried_of e message.now ≡ asks (Request.Log (spec.log_of uri.now) message.now.body) message.now) }
 {
     let request = Request::Log {
         name: log_of(alloc, uri)?,
         text: message.body.copy()?,
     };
-    asks(alloc, request, message)
+    asks(alloc, request)
 }
 
 /// The name of a log's endpoint.

@@ -1,7 +1,9 @@
 -- Rising numbers: those of rows, how one of them is taken out, and where one goes in two runs of them.
-use Rattle.std.proofs.Common.{◌≡◌, ◌≢◌, ℕ, zero, suc, ◌+◌, ◌<◌, ◌≤◌, ◌==◌, Bool, true, false, not, nat_lt, List, [], ◌∷◌, length, cond, refl, sym, ap, arith, get_or, eq-eqb}
+use Rattle.std.proofs.Common.{◌≡◌, ◌≢◌, ℕ, zero, suc, ◌+◌, ◌<◌, ◌≤◌, ◌==◌, Bool, true, false, not, nat_lt, List, [], ◌∷◌, length, drop, Some, cond, refl, sym, ap, arith, get_or, eq-eqb}
 use Rattle.std.proofs.lemmas.Bool.{ne_eqb, lt-ltb, le-ltb}
+use Rattle.std.proofs.lemmas.Option.{none-some, same_Some}
 use Rattle.std.specs.List.{remove}
+use Rattle.eip_history.specs.Rules.{first}
 use Rattle.eip_history.specs.Tables.{without}
 use Rattle.eip_tables.specs.Numbers.{RiseFrom, AreRising, row_numbers, place_in}
 
@@ -62,6 +64,11 @@ without-found n x (suc i) (y ∷ ys) h l e =
     let above = above-start (y + 1) ys i h.1 (omega (arith, l)) in
     let other : (y == x) ≡ false = ne_eqb y x (λ is. omega (arith, is, above, e)) in
     rw other (ap (λ zs. y ∷ zs) (without-found (y + 1) x i ys h.1 (omega (arith, l)) e))
+
+-- the least one goes where the first one is taken off
+pub without-least : (x : ℕ) (xs : List ℕ) → AreRising xs → first xs ≡ Some x → drop 1 xs ≡ without x xs
+without-least x [] h is = absurd (none-some x is)
+without-least x (y ∷ ys) h is = without-found 0 x 0 (y ∷ ys) h (omega arith) (same_Some y x is)
 
 -- where a number goes that is there: behind it
 pub place-behind : (n x i : ℕ) (xs : List ℕ) → RiseFrom n xs → i < length xs → get_or xs i 0 ≡ x → place_in x xs ≡ i + 1

@@ -1,5 +1,5 @@
-ghost use Rattle.std.specs.Prelude.{◌≡◌, None, IfOk, IfNone, OnErr, MatchOption};
-ghost use Rattle.eip_tables.specs.Row.{kept_birth, kept_cursor, kept_request, kept_fault};
+ghost use Rattle.std.specs.Prelude.{◌≡◌, None, Some, IfOk, IfNone, OnErr, MatchOption};
+ghost use Rattle.eip_tables.specs.Row.{kept_birth, kept_cursor, kept_request, kept_fault, WasKept};
 ghost use Rattle.eip_tables.specs.Moves.{end_asked, starved_end};
 
 use eip_exchange::{Birth, End, Ended, Fault};
@@ -31,6 +31,15 @@ pub enum Kept {
     Live(Boxed<Live>),
     /// What it failed with.
     Failed(Boxed<Option<Fault>>),
+}
+
+/// Room for what an exchange has while it lives.
+#[derive(Drop)]
+pub struct Room {
+    pub live: Boxed<Live>,
+    /// Whether the exchange has this already. Else it is the room of one that has ended, of which a cursor and a request may be left:
+    /// they are dropped when others take their places.
+    pub is_own: bool,
 }
 
 /// The end of a part that is starved, by its birth and its fault.
@@ -87,6 +96,14 @@ impl Live {
         clear(&mut self.fault);
     }
 
+    /// Nothing is known of its birth, nor of a fault.
+    fn forget_birth(&mut self)
+        ensures { self.new ≡ record self.old { birth = None; fault = None } }
+    {
+        clear(&mut self.birth);
+        clear(&mut self.fault);
+    }
+
     /// What it asks is handed out.
     pub fn take_request(&mut self) -> Option<Request>
         ensures live { self.new ≡ record self.old { request = None } }
@@ -96,7 +113,7 @@ impl Live {
     }
 
     /// The end that it asks for, handed out; any other request is dropped.
-    pub fn take_end(&mut self) -> Option<End>
+    pub(crate) fn take_end(&mut self) -> Option<End>
         ensures end { result ≡ end_asked self.old.request }
         ensures none { IfNone result (self.new ≡ record self.old { request = None }) }
     {
@@ -177,24 +194,26 @@ impl Kept {
         &mut self,
         alloc: Global,
         vacant: &mut Option<Boxed<Live>>,
-    ) -> Result<Boxed<Live>, NoMemory>
-        ensures birth { IfOk result (λ l. l.birth ≡ kept_birth self.old) }
-        ensures cursor { IfOk result (λ l. l.cursor ≡ kept_cursor self.old) }
-        ensures request { IfOk result (λ l. l.request ≡ kept_request self.old) }
-        ensures fault { IfOk result (λ l. l.fault ≡ kept_fault self.old) }
+    ) -> Result<Room, NoMemory>
+        ensures birth { IfOk result (λ r. r.live.birth ≡ kept_birth self.old) }
+        ensures fault { IfOk result (λ r. r.live.fault ≡ kept_fault self.old) }
+        ensures old { IfOk result (λ r. WasKept r.is_own r.live self.old self.new) }
         ensures err { OnErr result (self.new ≡ self.old) }
     {
         match mem::replace(self, Kept::Nothing) {
-            Kept::Live(live) => Ok(live),
+            Kept::Live(live) => Ok(Room { live, is_own: true }),
             Kept::Nothing => {
-                let mut room = room_for(alloc, vacant)?;
-                room.get_mut().forget();
-                Ok(room)
+                let mut live = room_for(alloc, vacant)?;
+                live.get_mut().forget_birth();
+                Ok(Room {
+                    live,
+                    is_own: false,
+                })
             }
             Kept::Failed(mut fault) => match room_for(alloc, vacant) {
-                Ok(mut room) => {
-                    room.get_mut().tell(None, fault.replace(None));
-                    Ok(room)
+                Ok(mut live) => {
+                    live.get_mut().tell(None, fault.replace(None));
+                    Ok(Room { live, is_own: true })
                 }
                 Err(NoMemory) => {
                     *self = Kept::Failed(fault);
@@ -241,23 +260,22 @@ pub(crate) fn room_for(
     }
 }
 
-/// What is kept of an exchange that has ended, with the fault that it failed with: that alone, or where there is no memory for it
-/// apart, in the place of what the exchange had. A room that it needs no more is the vacant one from now on, as it stands.
-pub fn left_by(
-    alloc: Global,
-    vacant: &mut Option<Boxed<Live>>,
-    mut live: Boxed<Live>,
-    fault: Option<Fault>,
-) -> Kept
+/// What is kept of an exchange that has ended and did not fail: nothing. Its room is the vacant one from now on, as it stands.
+pub fn left_vacant(vacant: &mut Option<Boxed<Live>>, live: Boxed<Live>) -> Kept
+    ensures { result ≡ Kept.Nothing }
+{
+    *vacant = Some(live);
+    Kept::Nothing
+}
+
+/// What is kept of an exchange that has failed: its fault alone, or where there is no memory for it apart, in the place of what the
+/// exchange had.
+pub fn left_failed(alloc: Global, mut live: Boxed<Live>, fault: Fault) -> Kept
     ensures birth { kept_birth result ≡ None }
     ensures cursor { kept_cursor result ≡ None }
     ensures request { kept_request result ≡ None }
-    ensures fault { kept_fault result ≡ fault }
+    ensures fault { kept_fault result ≡ Some fault }
 {
-    let Some(fault) = fault else {
-        *vacant = Some(live);
-        return Kept::Nothing;
-    };
     match Boxed::of(alloc, None) {
         Ok(mut room) => {
             drop(room.replace(Some(fault)));

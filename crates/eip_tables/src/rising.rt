@@ -110,6 +110,13 @@ impl RisingNumbers {
         ensures spare { self.old.spare ≤ self.new.spare }
         ensures capacity { capacity self.old ≤ capacity self.new }
     {
+        // Mostly it is the least one that goes.
+        if let Some(least) = self.least() {
+            if least == number {
+                let _ = self.numbers.pop_front();
+                return;
+            }
+        }
         if let Ok(at) = self.numbers.binary_search(&number) {
             let _ = self.numbers.remove(at);
         }

@@ -1,12 +1,12 @@
 ghost use Rattle.std.specs.Prelude.{◌≡◌, ◌<◌, ◌≤◌, ◌+◌, ◌++◌, ◌∷◌, [], Some, None, IfOk, OnOk, OnErr, IsSome, MatchOption, length, option_map, vec_len, vec_capacity};
 ghost use Rattle.eip_tables.specs.declared.row.Stage.TheVariants.{Asks};
-ghost use Rattle.eip_tables.specs.Row.{with_live};
+ghost use Rattle.eip_tables.specs.Row.{Row as ARow, with_live, WasRow};
 ghost use Rattle.eip_tables.specs.Moves.{new_row, copy_row, part_row, grouped_row, starving, started, answered, held, joining, sleeping, woken, closed, starved_end, stage_of, fault_of, finished, end_asked, last_message, part_end, ended_with, ticks_asked, line_asked, finished_asked, ended_by};
 ghost use Rattle.eip_tables.specs.State.{row_outside};
 ghost use Rattle.eip_tables.specs.Offers.{hops_by, offer_asked, offered_message};
 ghost use Rattle.eip_tables.specs.Parts.{at_by, seeds_asked, count_asked};
 
-use crate::live::{Kept, Live, left_by, room_for};
+use crate::live::{Kept, Live, Room, left_failed, left_vacant, room_for};
 use eip_exchange::{Birth, End, Ended, Fault, Message};
 use eip_frames::{Answer, At, Completion, Request, Seed, is_outside};
 use eip_text::{Boxed, NoMemory, Text};
@@ -301,17 +301,27 @@ pub fn start(row: &mut Row)
     row.stage = Stage::New;
 }
 
-/// What an exchange has while it lives is taken out, to be put back; where it has nothing yet, that is room. On `NoMemory` the row is
+/// What an exchange has while it lives is taken out, to be put back; where it has nothing yet, room for that. On `NoMemory` the row is
 /// as before.
 pub fn take_room(
     row: &mut Row,
     alloc: Global,
     vacant: &mut Option<Boxed<Live>>,
-) -> Result<Boxed<Live>, NoMemory>
-    ensures ok { IfOk result (λ l. row.old ≡ with_live l row.new) }
+) -> Result<Room, NoMemory>
+    ensures was { IfOk result (λ r. WasRow r.is_own r.live row.old row.new) }
+    ensures known { IfOk result (λ r. row.old ≡ record row.new { birth = r.live.birth; cursor = row.old.cursor; request = row.old.request; fault = r.live.fault }) }
     ensures err { OnErr result (row.new ≡ row.old) }
 {
     row.kept.take_room(alloc, vacant)
+}
+
+/// The room that was taken from a row isn't needed: the row is as before it was.
+pub fn leave_room(row: &mut Row, room: Room)
+    ensures { (old : ARow) → WasRow room.is_own room.live old row.old → row.new ≡ old }
+{
+    if room.is_own {
+        put_live(row, room.live);
+    }
 }
 
 /// What an exchange has while it lives is taken out, to be put back.
@@ -406,15 +416,14 @@ pub fn starve(row: &mut Row) -> Option<Ended>
     mem::replace(&mut row.kept, Kept::Nothing).starved()
 }
 
-/// The stage of an end, and its fault.
-fn ended(end: End) -> (Stage, Option<Fault>)
-    ensures stage { result.0 ≡ stage_of end }
-    ensures fault { result.1 ≡ fault_of end }
+/// The stage of an end.
+fn stage_of(end: &End) -> Stage
+    ensures { result ≡ stage_of end.now }
 {
     match end {
-        End::Completed => (Stage::Completed, None),
-        End::Handled => (Stage::Handled, None),
-        End::Failed(fault) => (Stage::Failed, Some(fault)),
+        End::Completed => Stage::Completed,
+        End::Handled => Stage::Handled,
+        End::Failed(_) => Stage::Failed,
     }
 }
 
@@ -428,9 +437,11 @@ fn finish(
 )
     ensures { row.new ≡ finished end row.old }
 {
-    let (stage, fault) = ended(end);
-    row.stage = stage;
-    row.kept = left_by(alloc, vacant, live, fault);
+    row.stage = stage_of(&end);
+    row.kept = match end {
+        End::Completed | End::Handled => left_vacant(vacant, live),
+        End::Failed(fault) => left_failed(alloc, live, fault),
+    };
 }
 
 /// The end that an exchange asks for, handed out; any other request is dropped.
@@ -519,29 +530,24 @@ fn finish_parts(request: Option<Request>) -> (Option<End>, Option<Message>)
     }
 }
 
-/// An end with its message, where both are there.
-fn ended_with(end: Option<End>, message: Option<Message>) -> Option<Ended>
-    ensures { result ≡ ended_with end message }
+/// An end with its message, where that is there.
+fn ended_with(end: End, message: Option<Message>) -> Option<Ended>
+    ensures { result ≡ ended_with (Some end) message }
 {
-    let end = end?;
     let message = message?;
     Some(Ended { end, message })
 }
 
-/// The exchange ends by the end that it asks for; its message is handed out with the end that its parent is told, where there is one.
-pub fn finish_asked(
+/// The exchange ends by the end that it asks for; its message is handed out with this end, which its parent is told.
+pub fn finish_told(
     row: &mut Row,
     alloc: Global,
     vacant: &mut Option<Boxed<Live>>,
-    told: Option<End>,
+    told: End,
 ) -> Option<Ended>
     ensures row { row.new ≡ finished_asked row.old }
-    ensures ended { result ≡ ended_with told (last_message row.old.request) }
+    ensures ended { result ≡ ended_with (Some told) (last_message row.old.request) }
 {
-    if told.is_none() {
-        finish_alone(row, alloc, vacant);
-        return None;
-    }
     match mem::replace(&mut row.kept, Kept::Nothing) {
         Kept::Live(mut live) => {
             let (end, message) = finish_parts(live.get_mut().take_request());
@@ -553,13 +559,14 @@ pub fn finish_asked(
         }
         other => {
             row.kept = other;
-            ended_with(told, None)
+            drop(told);
+            None
         }
     }
 }
 
 /// The exchange ends by the end that it asks for, and nobody is told.
-fn finish_alone(row: &mut Row, alloc: Global, vacant: &mut Option<Boxed<Live>>)
+pub fn finish_alone(row: &mut Row, alloc: Global, vacant: &mut Option<Boxed<Live>>)
     ensures { row.new ≡ finished_asked row.old }
 {
     match mem::replace(&mut row.kept, Kept::Nothing) {

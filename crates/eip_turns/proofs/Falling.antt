@@ -1,5 +1,5 @@
 -- What is left to do before the next request falls with each turn.
-use Rattle.std.proofs.Common.{◌≡◌, ℕ, zero, suc, ◌+◌, ◌-◌, ◌<◌, ◌≤◌, List, [], ◌∷◌, ◌++◌, drop, length, sym, ◌∙◌, ap, inl, inr, arith, cond}
+use Rattle.std.proofs.Common.{◌≡◌, ℕ, zero, suc, ◌+◌, ◌<◌, ◌≤◌, List, [], ◌∷◌, ◌++◌, drop, length, sym, ◌∙◌, ap, inl, inr, arith, cond}
 use Rattle.std.specs.Prelude.{Option, Some, None, Bool, true, false, nat_le, slice_get, Result, Ok, Err}
 use Rattle.std.proofs.lemmas.Bool.{cases_Bool}
 use Rattle.eip_exchange.specs.declared.message.Message.{Message}

@@ -1,8 +1,7 @@
 -- The first try of a step of a block, and the steps behind it.
-use Rattle.std.proofs.Common.{◌≡◌, ℕ, ◌+◌, ◌<◌, ◌≤◌, false, List, refl, sym, ◌∙◌, ap, arith, length}
+use Rattle.std.proofs.Common.{◌≡◌, ℕ, ◌+◌, ◌<◌, ◌≤◌, List, refl, ◌∙◌, ap, arith, length}
 use Rattle.std.specs.Prelude.{Option, Some, None, slice_get}
 use Rattle.eip_exchange.specs.declared.message.Message.{Message}
-use Rattle.eip_exchange.specs.declared.end.Fault.{Fault}
 use Rattle.eip_uri.specs.declared.uri.Uri.{Uri}
 use Rattle.eip_route.specs.declared.step.Step.{Step}
 use Rattle.eip_route.specs.declared.route.RouteSet.{RouteSet}
@@ -16,9 +15,7 @@ use Rattle.eip_progress.specs.declared.frame.Task.TheVariants as task
 use Rattle.eip_progress.specs.FirstTry.{first_tried}
 use Rattle.eip_progress.specs.declared.frame.Frame.{Frame}
 use Rattle.eip_progress.specs.Rest.{rest_of_block, behind_all}
-use Rattle.eip_steps.specs.declared.changes.Change.{Change}
-use Rattle.eip_steps.specs.declared.changes.Change.TheVariants as change
-use Rattle.eip_turns.specs.First.{first_at, ChangesAt, behind_try}
+use Rattle.eip_turns.specs.First.{first_at, behind_try}
 use Rattle.eip_turns.specs.Kept.{HasKept}
 use Rattle.eip_turns.specs.Falls.{tried_weight, try_weight}
 use Rattle.eip_turns.proofs.Keeping.{keeps_first}
@@ -42,18 +39,6 @@ kept_as set c o m t e = rw e (first_kept set c o m)
 
 pub weighs_as : (set : RouteSet) (c : Context) (b i : ℕ) (o : Option Step) (m : Message) (t : Tried) → t ≡ first_at set c o m → tried_weight set c (task.Step b i) t ≤ try_weight set c b o
 weighs_as set c b i o m t e = rw e (first_weighs set c b i o m)
-
--- what a step has done to the message m, which is n now, is what its first try gives
-module _ (set : RouteSet) (c : Context) (o : Option Step) (m n : Message) (x : Change) (h : ChangesAt set c o m n x) where
-  pub changed_goes : x ≡ change.Goes → tried.Goes n ≡ first_at set c o m
-  changed_goes e = sym (rw e at h)
-
-  pub changed_faults : (f : Fault) → x ≡ change.Faults f → tried.Faults f false n ≡ first_at set c o m
-  changed_faults f e = sym (rw e at h)
-
-  -- where it has done nothing to it, the first try is still made on m
-  pub changed_not : (t : Tried) → x ≡ change.Other → t ≡ first_at set c o n → t ≡ first_at set c o m
-  changed_not t e g = g ∙ ap (first_at set c o) (rw e at h)
 
 module _ (set : RouteSet) (whole : Option Uri) (c : Context) (b i : ℕ) (m : Message) (A : List Reply) (l : i < length (steps_of set b)) where
   -- what the first try gives, and the rest of the block behind it

@@ -7,10 +7,9 @@ use Rattle.eip_exchange.specs.declared.birth.Work.TheVariants as work
 use Rattle.eip_uri.specs.declared.uri.Uri.{Uri}
 use Rattle.eip_route.specs.declared.route.RouteSet.{RouteSet}
 use Rattle.eip_route.specs.declared.step.Step.{Step}
-use Rattle.eip_frames.specs.declared.request.Request.{Request}
 use Rattle.eip_frames.specs.declared.answer.Answer.{Answer as Reply}
 use Rattle.eip_meaning.specs.declared.context.Context.{Context}
-use Rattle.eip_meaning.specs.Outcomes.{Goes, Faults, Runner, caught}
+use Rattle.eip_meaning.specs.Outcomes.{Goes, Runner, caught}
 use Rattle.eip_meaning.specs.Contexts.{called}
 use Rattle.eip_meaning.specs.Values.{redelivered}
 use Rattle.eip_meaning.specs.Attempts.{number_of_try, faulted}
@@ -19,7 +18,6 @@ use Rattle.eip_meaning.proofs.Scripts.{Script, goes, either-script}
 use Rattle.eip_meaning.proofs.BlockScripts.{work-script}
 use Rattle.eip_meaning.proofs.Quiet.{caught_quiet}
 use Rattle.eip_meaning.proofs.Unfolding.{tries_equation, next_of}
-use Rattle.eip_progress.specs.declared.tried.Progress.{Progress}
 use Rattle.eip_progress.specs.declared.tried.Asking.{Asking}
 use Rattle.eip_progress.specs.declared.tried.Tried.{Tried}
 use Rattle.eip_progress.specs.declared.tried.Tried.TheVariants as tried

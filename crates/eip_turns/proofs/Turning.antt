@@ -1,5 +1,5 @@
 -- The turns between two requests.
-use Rattle.std.proofs.Common.{◌≡◌, ℕ, zero, suc, ◌+◌, ◌<◌, List, [], ◌∷◌, ◌++◌, refl, sym, ◌∙◌, ap, arith, drop, length}
+use Rattle.std.proofs.Common.{◌≡◌, ℕ, zero, suc, ◌+◌, ◌<◌, Bool, List, [], ◌∷◌, ◌++◌, refl, sym, ◌∙◌, ap, arith, drop, length}
 use Rattle.std.specs.Prelude.{Option, Some, None, slice_get}
 use Rattle.std.proofs.Math.Path.{fun_ext}
 use Rattle.eip_exchange.specs.declared.message.Message.{Message}
@@ -9,13 +9,17 @@ use Rattle.eip_route.specs.declared.route.RouteSet.{RouteSet}
 use Rattle.eip_route.specs.declared.step.Step.{Step}
 use Rattle.eip_frames.specs.declared.answer.Answer.{Answer as Reply}
 use Rattle.eip_meaning.specs.declared.context.Context.{Context}
+use Rattle.eip_meaning.specs.Contexts.{place_in}
 use Rattle.eip_meaning.specs.Outcomes.{Outcome, Asks, Goes, Stops, Faults, Stray, Runner, followed}
 use Rattle.eip_meaning.specs.Steps.{one_try}
 use Rattle.eip_meaning.specs.Attempts.{tries}
-use Rattle.eip_meaning.specs.Meaning.{steps_of, steps_mean, handle_in}
+use Rattle.eip_meaning.specs.Meaning.{steps_of, steps_mean, handle_in, finished}
 use Rattle.eip_progress.specs.declared.frame.Frame.{Frame}
 use Rattle.eip_progress.specs.declared.frame.Task.TheVariants as task
-use Rattle.eip_progress.specs.Rest.{nested_at, call_at, try_of, try_of_step, tries_of, rest_of_block, frame_mean, behind_all}
+use Rattle.eip_progress.specs.Rest.{nested_at, call_at, try_of, try_of_step, tries_of, rest_of_block, frame_mean, behind_all, now_mean, rest_of}
+use Rattle.eip_turns.specs.declared.course.Course.{Course}
+use Rattle.eip_turns.specs.declared.course.Course.TheVariants as course
+use Rattle.eip_turns.specs.Courses.{now_of, state_of, IsLast}
 use Rattle.eip_steps.proofs.Within.{some_within}
 
 none_some : {X : Type 0} {k : X} → None ≡ Some k → ⊥
@@ -72,3 +76,14 @@ module _ (set : RouteSet) where
   pub behind_stops : (fs : List Frame) (e : End) (m : Message) (A : List Reply) → behind_all set fs (Stops e m A) ≡ Stops e m A
   behind_stops [] e m A = refl
   behind_stops (g ∷ fs) e m A = ap (λ (x : Outcome). followed x (λ m' A'. frame_mean set g m' A')) (behind_stops fs e m A)
+
+  -- a course without a further turn, with the frames behind it, is its state
+  pub last_as : (commit : Bool) (item : List ℕ) (d : Context) (whole : Option Uri) (fs : List Frame) (n : Course) (m : Message) (A : List Reply) → IsLast n →
+      rest_of set commit item d whole fs (state_of n m) A ≡ finished commit item (place_in d 0) (behind_all set fs (now_mean set whole (now_of n m) A))
+  last_as commit item d whole fs course.Goes m A l = absurd l
+  last_as commit item d whole fs (course.Stops e) m A l = ap (finished commit item (place_in d 0)) (sym (behind_stops fs e m A))
+  last_as commit item d whole fs (course.Asks c t left x) m A l = refl
+  last_as commit item d whole fs (course.Sleeps c t left ticks) m A l = refl
+  last_as commit item d whole fs (course.Enters c b) m A l = absurd l
+  last_as commit item d whole fs (course.Handles handled continued f c b) m A l = absurd l
+  last_as commit item d whole fs (course.Letters c) m A l = absurd l

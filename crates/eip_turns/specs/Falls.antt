@@ -1,5 +1,5 @@
 -- What is left to do before the next request, as a number that falls with each turn.
-use Rattle.std.specs.Prelude.{ℕ, ◌+◌, ◌<◌, drop, Bool, true, false, List, [], ◌∷◌, Option, Some, None}
+use Rattle.std.specs.Prelude.{ℕ, ◌+◌, drop, Bool, true, false, List, [], ◌∷◌, Option, Some, None}
 use Rattle.eip_exchange.specs.declared.setting.Clause.{Clause}
 use Rattle.eip_route.specs.declared.step.Step.{Step}
 use Rattle.eip_route.specs.declared.route.RouteSet.{RouteSet}
@@ -13,8 +13,6 @@ use Rattle.eip_progress.specs.declared.frame.Frame.{Frame}
 use Rattle.eip_progress.specs.declared.frame.Frame.TheVariants as frame
 use Rattle.eip_progress.specs.declared.frame.Now.{Now}
 use Rattle.eip_progress.specs.declared.frame.Now.TheVariants as now
-use Rattle.eip_progress.specs.declared.frame.Turn.{Turn}
-use Rattle.eip_progress.specs.declared.frame.Turn.TheVariants as turn
 use Rattle.eip_progress.specs.Rest.{block_at}
 use Rattle.eip_turns.specs.Weights.{weight_of_option, nested_weight, steps_weight, block_weight, nested_block}
 
@@ -59,7 +57,3 @@ frame_weight set frame.Letter = 1
 abbrev pub stack_weight : RouteSet → List Frame → ℕ
 stack_weight set [] = 0
 stack_weight set (f ∷ fs) = frame_weight set f + stack_weight set fs
-
-abbrev pub TurnFalls : RouteSet → List Frame → Turn → ℕ → Type 0
-TurnFalls set fs (turn.Again n) w = stack_weight set fs + now_weight set n < w
-TurnFalls set fs (turn.Done s) w = Unit {0}

@@ -1,5 +1,5 @@
 -- The first try of a step of a block, and the steps behind it.
-use Rattle.std.specs.Prelude.{◌≡◌, ℕ, false, List, Option, Some, None}
+use Rattle.std.specs.Prelude.{ℕ, List, Option, Some, None}
 use Rattle.eip_exchange.specs.declared.message.Message.{Message}
 use Rattle.eip_uri.specs.declared.uri.Uri.{Uri}
 use Rattle.eip_route.specs.declared.step.Step.{Step}
@@ -11,20 +11,12 @@ use Rattle.eip_progress.specs.declared.tried.Tried.{Tried}
 use Rattle.eip_progress.specs.declared.tried.Tried.TheVariants as tried
 use Rattle.eip_progress.specs.declared.frame.Task.TheVariants as task
 use Rattle.eip_progress.specs.FirstTry.{first_tried}
-use Rattle.eip_steps.specs.declared.changes.Change.{Change}
-use Rattle.eip_steps.specs.declared.changes.Change.TheVariants as change
 use Rattle.eip_progress.specs.Rest.{rest_of_block, guarded_mean, tried_mean}
 
 -- what the first try of a step gives; one that isn't there lets the message go on
 abbrev pub first_at : RouteSet → Context → Option Step → Message → Tried
 first_at set c None m = tried.Goes m
 first_at set c (Some s) m = first_tried set c s m
-
--- what a step has done to a message is what its first try gives; where it does more than change it, the message stays
-abbrev pub ChangesAt : RouteSet → Context → Option Step → (old new : Message) → Change → Type 0
-ChangesAt set c s old new change.Goes = first_at set c s old ≡ tried.Goes new
-ChangesAt set c s old new (change.Faults f) = first_at set c s old ≡ tried.Faults f false new
-ChangesAt set c s old new change.Other = new ≡ old
 
 -- what the first try of a step gives, with what follows its faults, and behind it the steps from the next index on
 abbrev pub behind_try : RouteSet → Option Uri → Context → (b index next : ℕ) → Message → Tried → List Reply → Outcome

@@ -7,9 +7,6 @@ use Rattle.eip_meaning.specs.Attempts.{number_of_try}
 use Rattle.eip_meaning.specs.Meaning.{decides}
 use Rattle.eip_progress.specs.declared.tried.Tried.{Tried}
 use Rattle.eip_progress.specs.declared.tried.Tried.TheVariants as tried
-use Rattle.eip_progress.specs.declared.frame.Turn.{Turn}
-use Rattle.eip_progress.specs.declared.frame.Turn.TheVariants as turn
-use Rattle.eip_progress.specs.Rest.{IsStarting}
 
 -- the clause, where it says what is done
 abbrev pub decider_of : Option Clause → Option Clause
@@ -31,8 +28,3 @@ HasKept kept left (tried.Faults f again x) m = (unwrap_or kept x ≡ m) × (x �
 HasKept kept left (tried.Asks y x) m = (unwrap_or kept x ≡ m) × (x ≡ redelivered m (number_of_try left))
 HasKept kept left (tried.Enters j x) m = Unit {0}
 HasKept kept left (tried.Calls r x) m = Unit {0}
-
--- what is done is no beginning
-abbrev pub IsLater : Turn → Type 0
-IsLater (turn.Again n) = Unit {0}
-IsLater (turn.Done s) = IsStarting s → ⊥

@@ -1,3 +1,4 @@
+pub mod Courses
 pub mod Falls
 pub mod First
 pub mod Kept

@@ -8,16 +8,19 @@ ghost use Rattle.eip_meaning.specs.Values.{redelivered};
 ghost use Rattle.eip_meaning.specs.Attempts.{clause_for, policy_for, number_of_try};
 ghost use Rattle.eip_meaning.specs.Meaning.{decides, dead_letter, by_clause, handle_in};
 ghost use Rattle.eip_progress.specs.Rest.{now_mean, fault_mean};
+ghost use Rattle.eip_turns.specs.Courses.{now_of};
 ghost use Rattle.eip_turns.specs.Kept.{decider_of};
 ghost use Rattle.eip_turns.specs.Falls.{now_weight, clauses_weight, handling_in};
 
+use crate::course::Course;
 use eip_error_handler::{choose, delay, may_retry, merged};
 use eip_exchange::{Clause, End, Fault, Message, Policy};
 use eip_meaning::Context;
-use eip_progress::{Now, Task, Wait};
+use eip_progress::Task;
 use eip_route::RouteSet;
-use eip_steps::messages::caught_message;
-use eip_text::NoMemory;
+use eip_steps::faults::taken;
+use eip_steps::messages::set_caught;
+use eip_text::{Boxed, NoMemory};
 use std::alloc::Global;
 
 /// The clause that takes a fault (Camel manual, *Exception Clause*).
@@ -88,13 +91,12 @@ fn ticks_behind(policy: &Policy, number: u32) -> u64
     }
 }
 
-/// The message as it stood at the step.
-pub fn kept_or(kept: Option<Message>, tried: Message) -> Message
-    ensures { result ≡ unwrap_or kept tried }
+/// The message as it stood at the step comes back into its place, where it was kept.
+pub fn put_back(message: &mut Message, kept: Option<Message>)
+    ensures { message.new ≡ unwrap_or kept message.old }
 {
-    match kept {
-        Some(message) => message,
-        None => tried,
+    if let Some(kept) = kept {
+        *message = kept;
     }
 }
 
@@ -107,29 +109,27 @@ pub fn faulted(
     task: Task,
     left: u32,
     kept: Option<Message>,
-    tried: Message,
-    fault: Fault,
+    fault: Boxed<Fault>,
     again: bool,
-) -> Result<Now, NoMemory>
-    ensures means { IfOk result (λ n. (whole : Option AUri) (m : AMessage) (A : List AnAnswer) → unwrap_or kept tried ≡ m → tried ≡ redelivered m (number_of_try left)
-        → now_mean set.now whole n A ≡ fault_mean set.now whole context task left m fault again A) }
-    ensures falls { IfOk result (λ n. now_weight set.now n ≤ handling_in set.now context) }
+    message: &mut Message,
+) -> Result<Course, NoMemory>
+    ensures means { IfOk result (λ n. (whole : Option AUri) (m : AMessage) (A : List AnAnswer) → unwrap_or kept message.old ≡ m → message.old ≡ redelivered m (number_of_try left)
+        → now_mean set.now whole (now_of n message.new) A ≡ fault_mean set.now whole context task left m fault again A) }
+    ensures falls { IfOk result (λ n. now_weight set.now (now_of n message.new) ≤ handling_in set.now context) }
 {
     let number = number_of_try(left);
-    let policy = policy_of(set, &fault);
+    let policy = policy_of(set, fault.get());
     if tries_again(context, left, number, again, &policy) {
-        let ticks = ticks_behind(&policy, number);
-        let message = kept_or(kept, tried);
-        Ok(Now::Waits(Wait::Sleeping {
+        put_back(message, kept);
+        Ok(Course::Sleeps {
             context,
             task,
             left: left - 1,
-            ticks,
-            message,
-        }))
+            ticks: ticks_behind(&policy, number),
+        })
     } else {
-        let now = handled(alloc, set, context, tried, fault)?;
-        Ok(now)
+        let course = handled(alloc, set, context, fault, message)?;
+        Ok(course)
     }
 }
 
@@ -138,49 +138,47 @@ fn handled(
     alloc: Global,
     set: &RouteSet,
     context: Context,
-    message: Message,
-    fault: Fault,
-) -> Result<Now, NoMemory>
-    ensures means { IfOk result (λ n. (whole : Option AUri) (A : List AnAnswer) → now_mean set.now whole n A ≡ handle_in set.now context context fault message A) }
-    ensures falls { IfOk result (λ n. now_weight set.now n ≤ handling_in set.now context) }
+    fault: Boxed<Fault>,
+    message: &mut Message,
+) -> Result<Course, NoMemory>
+    ensures means { IfOk result (λ n. (whole : Option AUri) (A : List AnAnswer) → now_mean set.now whole (now_of n message.new) A ≡ handle_in set.now context context fault message.old A) }
+    ensures falls { IfOk result (λ n. now_weight set.now (now_of n message.new) ≤ handling_in set.now context) }
 {
-    let message = caught_message(alloc, message, &fault)?;
+    set_caught(alloc, message, fault.get())?;
     if context.has_handlers() {
-        Ok(by_clauses(set, context, message, fault))
+        Ok(by_clauses(alloc, set, context, fault))
     } else {
-        Ok(Now::Stops(End::Failed(fault), message))
+        Ok(Course::Stops(End::Failed(taken(alloc, fault))))
     }
 }
 
 /// By the clause of the fault, else by the dead letter endpoint.
 #[tactic(auto, using(crate::proofs::Faulting::by_nobody, crate::proofs::Falling::clauses_two))]
-fn by_clauses(set: &RouteSet, context: Context, message: Message, fault: Fault) -> Now
-    ensures means { (whole : Option AUri) (A : List AnAnswer) → now_mean set.now whole result A ≡ by_clause set.now (clause_for set.now fault) (in_handler context) fault message A }
-    ensures falls { now_weight set.now result ≤ clauses_weight set.now set.now.clauses }
+fn by_clauses(alloc: Global, set: &RouteSet, context: Context, fault: Boxed<Fault>) -> Course
+    ensures means { (whole : Option AUri) (m : AMessage) (A : List AnAnswer) → now_mean set.now whole (now_of result m) A ≡ by_clause set.now (clause_for set.now fault) (in_handler context) fault m A }
+    ensures falls { (m : AMessage) → now_weight set.now (now_of result m) ≤ clauses_weight set.now set.now.clauses }
 {
-    match decider(set, &fault) {
-        Some(clause) => Now::Handles {
+    match decider(set, fault.get()) {
+        Some(clause) => Course::Handles {
             handled: clause.handled,
             continued: clause.continued,
             fault,
             context: context.in_handler(),
             block: clause.block,
-            message,
         },
-        None => undecided(set, context, message, fault),
+        None => undecided(alloc, set, context, fault),
     }
 }
 
 /// By the dead letter endpoint, where there is one (Camel manual, *Dead Letter Channel*).
-fn undecided(set: &RouteSet, context: Context, message: Message, fault: Fault) -> Now
-    ensures means { (whole : Option AUri) (A : List AnAnswer) → now_mean set.now whole result A ≡ dead_letter set.now set.now.handler.dead (in_handler context) fault message A }
-    ensures falls { now_weight set.now result ≤ 2 }
+fn undecided(alloc: Global, set: &RouteSet, context: Context, fault: Boxed<Fault>) -> Course
+    ensures means { (whole : Option AUri) (m : AMessage) (A : List AnAnswer) → now_mean set.now whole (now_of result m) A ≡ dead_letter set.now set.now.handler.dead (in_handler context) fault m A }
+    ensures falls { (m : AMessage) → now_weight set.now (now_of result m) ≤ 2 }
 {
     match &set.handler.dead {
-        Some(_) => Now::Letters {
+        Some(_) => Course::Letters {
             context: context.in_handler(),
-            message,
         },
-        None => Now::Stops(End::Failed(fault), message),
+        None => Course::Stops(End::Failed(taken(alloc, fault))),
     }
 }

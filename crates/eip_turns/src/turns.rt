@@ -7,20 +7,23 @@ ghost use Rattle.eip_meaning.specs.declared.context.Context.{Context as AContext
 ghost use Rattle.eip_meaning.specs.Checks.{block_or_goes};
 ghost use Rattle.eip_meaning.specs.Contexts.{place_in};
 ghost use Rattle.eip_meaning.specs.Meaning.{steps_of as steps_in_block, finished};
-ghost use Rattle.eip_meaning.specs.Outcomes.{followed, Outcome as AnOutcome};
-ghost use Rattle.eip_progress.specs.declared.frame.Frame.{Frame as AFrame};
-ghost use Rattle.eip_progress.specs.Rest.{now_mean, frame_mean, behind_all, rest_of, rest_of_block, turn_mean, IsStarting};
+ghost use Rattle.eip_meaning.specs.Outcomes.{followed, Goes, Outcome as AnOutcome};
+ghost use Rattle.eip_parts.specs.Effects.{tried_of};
+ghost use Rattle.eip_progress.specs.Rest.{now_mean, frame_mean, behind_all, rest_of, rest_of_block};
+ghost use Rattle.eip_turns.specs.Courses.{now_of, state_of, IsLast};
 ghost use Rattle.eip_turns.specs.First.{behind_try};
-ghost use Rattle.eip_turns.specs.Kept.{HasKept, IsLater};
+ghost use Rattle.eip_turns.specs.Kept.{HasKept};
 ghost use Rattle.eip_turns.specs.Weights.{block_weight, weight_of_option};
-ghost use Rattle.eip_turns.specs.Falls.{now_weight, handling_in, tried_weight, frame_weight, stack_weight, TurnFalls};
+ghost use Rattle.eip_turns.specs.Falls.{now_weight, handling_in, tried_weight, frame_weight, stack_weight};
 
-use crate::attempts::{after_try, begin_dead, change_at, first_try};
+use crate::attempts::{after_try, begin_dead, first_try};
+use crate::course::Course;
 use eip_exchange::{End, Message};
 use eip_meaning::Context;
-use eip_progress::{Frame, Now, State, Task, Tried, Turn, Wait};
+use eip_progress::{Frame, Task};
 use eip_route::RouteSet;
-use eip_steps::{Change, steps_of};
+use eip_steps::faults::taken;
+use eip_steps::{Effect, steps_of};
 use eip_text::NoMemory;
 use std::alloc::Global;
 
@@ -29,89 +32,42 @@ pub fn run(
     alloc: Global,
     set: &RouteSet,
     stack: &mut Vec<Frame>,
-    mut now: Now,
-) -> Result<State, NoMemory>
-    ensures means { IfOk result (λ s. (commit : Bool) (item : List ℕ) (c : AContext) (whole : Option AUri) (A : List AnAnswer) → rest_of set.now commit item c whole stack.new.items s A
-        ≡ finished commit item (place_in c 0) (behind_all set.now stack.old.items (now_mean set.now whole now A))) }
-    ensures later { IfOk result (λ s. IsStarting s → ⊥) }
+    message: &mut Message,
+    mut course: Course,
+) -> Result<Course, NoMemory>
+    ensures means { IfOk result (λ x. (commit : Bool) (item : List ℕ) (c : AContext) (whole : Option AUri) (A : List AnAnswer) → rest_of set.now commit item c whole stack.new.items (state_of x message.new) A
+        ≡ finished commit item (place_in c 0) (behind_all set.now stack.old.items (now_mean set.now whole (now_of course message.old) A))) }
+    ensures last { IfOk result (λ x. IsLast x) }
 {
     loop {
-        match turn(alloc, set, stack, now)? {
-            Turn::Again(next) => now = next,
-            Turn::Done(state) => return Ok(state),
-        }
-    }
-}
-
-/// One turn between two requests.
-fn turn(alloc: Global, set: &RouteSet, stack: &mut Vec<Frame>, now: Now) -> Result<Turn, NoMemory>
-    ensures means { IfOk result (λ t. (commit : Bool) (item : List ℕ) (c : AContext) (whole : Option AUri) (A : List AnAnswer) → turn_mean set.now commit item c whole stack.new.items t A
-        ≡ finished commit item (place_in c 0) (behind_all set.now stack.old.items (now_mean set.now whole now A))) }
-    ensures falls { IfOk result (λ t. TurnFalls set.now stack.new.items t (stack_weight set.now stack.old.items + now_weight set.now now)) }
-    ensures later { IfOk result (λ t. IsLater t) }
-{
-    match now {
-        Now::Goes(message) => turn_goes(alloc, set, stack, message),
-        Now::Stops(end, message) => Ok(Turn::Done(State::Finishing(end, message))),
-        Now::Waits(wait) => Ok(Turn::Done(State::Runs(wait))),
-        Now::Enters {
-            context,
-            block,
-            message,
-        } => {
-            let now = resume_rest(alloc, set, stack, context, block, 0, message)?;
-            Ok(turn_behind(now))
-        }
-        Now::Handles {
-            handled,
-            continued,
-            fault,
-            context,
-            block,
-            message,
-        } => {
-            let frame = Frame::Clause {
+        match course {
+            Course::Goes => match stack.pop() {
+                Some(frame) => course = resume(alloc, set, stack, frame, message)?,
+                None => return Ok(Course::Stops(End::Completed)),
+            },
+            Course::Enters { context, block } => {
+                course = resume_rest(alloc, set, stack, context, block, 0, message)?;
+            }
+            Course::Handles {
                 handled,
                 continued,
                 fault,
-            };
-            turn_handles(stack, frame, context, block, message)
+                context,
+                block,
+            } => {
+                let frame = Frame::Clause {
+                    handled,
+                    continued,
+                    fault: taken(alloc, fault),
+                };
+                turn_handles(stack, frame, context, block)?;
+                course = Course::Goes;
+            }
+            Course::Letters { context } => {
+                course = turn_letters(alloc, set, stack, context, message)?;
+            }
+            last => return Ok(last),
         }
-        Now::Letters { context, message } => { turn_letters(alloc, set, stack, context, message) }
-    }
-}
-
-/// It goes on: behind the last frame, or to the end.
-fn turn_goes(
-    alloc: Global,
-    set: &RouteSet,
-    stack: &mut Vec<Frame>,
-    message: Message,
-) -> Result<Turn, NoMemory>
-    ensures means { IfOk result (λ t. (commit : Bool) (item : List ℕ) (c : AContext) (whole : Option AUri) (A : List AnAnswer) → turn_mean set.now commit item c whole stack.new.items t A
-        ≡ finished commit item (place_in c 0) (behind_all set.now stack.old.items (now_mean set.now whole (Now.Goes message) A))) }
-    ensures falls { IfOk result (λ t. TurnFalls set.now stack.new.items t (stack_weight set.now stack.old.items)) }
-    ensures later { IfOk result (λ t. IsLater t) }
-{
-    match stack.pop() {
-        Some(frame) => {
-            let now = resume(alloc, set, stack, frame, message)?;
-            Ok(turn_behind(now))
-        }
-        None => Ok(Turn::Done(State::Finishing(End::Completed, message))),
-    }
-}
-
-/// What is to be done next makes one more turn, where it doesn't wait.
-fn turn_behind(now: Now) -> Turn
-    ensures means { (set : ARouteSet) (commit : Bool) (item : List ℕ) (c : AContext) (whole : Option AUri) (fs : List AFrame) (A : List AnAnswer) → turn_mean set commit item c whole fs result A
-        ≡ finished commit item (place_in c 0) (behind_all set fs (now_mean set whole now A)) }
-    ensures falls { (set : ARouteSet) (fs : List AFrame) (w : ℕ) → stack_weight set fs + now_weight set now < w → TurnFalls set fs result w }
-    ensures later { IsLater result }
-{
-    match now {
-        Now::Waits(wait) => Turn::Done(State::Runs(wait)),
-        now => Turn::Again(now),
     }
 }
 
@@ -121,20 +77,18 @@ fn turn_handles(
     frame: Frame,
     context: Context,
     block: Option<u32>,
-    message: Message,
-) -> Result<Turn, NoMemory>
-    ensures means { IfOk result (λ t. (set : ARouteSet) (commit : Bool) (item : List ℕ) (c : AContext) (whole : Option AUri) (A : List AnAnswer) → turn_mean set commit item c whole stack.new.items t A
-        ≡ finished commit item (place_in c 0) (behind_all set stack.old.items (followed (block_or_goes (λ j n B. rest_of_block set context j 0 n B) block message A) (λ n B. frame_mean set frame n B)))) }
-    ensures falls { IfOk result (λ t. (set : ARouteSet) → TurnFalls set stack.new.items t (stack_weight set stack.old.items + frame_weight set frame + 1 + weight_of_option (block_weight set (handling_in set context)) block)) }
-    ensures later { IfOk result (λ t. IsLater t) }
+) -> Result<(), NoMemory>
+    ensures means { OnOk result ((set : ARouteSet) (m : AMessage) (A : List AnAnswer) → behind_all set stack.new.items (Goes m A)
+        ≡ behind_all set stack.old.items (followed (block_or_goes (λ j n B. rest_of_block set context j 0 n B) block m A) (λ n B. frame_mean set frame n B))) }
+    ensures falls { OnOk result ((set : ARouteSet) → stack_weight set stack.new.items < stack_weight set stack.old.items + frame_weight set frame + 1 + weight_of_option (block_weight set (handling_in set context)) block) }
 {
     stack.push(frame)?;
     match block {
         Some(block) => {
             push_block(stack, context, block)?;
-            Ok(Turn::Again(Now::Goes(message)))
+            Ok(())
         }
-        None => Ok(Turn::Again(Now::Goes(message))),
+        None => Ok(()),
     }
 }
 
@@ -144,16 +98,15 @@ fn turn_letters(
     set: &RouteSet,
     stack: &mut Vec<Frame>,
     context: Context,
-    message: Message,
-) -> Result<Turn, NoMemory>
-    ensures means { IfOk result (λ t. (commit : Bool) (item : List ℕ) (c : AContext) (whole : Option AUri) (A : List AnAnswer) → turn_mean set.now commit item c whole stack.new.items t A
-        ≡ finished commit item (place_in c 0) (behind_all set.now stack.old.items (now_mean set.now whole (Now.Letters context message) A))) }
-    ensures falls { IfOk result (λ t. TurnFalls set.now stack.new.items t (stack_weight set.now stack.old.items + 2 + handling_in set.now context)) }
-    ensures later { IfOk result (λ t. IsLater t) }
+    message: &mut Message,
+) -> Result<Course, NoMemory>
+    ensures means { IfOk result (λ n. (whole : Option AUri) (A : List AnAnswer) → behind_all set.now stack.new.items (now_mean set.now whole (now_of n message.new) A)
+        ≡ behind_all set.now stack.old.items (now_mean set.now whole (now_of (Course.Letters context) message.old) A)) }
+    ensures falls { IfOk result (λ n. stack_weight set.now stack.new.items + now_weight set.now (now_of n message.new) < stack_weight set.now stack.old.items + 2 + handling_in set.now context) }
 {
     stack.push(Frame::Letter)?;
-    let now = begin_dead(alloc, set, context, 1000, message)?;
-    Ok(Turn::Again(now))
+    let course = begin_dead(alloc, set, context, 1000, message)?;
+    Ok(course)
 }
 
 /// A block begins.
@@ -174,10 +127,10 @@ fn resume(
     set: &RouteSet,
     stack: &mut Vec<Frame>,
     frame: Frame,
-    message: Message,
-) -> Result<Now, NoMemory>
-    ensures means { IfOk result (λ n. (whole : Option AUri) (A : List AnAnswer) → behind_all set.now stack.new.items (now_mean set.now whole n A) ≡ behind_all set.now stack.old.items (frame_mean set.now frame message A)) }
-    ensures falls { IfOk result (λ n. stack_weight set.now stack.new.items + now_weight set.now n < stack_weight set.now stack.old.items + frame_weight set.now frame) }
+    message: &mut Message,
+) -> Result<Course, NoMemory>
+    ensures means { IfOk result (λ n. (whole : Option AUri) (A : List AnAnswer) → behind_all set.now stack.new.items (now_mean set.now whole (now_of n message.new) A) ≡ behind_all set.now stack.old.items (frame_mean set.now frame message.old A)) }
+    ensures falls { IfOk result (λ n. stack_weight set.now stack.new.items + now_weight set.now (now_of n message.new) < stack_weight set.now stack.old.items + frame_weight set.now frame) }
 {
     match frame {
         Frame::Rest {
@@ -191,14 +144,14 @@ fn resume(
             fault,
         } => {
             if handled {
-                Ok(Now::Stops(End::Handled, message))
+                Ok(Course::Stops(End::Handled))
             } else if continued {
-                Ok(Now::Goes(message))
+                Ok(Course::Goes)
             } else {
-                Ok(Now::Stops(End::Failed(fault), message))
+                Ok(Course::Stops(End::Failed(fault)))
             }
         }
-        Frame::Letter => Ok(Now::Stops(End::Handled, message)),
+        Frame::Letter => Ok(Course::Stops(End::Handled)),
     }
 }
 
@@ -210,41 +163,27 @@ fn resume_rest(
     context: Context,
     block: u32,
     index: usize,
-    message: Message,
-) -> Result<Now, NoMemory>
-    ensures means { IfOk result (λ n. (whole : Option AUri) (A : List AnAnswer) → behind_all set.now stack.new.items (now_mean set.now whole n A) ≡ behind_all set.now stack.old.items (frame_mean set.now (Frame.Rest context block index) message A)) }
-    ensures falls { IfOk result (λ n. stack_weight set.now stack.new.items + now_weight set.now n < stack_weight set.now stack.old.items + frame_weight set.now (Frame.Rest context block index)) }
+    message: &mut Message,
+) -> Result<Course, NoMemory>
+    ensures means { IfOk result (λ n. (whole : Option AUri) (A : List AnAnswer) → behind_all set.now stack.new.items (now_mean set.now whole (now_of n message.new) A) ≡ behind_all set.now stack.old.items (frame_mean set.now (Frame.Rest context block index) message.old A)) }
+    ensures falls { IfOk result (λ n. stack_weight set.now stack.new.items + now_weight set.now (now_of n message.new) < stack_weight set.now stack.old.items + frame_weight set.now (Frame.Rest context block index)) }
 {
     let mut index = index;
-    let mut message = message;
     while let Some(next) = next_index(set, block, index) {
-        match change_at(alloc, set, context, block, index, &mut message)? {
-            Change::Goes => index = next,
-            Change::Faults(fault) => {
-                let tried = Tried::Faults(fault, false, message);
-                let now = behind_step(alloc, set, stack, context, block, index, next, tried)?;
-                return Ok(now);
-            }
-            Change::Other => {
-                match first_try(alloc, set, context, block, index, message)? {
-                    Tried::Goes(gone) => {
-                        message = gone;
-                        index = next;
-                    }
-                    tried => {
-                        let now = behind_step(
-                            alloc, set, stack, context, block, index, next, tried,
-                        )?;
-                        return Ok(now);
-                    }
-                }
+        match first_try(alloc, set, context, block, index, message)? {
+            Effect::Goes => index = next,
+            effect => {
+                let course = behind_step(
+                    alloc, set, stack, context, block, index, next, effect, message,
+                )?;
+                return Ok(course);
             }
         }
     }
-    Ok(Now::Goes(message))
+    Ok(Course::Goes)
 }
 
-/// What follows what the first try of a step gives, and then the steps of its block from the next index on.
+/// What follows what the first try of a step has done, and then the steps of its block from the next index on.
 fn behind_step(
     alloc: Global,
     set: &RouteSet,
@@ -253,27 +192,25 @@ fn behind_step(
     block: u32,
     index: usize,
     next: usize,
-    tried: Tried,
-) -> Result<Now, NoMemory>
-    ensures means { IfOk result (λ n. (whole : Option AUri) (m : AMessage) (A : List AnAnswer) → HasKept None 1000 tried m
-        → behind_all set.now stack.new.items (now_mean set.now whole n A) ≡ behind_all set.now stack.old.items (behind_try set.now whole context block index next m tried A)) }
-    ensures falls { IfOk result (λ n. stack_weight set.now stack.new.items + now_weight set.now n ≤ stack_weight set.now stack.old.items + frame_weight set.now (Frame.Rest context block next) + tried_weight set.now context (Task.Step block index) tried) }
+    effect: Effect,
+    message: &mut Message,
+) -> Result<Course, NoMemory>
+    ensures means { IfOk result (λ n. (whole : Option AUri) (m : AMessage) (A : List AnAnswer) → HasKept None 1000 (tried_of effect message.old) m
+        → behind_all set.now stack.new.items (now_mean set.now whole (now_of n message.new) A) ≡ behind_all set.now stack.old.items (behind_try set.now whole context block index next m (tried_of effect message.old) A)) }
+    ensures falls { IfOk result (λ n. stack_weight set.now stack.new.items + now_weight set.now (now_of n message.new) ≤ stack_weight set.now stack.old.items + frame_weight set.now (Frame.Rest context block next) + tried_weight set.now context (Task.Step block index) (tried_of effect message.old)) }
 {
     push_rest(set, stack, context, block, next)?;
     let task = Task::Step { block, index };
-    match tried {
-        Tried::Asks(asking, message) => {
-            Ok(Now::Waits(Wait::Trying {
-                context,
-                task,
-                left: 1000,
-                message,
-                asking,
-            }))
-        }
-        tried => {
-            let now = after_try(alloc, set, context, task, 1000, None, tried)?;
-            Ok(now)
+    match effect {
+        Effect::Asks(asking) => Ok(Course::Asks {
+            context,
+            task,
+            left: 1000,
+            asking,
+        }),
+        effect => {
+            let course = after_try(alloc, set, context, task, 1000, None, effect, message)?;
+            Ok(course)
         }
     }
 }

@@ -1,17 +1,11 @@
-use Rattle.std.proofs.Common.{refl}
-use Rattle.eip_rows.proofs.There.{on-ok, lives_on}
+use Rattle.std.proofs.Common.{inl, inr}
 use Rattle.eip_rows.proofs.look.begin_on.Goals as goal
 
-pub begin-requires : goal.begin-requires
-begin-requires c = record { lives = lives_on _ c.requires }
+pub returns-in_ok-message-in-Copy-clause-ok : goal.returns-in_ok-message-in-Copy-clause-ok
+returns-in_ok-message-in-Copy-clause-ok c =
+    let begun = rw c.in_ok-message-in-Copy.ensures at c.begin_birth.ensures.ok in
+    elim c.in-Copy.is [ inl copy ↦ rw copy.1 begun | inr part ↦ rw part.2 begun ]
 
-pub returns-clause-ok : goal.returns-clause-ok
-returns-clause-ok c =
-    on-ok c.begin.result _ _
-    (λ begun. record {
-      cursor = begun.cursor;
-      request = begun.request;
-      live = rw (begun.placed, begun.asks) refl;
-      stepped = record { later = begun.later; rests = begun.means; at = _; asks = begun.fate };
-    })
-    c.begin.ensures.ok
+pub returns-in_ok-tell_cause-in-Group-clause-ok : goal.returns-in_ok-tell_cause-in-Group-clause-ok
+returns-in_ok-tell_cause-in-Group-clause-ok c =
+    rw c.in-Group.is (rw (c.in_ok-tell_cause-in-Group.ensures c.args.live.now.birth c.in_ok-message-in-Group.ensures) at c.begin_birth-in-Group.ensures.ok)

@@ -1,45 +1,27 @@
-use Rattle.std.proofs.Common.{◌≡◌, arith, refl, sym, false, ◌∙◌, ap, drop}
+use Rattle.std.proofs.Common.{arith, refl, ◌∙◌, ap, drop}
 use Rattle.std.specs.Prelude.{None, slice_get}
 use Rattle.eip_meaning.specs.Meaning.{steps_of}
-use Rattle.eip_progress.specs.declared.tried.Tried.TheVariants.{Faults}
+use Rattle.eip_parts.specs.Effects.{tried_of}
 use Rattle.eip_progress.specs.Rest.{behind_all}
-use Rattle.eip_turns.specs.First.{first_at}
 use Rattle.eip_turns.specs.Weights.{nested_block}
 use Rattle.eip_turns.specs.Falls.{handling_in}
 use Rattle.eip_turns.proofs.Falling.{steps_weight-pos, rest_falls}
-use Rattle.eip_turns.proofs.Firsts.{kept_as, weighs_as, changed_goes, changed_faults, changed_not, first_goes, first_leaves}
+use Rattle.eip_turns.proofs.Firsts.{kept_as, weighs_as, first_goes, first_leaves}
 use Rattle.eip_turns.proofs.Turning.{rest_none}
 use Rattle.eip_turns.proofs.turns.resume_rest.Goals as goal
 
 pub loop-next-init : goal.loop-next-init
 loop-next-init c = record { stack = refl; means = λ A. refl; falls = omega arith }
 
-pub loop-next-preserved-in-Goes : goal.loop-next-preserved-in-Goes
-loop-next-preserved-in-Goes c =
-    let e = changed_goes c.args.set.now c.args.context (slice_get (steps_of c.args.set.now c.args.block) c.loop-next.index) c.loop-next.message c.change_at.new.message c.in_ok-change_at.field-0 c.in_ok-change_at.ensures c.in-Goes.is in
-    record {
-      stack = c.loop-next.invariant.stack;
-      means = λ A.
-          rw c.in-Some.ensures.0
-          (first_goes c.args.set.now None c.args.context c.args.block c.loop-next.index c.loop-next.message A c.in-Some.ensures.1 c.change_at.new.message e)
-          ∙ c.loop-next.invariant.means A;
-      falls = rw c.in-Some.ensures.0 (omega (arith, c.loop-next.invariant.falls, rest_falls c.args.set.now c.args.context c.args.block c.loop-next.index c.in-Some.ensures.1));
-    }
-
 pub loop-next-preserved : goal.loop-next-preserved
-loop-next-preserved c =
-    let e = changed_not c.args.set.now c.args.context (slice_get (steps_of c.args.set.now c.args.block) c.loop-next.index) c.loop-next.message c.change_at.new.message c.in_ok-change_at.field-0 c.in_ok-change_at.ensures c.in_ok-tried-in-Other.tried c.in-Other.is c.in_ok-tried-in-Other.ensures in
-    record {
-      stack = c.loop-next.invariant.stack;
-      means = λ A.
-          rw c.in-Some.ensures.0
-          (first_goes c.args.set.now None c.args.context c.args.block c.loop-next.index c.loop-next.message A c.in-Some.ensures.1 c.in-Goes-2.gone (sym c.in-Goes-2.is ∙ e))
-          ∙ c.loop-next.invariant.means A;
-      falls = rw c.in-Some.ensures.0 (omega (arith, c.loop-next.invariant.falls, rest_falls c.args.set.now c.args.context c.args.block c.loop-next.index c.in-Some.ensures.1));
-    }
-
-pub loop-next-smaller-in-Goes : goal.loop-next-smaller-in-Goes
-loop-next-smaller-in-Goes c = rw c.in-Some.ensures.0 (omega (arith, rest_falls c.args.set.now c.args.context c.args.block c.loop-next.index c.in-Some.ensures.1))
+loop-next-preserved c = record {
+  stack = c.loop-next.invariant.stack;
+  means = λ A.
+      rw c.in-Some.ensures.0
+      (first_goes c.args.set.now None c.args.context c.args.block c.loop-next.index c.loop-next.message A c.in-Some.ensures.1 c.first_try.new.message (rw c.in-Goes.is at c.in_ok-effect.ensures))
+      ∙ c.loop-next.invariant.means A;
+  falls = rw c.in-Some.ensures.0 (omega (arith, c.loop-next.invariant.falls, rest_falls c.args.set.now c.args.context c.args.block c.loop-next.index c.in-Some.ensures.1));
+}
 
 pub loop-next-smaller : goal.loop-next-smaller
 loop-next-smaller c = rw c.in-Some.ensures.0 (omega (arith, rest_falls c.args.set.now c.args.context c.args.block c.loop-next.index c.in-Some.ensures.1))
@@ -59,29 +41,15 @@ returns-clause-falls c =
       steps_weight-pos (handling_in c.args.set.now c.args.context) (nested_block c.args.set.now (handling_in c.args.set.now c.args.context) c.args.block) (drop c.loop-next.index (steps_of c.args.set.now c.args.block)),
     ))
 
-pub returns-in-Faults-clause-means : goal.returns-in-Faults-clause-means
-returns-in-Faults-clause-means c = λ whole A.
-    let e = changed_faults c.args.set.now c.args.context (slice_get (steps_of c.args.set.now c.args.block) c.loop-next.index) c.loop-next.message c.change_at.new.message c.in_ok-change_at.field-0 c.in_ok-change_at.ensures c.in-Faults.fault c.in-Faults.is in
-    c.in_ok-now-in-Faults.ensures.means whole c.loop-next.message A (kept_as c.args.set.now c.args.context (slice_get (steps_of c.args.set.now c.args.block) c.loop-next.index) c.loop-next.message (Faults c.in-Faults.fault false c.change_at.new.message) e)
-    ∙ (first_leaves c.args.set.now whole c.args.context c.args.block c.loop-next.index c.loop-next.message A c.in-Some.ensures.1 c.args.stack.now.items c.loop-next.stack.items c.in-Some.next (Faults c.in-Faults.fault false c.change_at.new.message) c.loop-next.invariant.stack c.in-Some.ensures.0 e
-    ∙ ap (behind_all c.args.set.now c.args.stack.now.items) (c.loop-next.invariant.means A))
-
-pub returns-in-Faults-clause-falls : goal.returns-in-Faults-clause-falls
-returns-in-Faults-clause-falls c =
-    let e = changed_faults c.args.set.now c.args.context (slice_get (steps_of c.args.set.now c.args.block) c.loop-next.index) c.loop-next.message c.change_at.new.message c.in_ok-change_at.field-0 c.in_ok-change_at.ensures c.in-Faults.fault c.in-Faults.is in
-    let w = weighs_as c.args.set.now c.args.context c.args.block c.loop-next.index (slice_get (steps_of c.args.set.now c.args.block) c.loop-next.index) c.loop-next.message (Faults c.in-Faults.fault false c.change_at.new.message) e in
-    let p = rw (c.in-Some.ensures.0, c.loop-next.invariant.stack) at c.in_ok-now-in-Faults.ensures.falls in
-    omega (arith, p, w, c.loop-next.invariant.falls, rest_falls c.args.set.now c.args.context c.args.block c.loop-next.index c.in-Some.ensures.1)
-
 pub returns-in_default-2 : goal.returns-in_default-2
 returns-in_default-2 c =
-    let e : c.in_ok-tried-in-Other.tried ≡ first_at c.args.set.now c.args.context (slice_get (steps_of c.args.set.now c.args.block) c.loop-next.index) c.loop-next.message = changed_not c.args.set.now c.args.context (slice_get (steps_of c.args.set.now c.args.block) c.loop-next.index) c.loop-next.message c.change_at.new.message c.in_ok-change_at.field-0 c.in_ok-change_at.ensures c.in_ok-tried-in-Other.tried c.in-Other.is c.in_ok-tried-in-Other.ensures in
-    let w = weighs_as c.args.set.now c.args.context c.args.block c.loop-next.index (slice_get (steps_of c.args.set.now c.args.block) c.loop-next.index) c.loop-next.message c.in_ok-tried-in-Other.tried e in
-    let p = rw (c.in-Some.ensures.0, c.loop-next.invariant.stack) at c.in_ok-now-in_default-2.ensures.falls in
+    let t = tried_of c.in_ok-effect.effect c.first_try.new.message in
+    let w = weighs_as c.args.set.now c.args.context c.args.block c.loop-next.index (slice_get (steps_of c.args.set.now c.args.block) c.loop-next.index) c.loop-next.message t c.in_ok-effect.ensures in
+    let p = rw (c.in-Some.ensures.0, c.loop-next.invariant.stack) at c.in_ok-course-in_default-2.ensures.falls in
     record {
       means = λ whole A.
-          c.in_ok-now-in_default-2.ensures.means whole c.loop-next.message A (kept_as c.args.set.now c.args.context (slice_get (steps_of c.args.set.now c.args.block) c.loop-next.index) c.loop-next.message c.in_ok-tried-in-Other.tried e)
-          ∙ (first_leaves c.args.set.now whole c.args.context c.args.block c.loop-next.index c.loop-next.message A c.in-Some.ensures.1 c.args.stack.now.items c.loop-next.stack.items c.in-Some.next c.in_ok-tried-in-Other.tried c.loop-next.invariant.stack c.in-Some.ensures.0 e
+          c.in_ok-course-in_default-2.ensures.means whole c.loop-next.message A (kept_as c.args.set.now c.args.context (slice_get (steps_of c.args.set.now c.args.block) c.loop-next.index) c.loop-next.message t c.in_ok-effect.ensures)
+          ∙ (first_leaves c.args.set.now whole c.args.context c.args.block c.loop-next.index c.loop-next.message A c.in-Some.ensures.1 c.args.stack.now.items c.loop-next.stack.items c.in-Some.next t c.loop-next.invariant.stack c.in-Some.ensures.0 c.in_ok-effect.ensures
           ∙ ap (behind_all c.args.set.now c.args.stack.now.items) (c.loop-next.invariant.means A));
       falls = omega (arith, p, w, c.loop-next.invariant.falls, rest_falls c.args.set.now c.args.context c.args.block c.loop-next.index c.in-Some.ensures.1);
     }

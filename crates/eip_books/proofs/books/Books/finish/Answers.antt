@@ -1,4 +1,5 @@
 use Rattle.std.proofs.Common.{arith, ◌≡◌, ◌-◌, false, Some, sym, ap, subst, ◌∙◌}
+use Rattle.std.proofs.lemmas.Option.{same_Some}
 use Rattle.eip_exchange.specs.declared.end.Ending.{Ending}
 use Rattle.eip_exchange.specs.Ends.{ending_of}
 use Rattle.eip_tables.specs.Keys.{Settles, ending_asked}
@@ -43,17 +44,18 @@ leave-requires c =
     rw c.born-born.ensures (finish-leaves (tables_of c.self.inside) c.args.worker c.args.number c.self.invariant.stands (rw (← c.self.view_is) at c.requires.worker) k.0 c.get-row.result.now (rw (← c.self.view_is) at c.requires.ready) c.get-row.ensures
     c.requires.end.end c.requires.end.message k.1 (rw (← c.self.view_is) at c.requires.below))
 
-pub finish_asked-ended-requires-clause-above : goal.finish_asked-ended-requires-clause-above
-finish_asked-ended-requires-clause-above c = (row-within (tables_of c.self.inside) c.args.number Ready c.self.invariant.stands (rw (← c.self.view_is) at c.requires.ready)).0
+pub finish_asked-woken-requires-clause-above : goal.finish_asked-woken-requires-clause-above
+finish_asked-woken-requires-clause-above c = (row-within (tables_of c.self.inside) c.args.number Ready c.self.invariant.stands (rw (← c.self.view_is) at c.requires.ready)).0
 
-pub finish_asked-ended-requires-clause-within : goal.finish_asked-ended-requires-clause-within
-finish_asked-ended-requires-clause-within c = (row-within (tables_of c.self.inside) c.args.number Ready c.self.invariant.stands (rw (← c.self.view_is) at c.requires.ready)).1
+pub finish_asked-woken-requires-clause-within : goal.finish_asked-woken-requires-clause-within
+finish_asked-woken-requires-clause-within c = (row-within (tables_of c.self.inside) c.args.number Ready c.self.invariant.stands (rw (← c.self.view_is) at c.requires.ready)).1
 
-pub tell-woken-requires : goal.tell-woken-requires
-tell-woken-requires c =
+pub finish_asked-woken-requires-clause-may : goal.finish_asked-woken-requires-clause-may
+finish_asked-woken-requires-clause-may c = λ r is.
     let asks = rw (← c.self.view_is) at c.requires.end.asks in
     let k = known-state c.self.inside.rows.items (c.args.number - 1) c.get-row.result.now (request.Finish c.requires.end.end c.requires.end.message false) c.get-row.ensures asks in
-    rw (c.finish_asked-ended.ensures.ended c.get-row.result.now c.get-row.ensures, c.in_ok-told.ensures, c.born-born.ensures)
+    let same : r ≡ c.get-row.result.now = same_Some r c.get-row.result.now (sym is ∙ c.get-row.ensures) in
+    rw (same, c.in_ok-told.ensures)
     (finish-tells (tables_of c.self.inside) c.args.worker c.args.number c.self.invariant.stands (rw (← c.self.view_is) at c.requires.worker) k.0 c.get-row.result.now (rw (← c.self.view_is) at c.requires.ready) c.get-row.ensures
     c.requires.end.end c.requires.end.message k.1 (rw (← c.self.view_is) at c.requires.below))
 
@@ -61,11 +63,11 @@ pub wake-requires-clause-within : goal.wake-requires-clause-within
 wake-requires-clause-within c =
     let asks = rw (← c.self.view_is) at c.requires.end.asks in
     let k = known-state c.self.inside.rows.items (c.args.number - 1) c.get-row.result.now (request.Finish c.requires.end.end c.requires.end.message false) c.get-row.ensures asks in
-    let tells = rw (c.finish_asked-ended.ensures.ended c.get-row.result.now c.get-row.ensures, c.in_ok-told.ensures, c.born-born.ensures) at c.tell-woken.ensures.tells in
-    rw (c.finish_asked-ended.ensures.items c.get-row.result.now c.get-row.ensures)
-    (if-woken c.tell-woken.result c.self.inside.rows.items (c.args.number - 1) (finished_asked c.get-row.result.now)
+    let tells = rw c.in_ok-told.ensures at (c.finish_asked-woken.ensures.tells c.get-row.result.now c.get-row.ensures) in
+    rw (c.finish_asked-woken.ensures.items c.get-row.result.now c.get-row.ensures)
+    (if-woken c.finish_asked-woken.result c.self.inside.rows.items (c.args.number - 1) (finished_asked c.get-row.result.now)
     (finish-wakes (tables_of c.self.inside) c.args.worker c.args.number c.self.invariant.stands (rw (← c.self.view_is) at c.requires.worker) k.0 c.get-row.result.now (rw (← c.self.view_is) at c.requires.ready) c.get-row.ensures
-    c.requires.end.end c.requires.end.message k.1 c.leave.new.queues c.tell-woken.new.joins c.tell-woken.result (rw (← c.self.view_is) at c.requires.below) (rw c.born-born.ensures at c.leave.ensures.leaves) tells (rw c.born-born.ensures at c.tell-woken.ensures.woken)))
+    c.requires.end.end c.requires.end.message k.1 c.leave.new.queues c.finish_asked-woken.new.joins c.finish_asked-woken.result (rw (← c.self.view_is) at c.requires.below) (rw c.born-born.ensures at c.leave.ensures.leaves) tells (c.finish_asked-woken.ensures.woken c.get-row.result.now c.get-row.ensures)))
 
 pub wake-requires-clause-room : goal.wake-requires-clause-room
 wake-requires-clause-room c = omega (arith, c.in_ok-reserve.ensures.ok, c.remove.ensures.spare)
@@ -87,19 +89,19 @@ invariant_of-self-2 c =
     let k = known-state c.self.inside.rows.items (c.args.number - 1) c.get-row.result.now (request.Finish c.requires.end.end c.requires.end.message false) c.get-row.ensures asks in
     let q = known-request c.self.inside.rows.items (c.args.number - 1) c.get-row.result.now (request.Finish c.requires.end.end c.requires.end.message false) c.get-row.ensures asks in
     let ended : finished_asked c.get-row.result.now ≡ finished c.requires.end.end c.get-row.result.now = ap (λ o. finished_by (end_asked o) c.get-row.result.now) q in
-    let tells = rw (c.finish_asked-ended.ensures.ended c.get-row.result.now c.get-row.ensures, c.in_ok-told.ensures, c.born-born.ensures) at c.tell-woken.ensures.tells in
+    let tells = rw c.in_ok-told.ensures at (c.finish_asked-woken.ensures.tells c.get-row.result.now c.get-row.ensures) in
     let told : Some c.in-Some.ending ≡ Some (ending_of c.requires.end.end) = sym c.in-Some.is ∙ (c.ending_asked.ensures ∙ ap ending_asked q) in
     let ending : c.in-Some.ending ≡ ending_of c.requires.end.end = cc in
     let room = c.in_ok-make_room.ensures.journal in
     let more = c.in_ok-reserve.ensures.ok in
     record {
-      stands = rw (c.append_answer.ensures.past, c.append_answer.ensures.workers, c.append_answer.ensures.turns, c.make_room.ensures.past, c.make_room.ensures.workers, c.make_room.ensures.turns, c.make_room.ensures.items, c.wake.ensures.rows, c.finish_asked-ended.ensures.items c.get-row.result.now c.get-row.ensures, c.wake.ensures.numbers, c.remove.ensures.numbers, c.reserve.ensures.numbers, ended)
+      stands = rw (c.append_answer.ensures.past, c.append_answer.ensures.workers, c.append_answer.ensures.turns, c.make_room.ensures.past, c.make_room.ensures.workers, c.make_room.ensures.turns, c.make_room.ensures.items, c.wake.ensures.rows, c.finish_asked-woken.ensures.items c.get-row.result.now c.get-row.ensures, c.wake.ensures.numbers, c.remove.ensures.numbers, c.reserve.ensures.numbers, ended)
           (stands-finish (tables_of c.self.inside) c.args.worker c.args.number c.self.invariant.stands (rw (← c.self.view_is) at c.requires.worker) k.0 c.get-row.result.now (rw (← c.self.view_is) at c.requires.ready) c.get-row.ensures
-          c.requires.end.end c.requires.end.message k.1 c.leave.new.queues c.tell-woken.new.joins c.tell-woken.result (rw (← c.self.view_is) at c.requires.below) (rw c.born-born.ensures at c.leave.ensures.leaves) tells (rw c.born-born.ensures at c.tell-woken.ensures.woken) c.settle.new.self (subst (λ (v : Ending). Settles c.args.number v c.self.inside.keys c.settle.new.self) ending c.settle.ensures));
+          c.requires.end.end c.requires.end.message k.1 c.leave.new.queues c.finish_asked-woken.new.joins c.finish_asked-woken.result (rw (← c.self.view_is) at c.requires.below) (rw c.born-born.ensures at c.leave.ensures.leaves) tells (c.finish_asked-woken.ensures.woken c.get-row.result.now c.get-row.ensures) c.settle.new.self (subst (λ (v : Ending). Settles c.args.number v c.self.inside.keys c.settle.new.self) ending c.settle.ensures));
       few = c.self.invariant.few;
       room_small = c.self.invariant.room_small;
       room_journal = omega (arith, room, c.append_answer.ensures.spare);
-      room_rows = omega (arith, c.finish_asked-ended.ensures.spare, c.wake.ensures.spare, c.self.invariant.room_rows);
+      room_rows = omega (arith, c.finish_asked-woken.ensures.spare, c.wake.ensures.spare, c.self.invariant.room_rows);
       room_ready = omega (arith, more, c.remove.ensures.spare, c.wake.ensures.room);
     }
 
@@ -112,7 +114,7 @@ returns-clause-outside c =
     let q = known-request c.self.inside.rows.items (c.args.number - 1) c.get-row.result.now (request.Finish c.requires.end.end c.requires.end.message false) c.get-row.ensures asks in
     let ended : finished_asked c.get-row.result.now ≡ finished c.requires.end.end c.get-row.result.now = ap (λ o. finished_by (end_asked o) c.get-row.result.now) q in
     rw (← c.self.view_is, c.wake.ensures.rows)
-    (behind-outside c.tell-woken.result c.finish_asked-ended.new.self.items
-    ∙ rw (c.finish_asked-ended.ensures.items c.get-row.result.now c.get-row.ensures)
+    (behind-outside c.finish_asked-woken.result c.finish_asked-woken.new.self.items
+    ∙ rw (c.finish_asked-woken.ensures.items c.get-row.result.now c.get-row.ensures)
     (leave-at row_outside c.self.inside.rows.items c.args.number (finished_asked c.get-row.result.now) (row-within (tables_of c.self.inside) c.args.number Ready c.self.invariant.stands (rw (← c.self.view_is) at c.requires.ready)).0
     (ap row_outside ended ∙ finished-not-outside c.requires.end.end c.get-row.result.now)))
